@@ -1,3 +1,7 @@
 pub mod Digits
 pub mod Pairs
 pub mod Lines
+pub mod Exactly
+pub mod Answers
+pub mod Main
+pub mod Examples

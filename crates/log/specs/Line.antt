@@ -65,3 +65,13 @@ isLine s = eqb (length s) 34 && eqb (digitsAtFront s) 34
 -- "A log line is 34 digits 0-9 A-F: event (1 byte), four notes"; refusal 15, "not 34 digits"
 unfoldable pub lineOf : List ℕ → Told
 lineOf s = cond (isLine s) (line (byteAt s 0) (noteAt s 0) (noteAt s 1) (noteAt s 2) (noteAt s 3)) (refused 15 (badPlace s))
+
+-- "34 digits", byte by byte
+abbrev pub AllDigits : List ℕ → Type 0
+AllDigits s = (length s ≡ 34) × ((k : ℕ) → k < 34 → isDigit (getD s k 0) ≡ true)
+
+-- refusal 15's place, byte by byte: "the lower of the first non-digit and the shorter of length and 34"
+pub record PlaceOf15 (s : List ℕ) (p : ℕ) : Type 0 where
+  pub before : (k : ℕ) → k < p → isDigit (getD s k 0) ≡ true
+  pub within : p ≤ min (length s) 34
+  pub stops : p < min (length s) 34 → isDigit (getD s p 0) ≡ false

@@ -1,11 +1,12 @@
 -- `log::line::read_line` meets its contract: the pair and the notes say how many digits stand at the front. Assumes nothing.
 use mathlib.Core.Path.{_≡_, sym, ap, _∙_}
 use native.Mathlib.Omega.{arith}
+use mir.Syntax.{w32}
 use mir.Facts.{toZ-ofZ}
 use Rattle.log.specs.Line.{told, line, refused}
 use Rattle.log.proofs.Pairs.{pair-byte, pair-bad, note-word, note-bad}
 use Rattle.log.proofs.Lines.{line-of-digits, line-of-other}
-use borrow.Author.Needs.{needs}
+use borrow.Author.Needs.{needs, sfits-of}
 use Rattle.log.proofs.line.read_line.Statement.{statement}
 use Rattle.log.proofs.line.read_line.Tie as tie
 use Rattle.log.proofs.line.read_line.Reads as reads
@@ -137,10 +138,10 @@ returns-7 c =
     let p2 = note-word s 10 18 (omega arith) (sym (c .before .before .before .before .before .before .before .before .before .before .before .note-at2 .ensures) ∙ c .before .before .before .before .before .before .before .before .before .b .given .1) in
     let p3 = note-word s 18 26 (omega arith) (sym (c .before .before .before .before .before .before .before .note-at3 .ensures) ∙ c .before .before .before .before .before .c .given .1) in
     let p4 = note-word s 26 34 (omega arith) (sym (c .before .before .before .note-at4 .ensures) ∙ c .before .d .given .1) in
-    let a = toZ-ofZ (c .before .before .before .before .before .before .before .before .before .before .before .before .known-told2 .given .0) ∙ p1 .1 in
-    let b = toZ-ofZ (c .before .before .before .before .before .before .before .before .known-told3 .given .0) ∙ p2 .1 in
-    let d = toZ-ofZ (c .before .before .before .before .known-told4 .given .0) ∙ p3 .1 in
-    let e = toZ-ofZ (c .known-told5 .given .0) ∙ p4 .1 in
+    let a = toZ-ofZ {w = w32} (sfits-of (c .before .before .before .before .before .before .before .before .before .before .before .before .known-told2 .given .0 .1)) ∙ p1 .1 in
+    let b = toZ-ofZ {w = w32} (sfits-of (c .before .before .before .before .before .before .before .before .known-told3 .given .0 .1)) ∙ p2 .1 in
+    let d = toZ-ofZ {w = w32} (sfits-of (c .before .before .before .before .known-told4 .given .0 .1)) ∙ p3 .1 in
+    let e = toZ-ofZ {w = w32} (sfits-of (c .known-told5 .given .0 .1)) ∙ p4 .1 in
     cc (a, b, d, e, p0 .1) ∙ sym (line-of-digits s (omega arith) (omega arith))
 
 pub read-line-spec : {M : Type 1} → statement M
