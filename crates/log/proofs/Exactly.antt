@@ -11,19 +11,11 @@ use lib.IntN.{ℤ}
 use lib.ListN.{length, getD}
 use Rattle.log.specs.Digit.{isDigit}
 use Rattle.log.specs.Line.{digitsAtFront, badPlace, byteAt, noteAt, Told, line, refused, lineOf, AllDigits, PlaceOf15}
-use Rattle.log.proofs.Digits.{front-digit, front-next}
+use Rattle.log.proofs.Digits.{front-digit, front-next, front-least}
 use Rattle.log.proofs.Lines.{line-of-digits, line-of-other}
 
 clash : {A : Type 0} {x : Bool} → x ≡ true → x ≡ false → A
 clash p q = absurd (true≢false (sym p ∙ q))
-
-least : (s : List ℕ) (n : ℕ) (x : Bool) → leb n (digitsAtFront s) ≡ x → ((k : ℕ) → k < n → isDigit (getD s k 0) ≡ true) → n ≤ digitsAtFront s
-least s n true e h = leb-true _ _ e
-least s n false e h = clash (h (digitsAtFront s) (leb-false _ _ e)) (front-next s)
-
--- n digits at the front, from n bytes that are digits
-pub front-least : (s : List ℕ) (n : ℕ) → ((k : ℕ) → k < n → isDigit (getD s k 0) ≡ true) → n ≤ digitsAtFront s
-front-least s n h = least s n (leb n (digitsAtFront s)) refl h
 
 read : (s : List ℕ) → AllDigits s → lineOf s ≡ line (byteAt s 0) (noteAt s 0) (noteAt s 1) (noteAt s 2) (noteAt s 3)
 read s h = line-of-digits s (h .0) (front-least s 34 (h .1))
@@ -34,7 +26,8 @@ all-digits s n h = (n, λ k q. front-digit s k (omega arith))
 not-read : (s : List ℕ) → (AllDigits s → ⊥) → lineOf s ≡ refused 15 (badPlace s)
 not-read s h = line-of-other s (λ n f. h (all-digits s n f))
 
-tested : (s : List ℕ) (x y : Bool) → eqb (length s) 34 ≡ x → leb 34 (digitsAtFront s) ≡ y → AllDigits s ⊎ (AllDigits s → ⊥)
+tested : (s : List ℕ) (x y : Bool) → eqb (length s) 34 ≡ x → leb 34 (digitsAtFront s) ≡ y
+    → AllDigits s ⊎ (AllDigits s → ⊥)
 tested s true true p q = inl (all-digits s (eqb-true _ _ p) (leb-true _ _ q))
 tested s true false p q = inr (λ h. let f = front-least s 34 (h .1) in let g = leb-false 34 (digitsAtFront s) q in omega arith)
 tested s false y p q = inr (λ h. eqb-false _ _ p (h .0))
@@ -45,18 +38,20 @@ either s = tested s (eqb (length s) 34) (leb 34 (digitsAtFront s)) refl refl
 pub apart : {A : Type 0} {e n p : ℕ} {a b c d : ℤ} → line e a b c d ≡ refused n p → A
 apart q = absurd (let z : _≡_ {A = ℕ} 0 1 = cc in omega arith)
 
-pub parts : {e e′ : ℕ} {a b c d a′ b′ c′ d′ : ℤ} → line e a b c d ≡ line e′ a′ b′ c′ d′ → (e ≡ e′) × (a ≡ a′) × (b ≡ b′) × (c ≡ c′) × (d ≡ d′)
+parts : {e e′ : ℕ} {a b c d a′ b′ c′ d′ : ℤ} → line e a b c d ≡ line e′ a′ b′ c′ d′
+    → (e ≡ e′) × (a ≡ a′) × (b ≡ b′) × (c ≡ c′) × (d ≡ d′)
 parts q = (cc, cc, cc, cc, cc)
 
 pub line-exactly : (s : List ℕ) (e : ℕ) (a b c d : ℤ)
     → lineOf s ≡ line e a b c d
     ↔ AllDigits s × (e ≡ byteAt s 0) × (a ≡ noteAt s 0) × (b ≡ noteAt s 1) × (c ≡ noteAt s 2) × (d ≡ noteAt s 3)
-line-exactly s e a b c d =
-    (λ q. ⊎-elim
-    (λ y. let r = parts (sym q ∙ read s y) in (y, r .0, r .1, r .2, r .3, r .4))
-    (λ n. apart (sym q ∙ not-read s n))
-    (either s),
-    λ h. read s (h .0) ∙ cc)
+line-exactly s e a b c d = (
+  λ q. ⊎-elim
+      (λ y. let r = parts (sym q ∙ read s y) in (y, r .0, r .1, r .2, r .3, r .4))
+      (λ n. apart (sym q ∙ not-read s n))
+      (either s),
+  λ h. read s (h .0) ∙ cc,
+)
 
 place : (s : List ℕ) → PlaceOf15 s (badPlace s)
 unfolding badPlace
@@ -82,9 +77,10 @@ refusal h = (cc, cc)
 pub place-15 : (s : List ℕ) (n p : ℕ)
     → lineOf s ≡ refused n p
     ↔ (AllDigits s → ⊥) × (n ≡ 15) × PlaceOf15 s p
-place-15 s n p =
-    (λ q. ⊎-elim
-    (λ y. apart (sym (read s y) ∙ q))
-    (λ h. let r = refusal (sym q ∙ not-read s h) in (h, r .0, rw (r .1) (place s)))
-    (either s),
-    λ h. let e = place-unique s p (badPlace s) (h .2) (place s) in not-read s (h .0) ∙ cc)
+place-15 s n p = (
+  λ q. ⊎-elim
+      (λ y. apart (sym (read s y) ∙ q))
+      (λ h. let r = refusal (sym q ∙ not-read s h) in (h, r .0, rw (r .1) (place s)))
+      (either s),
+  λ h. let e = place-unique s p (badPlace s) (h .2) (place s) in not-read s (h .0) ∙ cc,
+)

@@ -7,25 +7,29 @@ use lib.ListN.{replicate}
 use Rattle.log.specs.Digit.{digitValue}
 use Rattle.log.specs.Line.{digitsAtFront, badPlace, line, refused, lineOf}
 
--- the bench log, line by line
+-- the bench log: 000000000A000000000000000000000000
 bench-1 : lineOf (replicate 9 48 ++ (65 ∷ []) ++ replicate 24 48) ≡ line 0 (pos 10) (pos 0) (pos 0) (pos 0)
 unfolding digitValue digitsAtFront badPlace lineOf
 bench-1 = refl
 
+-- the bench log: 0100000028000000000000000000000000
 bench-2 : lineOf ((48 ∷ 49 ∷ []) ++ replicate 6 48 ++ (50 ∷ 56 ∷ []) ++ replicate 24 48) ≡ line 1 (pos 40) (pos 0) (pos 0) (pos 0)
 unfolding digitValue digitsAtFront badPlace lineOf
 bench-2 = refl
 
+-- the bench log: 0000000032000000000000000000000000
 bench-3 : lineOf (replicate 8 48 ++ (51 ∷ 50 ∷ []) ++ replicate 24 48) ≡ line 0 (pos 50) (pos 0) (pos 0) (pos 0)
 unfolding digitValue digitsAtFront badPlace lineOf
 bench-3 = refl
 
+-- the bench log: 010000004B000000000000000000000000
 bench-4 : lineOf ((48 ∷ 49 ∷ []) ++ replicate 6 48 ++ (52 ∷ 66 ∷ []) ++ replicate 24 48) ≡ line 1 (pos 75) (pos 0) (pos 0) (pos 0)
 unfolding digitValue digitsAtFront badPlace lineOf
 bench-4 = refl
 
--- the least note, the greatest, -1 and 1
-extremes : lineOf ((70 ∷ 70 ∷ 56 ∷ []) ++ replicate 7 48 ++ (55 ∷ []) ++ replicate 15 70 ++ replicate 7 48 ++ (49 ∷ [])) ≡ line 255 (negsuc 2147483647) (pos 2147483647) (negsuc 0) (pos 1)
+-- FF800000007FFFFFFFFFFFFFFF00000001: the least note, the greatest, -1 and 1
+extremes : lineOf ((70 ∷ 70 ∷ 56 ∷ []) ++ replicate 7 48 ++ (55 ∷ []) ++ replicate 15 70 ++ replicate 7 48 ++ (49 ∷ []))
+    ≡ line 255 (negsuc 2147483647) (pos 2147483647) (negsuc 0) (pos 1)
 unfolding digitValue digitsAtFront badPlace lineOf
 extremes = refl
 

@@ -11,6 +11,6 @@ between lo hi b = leb lo b && leb b hi
 unfoldable pub digitValue : ℕ → ℕ
 digitValue b = cond (between 0x30 0x39 b) (b - 0x30) (cond (between 0x41 0x46 b) (b - 0x41 + 10) 16)
 
--- "non-digit" is what this is false of
+-- 15's "non-digit" is a byte of which this is false
 abbrev pub isDigit : ℕ → Bool
 isDigit b = ltb (digitValue b) 16

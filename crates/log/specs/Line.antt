@@ -15,7 +15,7 @@ use Rattle.log.specs.declared.line.Line.the-variants as lines
 use Rattle.log.specs.declared.line.Noted.{Noted}
 use Rattle.log.specs.declared.line.Noted.the-variants as noteds
 
--- "the first non-digit": its place, or the length where there is none; so many digits stand at the front
+-- how many digits stand at the front: the place of "the first non-digit", or the length
 unfoldable pub digitsAtFront : List ℕ → ℕ
 digitsAtFront [] = 0
 digitsAtFront (b ∷ bs) = cond (isDigit b) (suc (digitsAtFront bs)) 0
@@ -48,17 +48,17 @@ noteFrom s at = signedWord (byteFrom s at) (byteFrom s (at + 2)) (byteFrom s (at
 unfoldable pub noted : List ℕ → ℕ → Noted
 noted s at = cond (leb 8 (digitsAtFront (drop at s))) (noteds.Note (noteFrom s at)) noteds.Bad
 
--- what is said of a line: its event and its four notes, or a refusal with its number and place
+-- the answer to a line: its event and its four notes, or a refusal, "its number and place"
 pub data Told : Type 0 where
   line : (event : ℕ) (first second third fourth : ℤ) → Told
   refused : (number place : ℕ) → Told
 
--- the paper's number and values for each case of the code's answer
+-- document 01's number and values for each case of the code's answer: `Bad` is refusal 15
 unfoldable pub told : Line → Told
 told (lines.Event e n) = line e (n .0) (n .1) (n .2) (n .3)
 told (lines.Bad p) = refused 15 p
 
--- "A log line is 34 digits": no less, no more, and no other byte
+-- "34 digits": no less, no more, and no other byte
 abbrev pub isLine : List ℕ → Bool
 isLine s = eqb (length s) 34 && eqb (digitsAtFront s) 34
 

@@ -53,7 +53,7 @@ const DIGITS: [u8; 256] = [
     16,
     16,
     16,
-    0,
+    0, // 0
     1,
     2,
     3,
@@ -70,7 +70,7 @@ const DIGITS: [u8; 256] = [
     16,
     16,
     16,
-    10,
+    10, // A
     11,
     12,
     13,
@@ -102,7 +102,7 @@ const DIGITS: [u8; 256] = [
     16,
     16,
     16,
-    16,
+    16, // a, which is no digit
     16,
     16,
     16,
@@ -263,6 +263,7 @@ const DIGITS: [u8; 256] = [
     16,
 ];
 
+// The value of a digit, or 16.
 pub fn digit(b: u8) -> u8
     ensures { λ r. ⌜ r ≡ digitValue b ⌝ }
 {
@@ -275,6 +276,7 @@ pub enum Pair {
     Bad,
 }
 
+// The byte of two digits, the high one first.
 pub fn read_pair(high: u8, low: u8) -> Pair
     ensures { λ r. ⌜ r ≡ pairOf high low ⌝ }
 {

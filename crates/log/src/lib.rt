@@ -2,4 +2,6 @@
 pub mod digit;
 pub mod line;
 
-pub use line::{Line, Notes, read_line};
+pub use line::Line;
+pub use line::Notes;
+pub use line::read_line;

@@ -1,5 +1,7 @@
 // The line of 34 digits.
-use crate::digit::{Pair, digit, read_pair};
+use crate::digit::Pair;
+use crate::digit::digit;
+use crate::digit::read_pair;
 ghost use mathlib.Core.Path.{_≡_};
 ghost use Prim.Native.Nat.{_+_, _≤_};
 ghost use lib.ListN.{length};
@@ -8,12 +10,13 @@ ghost use Rattle.log.specs.Line.{pairFrom, noted, badPlace, told, lineOf
 // The four notes of a line. 'Note' is document 01's term for an event's annotation.
 pub struct Notes(pub i32, pub i32, pub i32, pub i32);
 
-// What a log line says, in document 01's term 'log line': an event with its notes, or the place of refusal 15.
+// What a log line holds ('log line' is document 01's term): an event with its notes, or the place of refusal 15.
 pub enum Line {
     Event(u8, Notes),
     Bad(u32),
 }
 
+// The pair of digits from a place on.
 fn pair_at(bytes: &[u8], at: usize) -> Pair
     requires { ⌜ at + 2 ≤ length (now bytes) ⌝ }
     ensures { λ r. ⌜ r ≡ pairFrom (now (bytes .entry)) at ⌝ }
@@ -27,6 +30,7 @@ enum Noted {
     Bad,
 }
 
+// The note from a place on.
 fn note_at(bytes: &[u8], at: usize) -> Noted
     requires { ⌜ at + 8 ≤ length (now bytes) ⌝ }
     ensures { λ r. ⌜ r ≡ noted (now (bytes .entry)) at ⌝ }
@@ -63,6 +67,7 @@ fn bad_place(bytes: &[u8]) -> u32
     34
 }
 
+// Reads one line, without its LF.
 pub fn read_line(bytes: &[u8]) -> Line
     ensures { λ r. ⌜ told r ≡ lineOf (now (bytes .entry)) ⌝ }
 {

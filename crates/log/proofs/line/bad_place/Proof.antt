@@ -1,22 +1,19 @@
 -- `log::line::bad_place` meets its contract. The invariant: each byte before `i` is a digit. The measure is what is left of 34.
 -- Assumes nothing.
 use mathlib.Core.Path.{_≡_}
-use Prim.Native.Nat.{_+_, _-_, _≤_}
+use Prim.Native.Nat.{_-_, _≤_}
 use borrow.Author.Needs.{needs}
 use borrow.Author.Tests.{lt-ltb, le-ltb}
-use lib.ListN.{length, getD, drop}
+use lib.ListN.{length, getD}
 use Rattle.log.specs.Digit.{digitValue}
 use Rattle.log.specs.Line.{digitsAtFront, badPlace}
-use Rattle.log.proofs.Digits.{front-more, front-stop, front-within}
+use Rattle.log.proofs.Digits.{reach, reach-digit, reach-other, front-within}
 use native.Mathlib.Omega.{arith}
 use Rattle.log.proofs.line.bad_place.Statement.{statement}
 use Rattle.log.proofs.line.bad_place.Tie as tie
-use Rattle.log.proofs.line.bad_place.Reads as reads
-use Rattle.log.proofs.line.bad_place.Lts as lts
-use Rattle.log.proofs.digit.digit.Reads as digit-reads
 
 abbrev Inv-loop : tie.InvT-loop
-Inv-loop bytes i₀ i = (i ≤ 34) × (i ≤ length bytes) × (digitsAtFront bytes ≡ i + digitsAtFront (drop i bytes))
+Inv-loop bytes i₀ i = (i ≤ 34) × (i ≤ length bytes) × (digitsAtFront bytes ≡ reach bytes i)
 
 abbrev μ-loop : tie.MeasureT-loop
 μ-loop bytes i₀ i = 34 - i
@@ -45,7 +42,7 @@ unfolding badPlace
 returns-2 c =
     let s = c .before .before .before .before .before .before .before .args .bytes .now in
     let i = c .before .before .before .before .before .loop .i in
-    omega (arith, front-stop s i (le-ltb (digitValue (getD s i 0)) 16 (omega arith)))
+    omega (arith, reach-other s i (le-ltb (digitValue (getD s i 0)) 16 (omega arith)))
 
 add-i : tie.Need-add-i Inv-loop μ-loop
 add-i c = search needs
@@ -57,7 +54,7 @@ loop-again : tie.Need-loop-again Inv-loop μ-loop
 loop-again c =
     let s = c .before .before .before .before .before .before .before .args .bytes .now in
     let i = c .before .before .before .before .before .loop .i in
-    omega (arith, front-more s i (lt-ltb (digitValue (getD s i 0)) 16 (omega arith)))
+    omega (arith, reach-digit s i (lt-ltb (digitValue (getD s i 0)) 16 (omega arith)))
 
 returns-3 : tie.Need-returns-3 Inv-loop μ-loop
 unfolding badPlace

@@ -1,17 +1,13 @@
--- `log::line::note_at` meets its contract: each pair says how many digits stand there. Assumes nothing.
+-- `log::line::note_at` meets its contract. Assumes nothing.
 use mathlib.Core.Path.{_≡_, sym, ap, _∙_}
 use Prim.Native.Nat.{_+_}
 use native.Mathlib.Omega.{arith}
 use mir.Facts.{toZ-ofZ}
 use Rattle.log.specs.declared.line.Noted.the-variants as noteds
-use Rattle.log.proofs.Pairs.{pair-byte, pair-bad, noted-eight, noted-few}
+use Rattle.log.proofs.Pairs.{noted-of-bytes, noted-of-bad}
 use borrow.Author.Needs.{needs, sfits-of}
 use Rattle.log.proofs.line.note_at.Statement.{statement}
 use Rattle.log.proofs.line.note_at.Tie as tie
-use Rattle.log.proofs.line.note_at.Reads as reads
-use Rattle.log.proofs.line.note_at.Lts as lts
-use Rattle.log.proofs.line.pair_at.Reads as pair-at-reads
-use Rattle.numbers.proofs.word.Reads as word-reads
 
 pair-at-requires : tie.Need-pair-at-requires
 pair-at-requires c κs = search needs
@@ -24,10 +20,10 @@ enum-told c = search needs
 
 returns : tie.Need-returns
 returns c =
-    let s = c .before .before .before .before .args .bytes .now in
-    let k = c .before .before .before .before .args .at in
-    let b0 = pair-bad s k (sym (c .before .before .pair-at .ensures) ∙ c .enum-told .given .1) in
-    sym (noted-few s k (omega arith))
+    let args = c .before .before .before .before .args in
+    sym
+    (noted-of-bad (args .bytes .now) (args .at) _ (omega arith) (omega arith)
+    (sym (c .before .before .pair-at .ensures) ∙ c .enum-told .given .1))
 
 add-pair-at : tie.Need-add-pair-at
 add-pair-at c = search needs
@@ -43,11 +39,10 @@ enum-told-2 c = search needs
 
 returns-2 : tie.Need-returns-2
 returns-2 c =
-    let s = c .before .before .before .before .before .before .before .before .args .bytes .now in
-    let k = c .before .before .before .before .before .before .before .before .args .at in
-    let p0 = pair-byte s k (k + 2) (omega arith) (sym (c .before .before .before .before .before .before .pair-at .ensures) ∙ c .before .before .before .before .a .given .1) in
-    let b1 = pair-bad s (k + 2) (sym (c .before .before .pair-at2 .ensures) ∙ c .enum-told2 .given .1) in
-    sym (noted-few s k (omega arith))
+    let args = c .before .before .before .before .before .before .before .before .args in
+    sym
+    (noted-of-bad (args .bytes .now) (args .at) _ (omega arith) (omega arith)
+    (sym (c .before .before .pair-at2 .ensures) ∙ c .enum-told2 .given .1))
 
 add-pair-at-2 : tie.Need-add-pair-at-2
 add-pair-at-2 c = search needs
@@ -63,12 +58,10 @@ enum-told-3 c = search needs
 
 returns-3 : tie.Need-returns-3
 returns-3 c =
-    let s = c .before .before .before .before .before .before .before .before .before .before .before .before .args .bytes .now in
-    let k = c .before .before .before .before .before .before .before .before .before .before .before .before .args .at in
-    let p0 = pair-byte s k (k + 2) (omega arith) (sym (c .before .before .before .before .before .before .before .before .before .before .pair-at .ensures) ∙ c .before .before .before .before .before .before .before .before .a .given .1) in
-    let p1 = pair-byte s (k + 2) (k + 4) (omega arith) (sym (c .before .before .before .before .before .before .pair-at2 .ensures) ∙ c .before .before .before .before .b .given .1) in
-    let b2 = pair-bad s (k + 4) (sym (c .before .before .pair-at3 .ensures) ∙ c .enum-told3 .given .1) in
-    sym (noted-few s k (omega arith))
+    let args = c .before .before .before .before .before .before .before .before .before .before .before .before .args in
+    sym
+    (noted-of-bad (args .bytes .now) (args .at) _ (omega arith) (omega arith)
+    (sym (c .before .before .pair-at3 .ensures) ∙ c .enum-told3 .given .1))
 
 add-pair-at-3 : tie.Need-add-pair-at-3
 add-pair-at-3 c = search needs
@@ -84,26 +77,28 @@ enum-told-4 c = search needs
 
 returns-4 : tie.Need-returns-4
 returns-4 c =
-    let s = c .before .before .before .before .before .before .before .before .before .before .before .before .before .before .before .before .args .bytes .now in
-    let k = c .before .before .before .before .before .before .before .before .before .before .before .before .before .before .before .before .args .at in
-    let p0 = pair-byte s k (k + 2) (omega arith) (sym (c .before .before .before .before .before .before .before .before .before .before .before .before .before .before .pair-at .ensures) ∙ c .before .before .before .before .before .before .before .before .before .before .before .before .a .given .1) in
-    let p1 = pair-byte s (k + 2) (k + 4) (omega arith) (sym (c .before .before .before .before .before .before .before .before .before .before .pair-at2 .ensures) ∙ c .before .before .before .before .before .before .before .before .b .given .1) in
-    let p2 = pair-byte s (k + 4) (k + 6) (omega arith) (sym (c .before .before .before .before .before .before .pair-at3 .ensures) ∙ c .before .before .before .before .c .given .1) in
-    let b3 = pair-bad s (k + 6) (sym (c .before .before .pair-at4 .ensures) ∙ c .enum-told4 .given .1) in
-    sym (noted-few s k (omega arith))
+    let args = c .before .before .before .before .before .before .before .before .before .before .before .before .before .before .before .before .args in
+    sym
+    (noted-of-bad (args .bytes .now) (args .at) _ (omega arith) (omega arith)
+    (sym (c .before .before .pair-at4 .ensures) ∙ c .enum-told4 .given .1))
 
 word-requires : tie.Need-word-requires
 word-requires c κs = search needs
 
 returns-5 : tie.Need-returns-5
 returns-5 c =
-    let s = c .before .before .before .before .before .before .before .before .before .before .before .before .before .before .before .before .before .before .args .bytes .now in
-    let k = c .before .before .before .before .before .before .before .before .before .before .before .before .before .before .before .before .before .before .args .at in
-    let p0 = pair-byte s k (k + 2) (omega arith) (sym (c .before .before .before .before .before .before .before .before .before .before .before .before .before .before .before .before .pair-at .ensures) ∙ c .before .before .before .before .before .before .before .before .before .before .before .before .before .before .a .given .1) in
-    let p1 = pair-byte s (k + 2) (k + 4) (omega arith) (sym (c .before .before .before .before .before .before .before .before .before .before .before .before .pair-at2 .ensures) ∙ c .before .before .before .before .before .before .before .before .before .before .b .given .1) in
-    let p2 = pair-byte s (k + 4) (k + 6) (omega arith) (sym (c .before .before .before .before .before .before .before .before .pair-at3 .ensures) ∙ c .before .before .before .before .before .before .c .given .1) in
-    let p3 = pair-byte s (k + 6) (k + 8) (omega arith) (sym (c .before .before .before .before .pair-at4 .ensures) ∙ c .before .before .d .given .1) in
-    ap noteds.Note (toZ-ofZ (sfits-of (c .word .ok)) ∙ c .word .ensures ∙ simp (p0 .1, p1 .1, p2 .1, p3 .1)) ∙ sym (noted-eight s k (omega arith))
+    let fourth = c .before .before in
+    let third = fourth .before .before .before .before in
+    let second = third .before .before .before .before in
+    let first = second .before .before .before .before in
+    let args = first .before .before .before .before .args in
+    ap noteds.Note (toZ-ofZ (sfits-of (c .word .ok)) ∙ c .word .ensures)
+    ∙ sym
+    (noted-of-bytes (args .bytes .now) (args .at)
+    (sym (first .before .before .pair-at .ensures) ∙ first .a .given .1)
+    (sym (second .before .before .pair-at2 .ensures) ∙ second .b .given .1)
+    (sym (third .before .before .pair-at3 .ensures) ∙ third .c .given .1)
+    (sym (fourth .before .before .pair-at4 .ensures) ∙ fourth .d .given .1))
 
 pub note-at-spec : {M : Type 1} → statement M
 note-at-spec =

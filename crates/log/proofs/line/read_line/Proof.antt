@@ -1,19 +1,13 @@
--- `log::line::read_line` meets its contract: the pair and the notes say how many digits stand at the front. Assumes nothing.
+-- `log::line::read_line` meets its contract. Assumes nothing.
 use mathlib.Core.Path.{_≡_, sym, ap, _∙_}
 use native.Mathlib.Omega.{arith}
 use mir.Syntax.{w32}
 use mir.Facts.{toZ-ofZ}
-use Rattle.log.specs.Line.{told, line, refused}
-use Rattle.log.proofs.Pairs.{pair-byte, pair-bad, note-word, note-bad}
-use Rattle.log.proofs.Lines.{line-of-digits, line-of-other}
+use Rattle.log.specs.Line.{told, refused}
+use Rattle.log.proofs.Lines.{line-of-other, line-of-notes, line-of-bad-pair, line-of-bad-note}
 use borrow.Author.Needs.{needs, sfits-of}
 use Rattle.log.proofs.line.read_line.Statement.{statement}
 use Rattle.log.proofs.line.read_line.Tie as tie
-use Rattle.log.proofs.line.read_line.Reads as reads
-use Rattle.log.proofs.line.read_line.Lts as lts
-use Rattle.log.proofs.line.bad_place.Reads as bad-place-reads
-use Rattle.log.proofs.line.note_at.Reads as note-at-reads
-use Rattle.log.proofs.line.pair_at.Reads as pair-at-reads
 
 bad-place-requires : tie.Need-bad-place-requires
 bad-place-requires c κs = search needs
@@ -21,8 +15,7 @@ bad-place-requires c κs = search needs
 returns : tie.Need-returns
 unfolding told
 returns c =
-    let s = c .before .before .before .args .bytes .now in
-    ap (refused 15) (c .bad-place .ensures) ∙ sym (line-of-other s (λ h k. omega arith))
+    ap (refused 15) (c .bad-place .ensures) ∙ sym (line-of-other (c .before .before .before .args .bytes .now) (λ h k. omega arith))
 
 pair-at-requires : tie.Need-pair-at-requires
 pair-at-requires c κs = search needs
@@ -39,9 +32,10 @@ bad-place-requires-2 c κs = search needs
 returns-2 : tie.Need-returns-2
 unfolding told
 returns-2 c =
-    let s = c .before .before .before .before .before .before .args .bytes .now in
-    let b0 = pair-bad s 0 (sym (c .before .before .before .pair-at .ensures) ∙ c .before .enum-told .given .1) in
-    ap (refused 15) (c .bad-place2 .ensures) ∙ sym (line-of-other s (λ h k. omega arith))
+    let args = c .before .before .before .before .before .before .args in
+    ap (refused 15) (c .bad-place2 .ensures)
+    ∙ sym
+    (line-of-bad-pair (args .bytes .now) (sym (c .before .before .before .pair-at .ensures) ∙ c .before .enum-told .given .1))
 
 note-at-requires : tie.Need-note-at-requires
 note-at-requires c κs = search needs
@@ -58,10 +52,11 @@ bad-place-requires-3 c κs = search needs
 returns-3 : tie.Need-returns-3
 unfolding told
 returns-3 c =
-    let s = c .before .before .before .before .before .before .before .before .before .before .args .bytes .now in
-    let p0 = pair-byte s 0 2 (omega arith) (sym (c .before .before .before .before .before .before .before .pair-at .ensures) ∙ c .before .before .before .before .before .event .given .1) in
-    let b1 = note-bad s 2 (sym (c .before .before .before .note-at .ensures) ∙ c .before .enum-told2 .given .1) in
-    ap (refused 15) (c .bad-place3 .ensures) ∙ sym (line-of-other s (λ h k. omega arith))
+    let args = c .before .before .before .before .before .before .before .before .before .before .args in
+    ap (refused 15) (c .bad-place3 .ensures)
+    ∙ sym
+    (line-of-bad-note (args .bytes .now) 2 (omega arith)
+    (sym (c .before .before .before .note-at .ensures) ∙ c .before .enum-told2 .given .1))
 
 note-at-requires-2 : tie.Need-note-at-requires-2
 note-at-requires-2 c κs = search needs
@@ -78,11 +73,11 @@ bad-place-requires-4 c κs = search needs
 returns-4 : tie.Need-returns-4
 unfolding told
 returns-4 c =
-    let s = c .before .before .before .before .before .before .before .before .before .before .before .before .before .before .args .bytes .now in
-    let p0 = pair-byte s 0 2 (omega arith) (sym (c .before .before .before .before .before .before .before .before .before .before .before .pair-at .ensures) ∙ c .before .before .before .before .before .before .before .before .before .event .given .1) in
-    let p1 = note-word s 2 10 (omega arith) (sym (c .before .before .before .before .before .before .before .note-at .ensures) ∙ c .before .before .before .before .before .a .given .1) in
-    let b2 = note-bad s 10 (sym (c .before .before .before .note-at2 .ensures) ∙ c .before .enum-told3 .given .1) in
-    ap (refused 15) (c .bad-place4 .ensures) ∙ sym (line-of-other s (λ h k. omega arith))
+    let args = c .before .before .before .before .before .before .before .before .before .before .before .before .before .before .args in
+    ap (refused 15) (c .bad-place4 .ensures)
+    ∙ sym
+    (line-of-bad-note (args .bytes .now) 10 (omega arith)
+    (sym (c .before .before .before .note-at2 .ensures) ∙ c .before .enum-told3 .given .1))
 
 note-at-requires-3 : tie.Need-note-at-requires-3
 note-at-requires-3 c κs = search needs
@@ -99,12 +94,11 @@ bad-place-requires-5 c κs = search needs
 returns-5 : tie.Need-returns-5
 unfolding told
 returns-5 c =
-    let s = c .before .before .before .before .before .before .before .before .before .before .before .before .before .before .before .before .before .before .args .bytes .now in
-    let p0 = pair-byte s 0 2 (omega arith) (sym (c .before .before .before .before .before .before .before .before .before .before .before .before .before .before .before .pair-at .ensures) ∙ c .before .before .before .before .before .before .before .before .before .before .before .before .before .event .given .1) in
-    let p1 = note-word s 2 10 (omega arith) (sym (c .before .before .before .before .before .before .before .before .before .before .before .note-at .ensures) ∙ c .before .before .before .before .before .before .before .before .before .a .given .1) in
-    let p2 = note-word s 10 18 (omega arith) (sym (c .before .before .before .before .before .before .before .note-at2 .ensures) ∙ c .before .before .before .before .before .b .given .1) in
-    let b3 = note-bad s 18 (sym (c .before .before .before .note-at3 .ensures) ∙ c .before .enum-told4 .given .1) in
-    ap (refused 15) (c .bad-place5 .ensures) ∙ sym (line-of-other s (λ h k. omega arith))
+    let args = c .before .before .before .before .before .before .before .before .before .before .before .before .before .before .before .before .before .before .args in
+    ap (refused 15) (c .bad-place5 .ensures)
+    ∙ sym
+    (line-of-bad-note (args .bytes .now) 18 (omega arith)
+    (sym (c .before .before .before .note-at3 .ensures) ∙ c .before .enum-told4 .given .1))
 
 note-at-requires-4 : tie.Need-note-at-requires-4
 note-at-requires-4 c κs = search needs
@@ -121,28 +115,33 @@ bad-place-requires-6 c κs = search needs
 returns-6 : tie.Need-returns-6
 unfolding told
 returns-6 c =
-    let s = c .before .before .before .before .before .before .before .before .before .before .before .before .before .before .before .before .before .before .before .before .before .before .args .bytes .now in
-    let p0 = pair-byte s 0 2 (omega arith) (sym (c .before .before .before .before .before .before .before .before .before .before .before .before .before .before .before .before .before .before .before .pair-at .ensures) ∙ c .before .before .before .before .before .before .before .before .before .before .before .before .before .before .before .before .before .event .given .1) in
-    let p1 = note-word s 2 10 (omega arith) (sym (c .before .before .before .before .before .before .before .before .before .before .before .before .before .before .before .note-at .ensures) ∙ c .before .before .before .before .before .before .before .before .before .before .before .before .before .a .given .1) in
-    let p2 = note-word s 10 18 (omega arith) (sym (c .before .before .before .before .before .before .before .before .before .before .before .note-at2 .ensures) ∙ c .before .before .before .before .before .before .before .before .before .b .given .1) in
-    let p3 = note-word s 18 26 (omega arith) (sym (c .before .before .before .before .before .before .before .note-at3 .ensures) ∙ c .before .before .before .before .before .c .given .1) in
-    let b4 = note-bad s 26 (sym (c .before .before .before .note-at4 .ensures) ∙ c .before .enum-told5 .given .1) in
-    ap (refused 15) (c .bad-place6 .ensures) ∙ sym (line-of-other s (λ h k. omega arith))
+    let args = c .before .before .before .before .before .before .before .before .before .before .before .before .before .before .before .before .before .before .before .before .before .before .args in
+    ap (refused 15) (c .bad-place6 .ensures)
+    ∙ sym
+    (line-of-bad-note (args .bytes .now) 26 (omega arith)
+    (sym (c .before .before .before .note-at4 .ensures) ∙ c .before .enum-told5 .given .1))
 
 returns-7 : tie.Need-returns-7
 unfolding told
 returns-7 c =
-    let s = c .before .before .before .before .before .before .before .before .before .before .before .before .before .before .before .before .before .before .before .before .before .before .args .bytes .now in
-    let p0 = pair-byte s 0 2 (omega arith) (sym (c .before .before .before .before .before .before .before .before .before .before .before .before .before .before .before .before .before .before .before .pair-at .ensures) ∙ c .before .before .before .before .before .before .before .before .before .before .before .before .before .before .before .before .before .event .given .1) in
-    let p1 = note-word s 2 10 (omega arith) (sym (c .before .before .before .before .before .before .before .before .before .before .before .before .before .before .before .note-at .ensures) ∙ c .before .before .before .before .before .before .before .before .before .before .before .before .before .a .given .1) in
-    let p2 = note-word s 10 18 (omega arith) (sym (c .before .before .before .before .before .before .before .before .before .before .before .note-at2 .ensures) ∙ c .before .before .before .before .before .before .before .before .before .b .given .1) in
-    let p3 = note-word s 18 26 (omega arith) (sym (c .before .before .before .before .before .before .before .note-at3 .ensures) ∙ c .before .before .before .before .before .c .given .1) in
-    let p4 = note-word s 26 34 (omega arith) (sym (c .before .before .before .note-at4 .ensures) ∙ c .before .d .given .1) in
-    let a = toZ-ofZ {w = w32} (sfits-of (c .before .before .before .before .before .before .before .before .before .before .before .before .known-told2 .given .0 .1)) ∙ p1 .1 in
-    let b = toZ-ofZ {w = w32} (sfits-of (c .before .before .before .before .before .before .before .before .known-told3 .given .0 .1)) ∙ p2 .1 in
-    let d = toZ-ofZ {w = w32} (sfits-of (c .before .before .before .before .known-told4 .given .0 .1)) ∙ p3 .1 in
-    let e = toZ-ofZ {w = w32} (sfits-of (c .known-told5 .given .0 .1)) ∙ p4 .1 in
-    cc (a, b, d, e, p0 .1) ∙ sym (line-of-digits s (omega arith) (omega arith))
+    let third = c .before .before .before .before in
+    let second = third .before .before .before .before in
+    let first = second .before .before .before .before in
+    let pair = first .before .before .before .before in
+    let args = pair .before .before .before .before .before .before .args in
+    cc (
+      toZ-ofZ {w = w32} {z = first .before .a .given .0 .0} (sfits-of (first .known-told2 .given .0 .1)),
+      toZ-ofZ {w = w32} {z = second .before .b .given .0 .0} (sfits-of (second .known-told3 .given .0 .1)),
+      toZ-ofZ {w = w32} {z = third .before .c .given .0 .0} (sfits-of (third .known-told4 .given .0 .1)),
+      toZ-ofZ {w = w32} {z = c .before .d .given .0 .0} (sfits-of (c .known-told5 .given .0 .1)),
+    )
+    ∙ sym
+    (line-of-notes (args .bytes .now) (omega arith)
+    (sym (pair .before .before .before .pair-at .ensures) ∙ pair .before .event .given .1)
+    (sym (first .before .before .before .note-at .ensures) ∙ first .before .a .given .1)
+    (sym (second .before .before .before .note-at2 .ensures) ∙ second .before .b .given .1)
+    (sym (third .before .before .before .note-at3 .ensures) ∙ third .before .c .given .1)
+    (sym (c .before .before .before .note-at4 .ensures) ∙ c .before .d .given .1))
 
 pub read-line-spec : {M : Type 1} → statement M
 read-line-spec =
