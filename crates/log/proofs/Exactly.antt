@@ -3,14 +3,13 @@ use mathlib.Core.Path.{_≡_, refl, sym, _∙_}
 use mathlib.Core.Logic.{_↔_, _⊎_, inl, inr, ⊎-elim}
 use mathlib.Core.Bool.{Bool, true, false, true≢false}
 use mathlib.Core.List.{List}
-use Prim.Native.Nat.{ℕ, _≤_, _<_, min}
+use Prim.Native.Nat.{ℕ, _≤_, _<_}
 use native.Mathlib.Omega.{arith}
 use borrow.Author.Tests.{leb-true, leb-false, eqb-true, eqb-false}
 use lib.Dec.{leb, eqb}
 use lib.IntN.{ℤ}
-use lib.ListN.{length, getD}
-use Rattle.log.specs.Digit.{isDigit}
-use Rattle.log.specs.Line.{digitsAtFront, badPlace, byteAt, noteAt, Told, line, refused, lineOf, AllDigits, PlaceOf15}
+use lib.ListN.{length}
+use Rattle.log.specs.Line.{digitsAtFront, badPlace, byteAt, noteAt, line, refused, lineOf, AllDigits, PlaceOf15}
 use Rattle.log.proofs.Digits.{front-digit, front-next, front-least}
 use Rattle.log.proofs.Lines.{line-of-digits, line-of-other}
 

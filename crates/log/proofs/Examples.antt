@@ -1,8 +1,7 @@
 -- Worked lines, computed. Bytes are given by value: 48 is the digit 0. Assumes nothing.
 use mathlib.Core.Path.{_≡_, refl}
-use mathlib.Core.List.{List, [], _∷_, _++_}
-use Prim.Native.Nat.{ℕ}
-use lib.IntN.{ℤ, pos, negsuc}
+use mathlib.Core.List.{[], _∷_, _++_}
+use lib.IntN.{pos, negsuc}
 use lib.ListN.{replicate}
 use Rattle.log.specs.Digit.{digitValue}
 use Rattle.log.specs.Line.{digitsAtFront, badPlace, line, refused, lineOf}
@@ -34,7 +33,7 @@ unfolding digitValue digitsAtFront badPlace lineOf
 extremes = refl
 
 -- no byte at all
-empty : lineOf ([]) ≡ refused 15 0
+empty : lineOf [] ≡ refused 15 0
 unfolding digitValue digitsAtFront badPlace lineOf
 empty = refl
 
