@@ -5,6 +5,7 @@ use lib.IntN.{pos, negsuc}
 use lib.ListN.{replicate}
 use Rattle.log.specs.Digit.{digitValue}
 use Rattle.log.specs.Line.{digitsAtFront, badPlace, line, refused, lineOf}
+use Rattle.log.specs.Walk.{linesOf}
 
 -- the bench log: 000000000A000000000000000000000000
 bench-1 : lineOf (replicate 9 48 ++ (65 ∷ []) ++ replicate 24 48) ≡ line 0 (pos 10) (pos 0) (pos 0) (pos 0)
@@ -61,3 +62,18 @@ carriage-return = refl
 bad-past-34 : lineOf (replicate 36 48 ++ (71 ∷ 48 ∷ 48 ∷ 48 ∷ [])) ≡ refused 15 34
 unfolding digitValue digitsAtFront badPlace lineOf
 bad-past-34 = refl
+
+-- an empty line is a line, and a last LF ends the last line
+lines-of : linesOf (65 ∷ 10 ∷ 10 ∷ 66 ∷ 67 ∷ 10 ∷ []) ≡ (65 ∷ []) ∷ [] ∷ (66 ∷ 67 ∷ []) ∷ []
+unfolding linesOf
+lines-of = refl
+
+-- the last line may lack its LF
+last-lacks : linesOf (65 ∷ 10 ∷ 66 ∷ []) ≡ (65 ∷ []) ∷ (66 ∷ []) ∷ []
+unfolding linesOf
+last-lacks = refl
+
+-- an empty log has no line
+no-line : linesOf [] ≡ []
+unfolding linesOf
+no-line = refl

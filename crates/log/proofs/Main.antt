@@ -4,10 +4,13 @@ use mathlib.Core.Logic.{_↔_}
 use mathlib.Core.List.{List}
 use Prim.Native.Nat.{ℕ}
 use lib.IntN.{ℤ}
+use lib.ListN.{length}
 use Rattle.log.specs.Line.{byteAt, noteAt, line, refused, told, lineOf, AllDigits, PlaceOf15}
+use Rattle.log.specs.Walk.{linesOf, walked}
 use Rattle.log.specs.declared.line.Line.{Line}
 use Rattle.log.proofs.Exactly as exactly
 use Rattle.log.proofs.Answers as answers
+use Rattle.log.proofs.Walking as walking
 
 -- A line is read exactly where 34 digits stand, and then as its event and its four notes.
 pub line-exactly : (s : List ℕ) (e : ℕ) (a b c d : ℤ)
@@ -28,3 +31,7 @@ place-unique = exactly.place-unique
 -- What is told of an answer fixes the answer, so that the contract of `read_line` allows one answer only.
 pub told-injective : (a b : Line) → told a ≡ told b → a ≡ b
 told-injective = answers.told-injective
+
+-- Walking a log yields exactly its lines, in order, none left out.
+pub walk-exactly : (log : List ℕ) → walked (length log) log 0 ≡ linesOf log
+walk-exactly = walking.walks-all
