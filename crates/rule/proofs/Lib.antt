@@ -1,0 +1,6 @@
+pub mod KindBytes
+pub mod Stack
+pub mod Prefix
+pub mod Magnitudes
+pub mod Link
+pub mod Whole

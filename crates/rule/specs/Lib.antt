@@ -1,0 +1,10 @@
+pub mod Limits
+pub mod Frames
+pub mod Tree
+pub mod References
+pub mod Order
+pub mod Sizes
+pub mod Stack
+pub mod Build
+pub mod Check
+pub mod Opening
