@@ -4,3 +4,5 @@ pub mod Prefix
 pub mod Magnitudes
 pub mod Link
 pub mod Whole
+pub mod Fold
+pub mod Parse
