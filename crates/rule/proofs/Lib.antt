@@ -6,5 +6,13 @@ pub mod Codes
 pub mod Decimals
 pub mod Lexing
 pub mod Runs
+pub mod KindBytes
+pub mod Stack
+pub mod Prefix
+pub mod Magnitudes
+pub mod Link
+pub mod Whole
+pub mod Fold
+pub mod Parse
 pub mod Examples
 pub mod Main

@@ -2,3 +2,13 @@ pub mod Class
 pub mod Token
 pub mod Name
 pub mod Number
+pub mod Limits
+pub mod Frames
+pub mod Tree
+pub mod References
+pub mod Order
+pub mod Sizes
+pub mod Stack
+pub mod Build
+pub mod Check
+pub mod Opening

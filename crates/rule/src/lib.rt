@@ -3,6 +3,15 @@ pub mod classes;
 pub mod names;
 pub mod numerals;
 pub mod tokens;
+mod frames; // frames.rt: a frame's fields
+mod order; // order.rt: refusal 10, and how many references there are
+mod sizes; // sizes.rt: refusal 8
+
+pub use frames::frame_at;
+use order::Ordered;
+pub use order::reference_count;
+ghost use mathlib.Core.Path.{_≡_};
+ghost use Rattle.rule.specs.Check.{wholeFrames, refused, checkedOf};
 
 // A refusal: document 01's number, and its place, 0 where none is named.
 pub struct Refusal {
@@ -15,4 +24,53 @@ pub struct Token {
     pub kind: u8,
     pub start: usize,
     pub end: usize,
+}
+
+// A frame's fields; value is the offset or the literal.
+pub struct Frame {
+    pub kind: u8,
+    pub event: u8,
+    pub note: u8,
+    pub factor: u8,
+    pub value: i32,
+}
+
+pub enum Checked {
+    Accepted,
+    Refused(Refusal),
+}
+
+fn whole_frames(n: usize) -> bool
+    ensures { λ r. ⌜ r ≡ wholeFrames n ⌝ }
+{
+    ((8 <= n) & (n <= 512)) & (n % 8 == 0)
+}
+
+fn refuse(number: u8, place: u32) -> Checked
+    ensures { λ r. ⌜ r ≡ refused number place ⌝ }
+{
+    Checked::Refused(Refusal { number, place })
+}
+
+// What opening checks of frames, whatever the bytes are: 9, 10, 7 and 8, in this order.
+pub fn check(frames: &[u8]) -> Checked
+    ensures { λ r. ⌜ r ≡ checkedOf (now (frames .entry)) ⌝ }
+{
+    if whole_frames(frames.len()) {
+        let found = order::order(frames);
+        match found {
+            Ordered::At(p) => refuse(10, p as u32),
+            Ordered::Fine(count) => {
+                if count == 0 {
+                    refuse(7, 0)
+                } else if sizes::sizes_fit(frames) {
+                    Checked::Accepted
+                } else {
+                    refuse(8, 0)
+                }
+            }
+        }
+    } else {
+        refuse(9, 0)
+    }
 }
