@@ -116,15 +116,18 @@ module _ (log : List ℕ) where
 pub walks-all : (log : List ℕ) → walked (length log) log 0 ≡ linesOf log
 walks-all log = walk-from log (length log) 0 (omega arith) (omega arith)
 
--- a line that was found: the next starts past it, and within the log
-pub next-within : (log : List ℕ) (at s e n : ℕ) → lineAt log at ≡ Line s e n → (at < n) × (n ≤ length log)
-next-within log at s e n f = go (ltb at (length log)) refl
+-- a line that was found lies within the log, and the next starts past its start
+pub line-within : (log : List ℕ) (at s e n : ℕ) → lineAt log at ≡ Line s e n → (s ≤ e) × (e ≤ length log) × (at < n) × (n ≤ length log)
+line-within log at s e n f = go (ltb at (length log)) refl
   where
-    go : (t : Bool) → ltb at (length log) ≡ t → (at < n) × (n ≤ length log)
+    go : (t : Bool) → ltb at (length log) ≡ t → (s ≤ e) × (e ≤ length log) × (at < n) × (n ≤ length log)
     go false q = absurd (let z : lineAt log at ≡ End = found-end log at (ltb-false at (length log) q) in let y : _≡_ {A = ℕ} 0 1 = cc in omega arith)
     go true q =
         let l = ltb-true at (length log) q in
         let r = next-rest log at l in
+        let w = endOf-within log at (omega arith) in
         let z : lineAt log at ≡ Line at (endOf log at) (nextOf log at) = found-line log at l in
+        let x : at ≡ s = cc in
+        let v : endOf log at ≡ e = cc in
         let y : nextOf log at ≡ n = cc in
-        (omega arith, omega arith)
+        (omega arith, omega arith, omega arith, omega arith)
