@@ -6,3 +6,13 @@ pub mod Link
 pub mod Whole
 pub mod Fold
 pub mod Parse
+pub mod Accept
+pub mod PlaceFrames
+pub mod PlaceBytes
+pub mod Count
+pub mod Size
+pub mod Opening
+pub mod Exactly
+pub mod Facts
+pub mod Main
+pub mod Examples
