@@ -164,3 +164,24 @@ bare-by b x p q (inr e) = bare-fields (kindOf b) x (λ h. p (e ∙ h)) (λ h. q 
 
 pub bare-kind : (b : ℕ) (x : Frame) → (b ≡ 1 → ⊥) → (b ≡ 3 → ⊥) → fieldsOf (kindOf b) x ≡ bareFields x
 bare-kind b x p q = bare-by b x p q (byte-kind b)
+
+-- ---- a kind's byte is a byte
+pub kind-octet : (k : Kind) → kindByte k < 256
+kind-octet (operand literal) = omega arith
+kind-octet (operand instance) = omega arith
+kind-octet (operand reference) = omega arith
+kind-octet (arithmetic add) = omega arith
+kind-octet (arithmetic subtract) = omega arith
+kind-octet (arithmetic multiply) = omega arith
+kind-octet absolute = omega arith
+kind-octet (relation equal) = omega arith
+kind-octet (relation unequal) = omega arith
+kind-octet (relation less) = omega arith
+kind-octet (relation atMost) = omega arith
+kind-octet (relation more) = omega arith
+kind-octet (relation atLeast) = omega arith
+kind-octet negation = omega arith
+kind-octet (connective and) = omega arith
+kind-octet (connective or) = omega arith
+kind-octet (connective implies) = omega arith
+kind-octet none = omega arith

@@ -14,5 +14,14 @@ pub mod Link
 pub mod Whole
 pub mod Fold
 pub mod Parse
+pub mod Accept
+pub mod PlaceFrames
+pub mod PlaceBytes
+pub mod Count
+pub mod Size
+pub mod Opening
+pub mod Exactly
+pub mod Facts
 pub mod Examples
+pub mod FrameExamples
 pub mod Main

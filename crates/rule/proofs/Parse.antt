@@ -285,7 +285,7 @@ is-bare o x e t =
     let v : x .value ≡ pos 0 = size-zero (x .value) (eqb→eq (natAbs (x .value)) 0 (and-r (unused x) (eqb (natAbs (x .value)) 0) t)) in
     frame-is (sym e) (sym (no-event x u)) (sym (no-note x u)) (sym (no-factor x u)) (sym v)
 
-literal-value : (x : Frame) → T (literalFields x) → x .value ≡ pos (natAbs (x .value))
+pub literal-value : (x : Frame) → T (literalFields x) → x .value ≡ pos (natAbs (x .value))
 literal-value x t = not-negative (x .value) (T-true (leZ (pos 0) (x .value)) (and-r (unused x) (leZ (pos 0) (x .value)) t))
 
 is-literal : (x : Frame) → x .kind ≡ kindByte (Kind.operand Source.literal) → T (literalFields x) → x ≡ frame (kindByte (Kind.operand Source.literal)) 0 0 0 (pos (natAbs (x .value)))

@@ -16,6 +16,15 @@ use Rattle.rule.specs.declared.Checked.the-variants.{Accepted, Refused}
 abbrev pub refused : ℕ → ℕ → Checked
 refused n p = Refused (record { number = n; place = p })
 
+-- the document's number of an answer, 0 for none, and its place
+abbrev pub numberOf : Checked → ℕ
+numberOf Accepted = 0
+numberOf (Refused r) = r .number
+
+abbrev pub placeOf : Checked → ℕ
+placeOf Accepted = 0
+placeOf (Refused r) = r .place
+
 -- 9: "the frames' length isn't 8 to 512 in steps of 8"
 abbrev pub wholeFrames : ℕ → Bool
 wholeFrames n = (leb frameBytes n && leb n (frameLimit * frameBytes)) && eqb (n % frameBytes) 0
