@@ -1,1 +1,14 @@
+pub mod Choices
+pub mod Ring
+pub mod Bases
+pub mod Simulation
+pub mod Fresh
+pub mod Lists
+pub mod Final
+pub mod Sums
+pub mod Agree
+pub mod Order
+pub mod Never
+pub mod Unchanged
 pub mod Marked
+pub mod Main

@@ -11,3 +11,4 @@ pub mod Report
 pub mod Pull
 pub mod Calls
 pub mod Machine
+pub mod Demand

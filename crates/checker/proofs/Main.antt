@@ -1,0 +1,83 @@
+-- The headline statements of this crate: the third demand of document 01. Each is proved where it is cited. Assumes nothing.
+use mathlib.Core.Path.{_≡_}
+use mathlib.Core.List.{List, map, List·Memᴰ}
+use mathlib.Core.Logic.{_≢_}
+use Prim.Native.Nat.{ℕ, _+_, _<_}
+use lib.IntN.{ℤ}
+use lib.ListN.{length, getD}
+use Rattle.rule.specs.Build.{treeOf}
+use Rattle.verdict.specs.Found.{foundIn}
+use Rattle.verdict.specs.Settled.{judgement}
+use Rattle.verdict.specs.Settled as settling
+use Rattle.verdict.specs.Later.{MoreLines}
+use Rattle.verdict.specs.declared.Truth.{Truth}
+use Rattle.verdict.specs.declared.Truth.the-variants.{Unknown}
+use Rattle.checker.specs.Answer.{opened, accepted, verdict, refused}
+use Rattle.checker.specs.Base.{firstInstance}
+use Rattle.checker.specs.State.{tallyIn, zeroState}
+use Rattle.checker.specs.Open.{openDef}
+use Rattle.checker.specs.Feed.{feedDef}
+use Rattle.checker.specs.Pull.{pullDef}
+use Rattle.checker.specs.Calls.{Call, Out, outs, end, checker}
+use Rattle.checker.specs.Machine.{atFirst, tallyOf, machineFor}
+use Rattle.checker.specs.Demand.{Unrefused, fresh, answerOf, verdicts, span, totalsOf, acceptedIn, Reordered}
+use Rattle.checker.specs.declared.State.{State}
+use Rattle.checker.proofs.Lists
+use Rattle.checker.proofs.Final
+use Rattle.checker.proofs.Sums
+use Rattle.checker.proofs.Never
+use Rattle.checker.proofs.Agree
+use Rattle.checker.proofs.Order
+use Rattle.checker.proofs.Unchanged
+
+-- ---- a list of calls, whatever its lines and report buffers, from an unrefused opening, whatever W
+module _ {frames : List ℕ} {w : ℕ} {win : List ℤ} (o : Unrefused frames w win) (cs : List Call) where
+  -- each answer with its number and place, and each report buffer after its pull, is the plain machine's
+  pub third-answers : outs checker cs (fresh frames w win) ≡ outs (machineFor frames w) cs atFirst
+  third-answers = Lists.answers o cs
+
+  -- the counts, p and totals in the state are the machine's
+  pub third-state : tallyIn (end checker cs (fresh frames w win) .state) ≡ tallyOf (end (machineFor frames w) cs atFirst)
+  third-state = Lists.state o cs
+
+  -- the verdicts handed out are those of settled instances, from the first on, by the definition over the machine's lists after
+  -- the last call
+  pub third-final : map settling.verdict (verdicts (outs checker cs (fresh frames w win)))
+      ≡ span firstInstance (length (verdicts (outs checker cs (fresh frames w win)))) (λ (i : ℕ). judgement i (foundIn (end (machineFor frames w) cs atFirst .lists) i) (treeOf frames))
+  third-final = Final.final o cs
+
+  -- p and the totals in the state count them
+  pub third-totals : (end checker cs (fresh frames w win) .state .next .0 ≡ firstInstance + length (verdicts (outs checker cs (fresh frames w win))))
+      × (end checker cs (fresh frames w win) .state .totals ≡ totalsOf (verdicts (outs checker cs (fresh frames w win))))
+  third-totals = Sums.sums o cs
+
+  -- 12 and 13 never come
+  pub never-12-13 : (x : Out) → List·Memᴰ x (outs checker cs (fresh frames w win)) → (place : ℕ) → (answerOf x ≢ refused 12 place) × (answerOf x ≢ refused 13 place)
+  never-12-13 = Never.never o cs
+
+-- ---- two lists for one rule, with any two windows
+module _ {frames : List ℕ} {w w′ : ℕ} {win win′ : List ℤ} (o : Unrefused frames w win) (o′ : Unrefused frames w′ win′) (cs cs′ : List Call) where
+  -- where one's accepted lines begin the other's, event by event, verdicts that both hand out are equal
+  pub third-agree : MoreLines (end (machineFor frames w) cs atFirst .lists) (end (machineFor frames w′) cs′ atFirst .lists) → (i : ℕ)
+      → i < length (verdicts (outs checker cs (fresh frames w win))) → i < length (verdicts (outs checker cs′ (fresh frames w′ win′)))
+      → getD (verdicts (outs checker cs (fresh frames w win))) i Unknown ≡ getD (verdicts (outs checker cs′ (fresh frames w′ win′))) i Unknown
+  third-agree = Agree.agree o o′ cs cs′
+
+  -- so it is after another order of lines between events and with later lines, whenever verdicts are pulled
+  pub third-order : Reordered (acceptedIn frames w cs atFirst) (acceptedIn frames w′ cs′ atFirst) → (i : ℕ)
+      → i < length (verdicts (outs checker cs (fresh frames w win))) → i < length (verdicts (outs checker cs′ (fresh frames w′ win′)))
+      → getD (verdicts (outs checker cs (fresh frames w win))) i Unknown ≡ getD (verdicts (outs checker cs′ (fresh frames w′ win′))) i Unknown
+  third-order = Order.order o o′ cs cs′
+
+-- ---- every call, whatever its arguments: what is refused, ignored or waiting leaves state and lent words as they were
+pub refused-unchanged-open : (frames : List ℕ) (w : ℕ) (win : List ℤ) → openDef frames w win .answer ≢ opened
+    → (openDef frames w win .state ≡ zeroState) × (openDef frames w win .words ≡ win)
+refused-unchanged-open = Unchanged.open-unchanged
+
+pub refused-unchanged-feed : (s : State) (win : List ℤ) (line : List ℕ) → feedDef s win line .answer ≢ accepted
+    → (feedDef s win line .state ≡ s) × (feedDef s win line .words ≡ win)
+refused-unchanged-feed = Unchanged.feed-unchanged
+
+pub refused-unchanged-pull : (s : State) (win : List ℤ) (buffer : List ℕ) → ((v : Truth) → pullDef s win buffer .answer ≢ verdict v)
+    → (pullDef s win buffer .state ≡ s) × (pullDef s win buffer .report ≡ buffer)
+refused-unchanged-pull = Unchanged.pull-unchanged
