@@ -1,11 +1,11 @@
 -- Examples of the definitions, computed: document 01's first rule, and M11. Assumes nothing.
 use mathlib.Core.Path.{_≡_, refl}
 use mathlib.Core.List.{List, [], _∷_, _++_}
-use Prim.Native.Nat.{ℕ, zero, suc, _+_, _^_}
+use Prim.Native.Nat.{ℕ, _+_, _^_}
 use lib.IntN.{ℤ, pos, negsuc}
-use lib.ListN.{take, drop}
-use Rattle.rule.specs.Frames.{Arithmetic, add, subtract, multiply, Relation, equal, less, atMost, more, Connective, or, kindOf}
-use Rattle.rule.specs.Tree.{Reference, Sum, literal, instance, reference, arithmetic, abs, Cond, relation, not, connective, postfix, bytesOf, magnitude}
+use lib.ListN.{take}
+use Rattle.rule.specs.Frames.{add, subtract, multiply, equal, less, atMost, more, kindOf}
+use Rattle.rule.specs.Tree.{Sum, literal, instance, reference, arithmetic, Cond, relation, postfix, bytesOf, magnitude}
 use Rattle.rule.specs.References.{referenceCount}
 use Rattle.rule.specs.Order.{orderOf}
 use Rattle.rule.specs.Sizes.{sizesFit}

@@ -1,5 +1,5 @@
 -- The list of a slice's frames, passes over it, and bytes and back. Assumes nothing.
-use mathlib.Core.Path.{_≡_, refl, sym, ap, _∙_, subst}
+use mathlib.Core.Path.{_≡_, refl, sym, ap, _∙_}
 use mathlib.Core.List.{List, [], _∷_, _++_}
 use Prim.Native.Nat.{ℕ, zero, suc, _+_, _-_, _*_, _/_, _%_, _^_, _≤_, _<_}
 use native.Mathlib.Nat.{le-refl}
@@ -7,9 +7,9 @@ use native.Mathlib.Omega.{arith}
 use lib.IntN.{ℤ, pos}
 use lib.ListN.{length, getD, take}
 use lib.Seq.{take-suc, take-length}
-use mir.Syntax.{w32}
-use mir.Val.{Fits, SFits, ofZ, toZ}
 use mir.Facts.{sfits-toZ}
+use mir.Syntax.{w32}
+use mir.Val.{SFits, ofZ, toZ}
 use mir.ValLaws.{toZ-ofZ, ofZ-toZ}
 use Rattle.numbers.specs.Word.{bigEndian, signedWord}
 use Rattle.rule.specs.Frames.{frame, frameAt, frameCount, Bytes, none, one}

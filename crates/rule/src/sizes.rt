@@ -1,7 +1,7 @@
 // Refusal 8: magnitudes over 2^62, in one pass over frames that are a rule.
 use crate::frames;
 ghost use mathlib.Core.Path.{_≡_};
-ghost use Prim.Native.Nat.{_+_, _-_, _*_, _≤_, _<_};
+ghost use Prim.Native.Nat.{_+_, _*_, _≤_, _<_};
 ghost use lib.IntN.{natAbs};
 ghost use lib.ListN.{length};
 ghost use Rattle.rule.specs.Frames.{kindOf};
@@ -9,8 +9,11 @@ ghost use Rattle.rule.specs.Order.{InOrder};
 ghost use Rattle.rule.specs.Sizes.{pushed, topped, sized, sizesFit};
 ghost use Rattle.rule.specs.Stack.{stackOf, loaded, capped, Ready, Bounded};
 
+// No magnitude exceeds 2^62; that of i is 2^20, of a reference 2^31.
 const LIMIT: u64 = 0x4000_0000_0000_0000;
+
 const INSTANCE: u64 = 0x10_0000;
+
 const REFERENCE: u64 = 0x8000_0000;
 
 // How many magnitudes the array holds, or that one is over the limit.
@@ -36,7 +39,11 @@ fn times(a: u64, b: u64) -> u64
 fn own(v: i32) -> u64
     ensures { λ r. ⌜ r ≡ natAbs v ⌝ }
 {
-    if v < 0 { (0 - v as i64) as u64 } else { v as u64 }
+    if v < 0 {
+        (0 - v as i64) as u64
+    } else {
+        v as u64
+    }
 }
 
 // A magnitude onto the k that are below it. Called by the steps below.
@@ -53,6 +60,7 @@ fn push(cells: &mut [u64; 64], k: usize, m: u64) -> Size
     }
 }
 
+// The two on top become one: their sum, their product. Called by size_step.
 fn sum_top(cells: &mut [u64; 64], k: usize) -> Size
     requires { ⌜ (length (now cells) ≡ 64) × ((k < 64) × ((2 ≤ k) × Bounded (stackOf 0 (now cells) k))) ⌝ }
     ensures kept { λ r. ⌜ length (now (cells .exit)) ≡ 64 ⌝ }
@@ -95,7 +103,7 @@ pub fn sizes_fit(bytes: &[u8]) -> bool
     requires { ⌜ InOrder (now bytes) × (length (now bytes) ≤ 512) ⌝ }
     ensures { λ r. ⌜ r ≡ sizesFit (now (bytes .entry)) ⌝ }
 {
-    let n = bytes.len() / 8;
+    let n = bytes.len() / frames::FRAME_BYTES;
     let mut cells = [0u64; 64];
     let mut k = 0;
     let mut i = 0;
