@@ -5,7 +5,7 @@ use mathlib.Core.List.{List}
 use Prim.Native.Nat.{ℕ, _≤_}
 use lib.ListN.{length}
 use Rattle.rule.specs.Frames.{Bytes}
-use Rattle.rule.specs.Tree.{IsRule}
+use Rattle.rule.specs.Tree.{IsRule, references}
 use Rattle.rule.specs.References.{referenceCount}
 use Rattle.rule.specs.Build.{treeOf}
 use Rattle.rule.specs.Check.{refused, checkedOf}
@@ -13,6 +13,7 @@ use Rattle.rule.specs.Opening.{Whole, Place, Opening, Proper}
 use Rattle.rule.specs.declared.Checked.{Checked}
 use Rattle.rule.specs.declared.Checked.the-variants.{Accepted}
 use Rattle.rule.proofs.Accept
+use Rattle.rule.proofs.Count
 use Rattle.rule.proofs.Opening
 use Rattle.rule.proofs.Exactly
 
@@ -36,6 +37,10 @@ place-10 = Exactly.place-iff
 -- at most 32 references in 64 frames
 pub few-references : {s : List ℕ} → Bytes s → checkedOf s ≡ Accepted → referenceCount s ≤ 32
 few-references = Exactly.few
+
+-- and the count is of the references that the tree names
+pub count-references : {s : List ℕ} (r : IsRule s) → referenceCount s ≡ length (references (r .tree))
+count-references = Count.count-of
 
 -- every answer, 9, 10, 7, 8 or accepted, in the words of trees
 pub opening-iff : {s : List ℕ} → Bytes s → (o : Checked) → (checkedOf s ≡ o) ↔ Opening s o

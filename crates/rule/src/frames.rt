@@ -5,26 +5,30 @@ ghost use Prim.Native.Nat.{_+_, _*_, _≤_};
 ghost use lib.Dec.{leb, eqb};
 ghost use lib.IntN.{natAbs};
 ghost use lib.ListN.{length};
-ghost use Rattle.rule.specs.Limits.{offsetLimit};
+ghost use Rattle.rule.specs.Limits.{frameBytes, offsetLimit};
 ghost use Rattle.rule.specs.Frames.{kindOf, frameAt, unused, literalFields, referenceFields, bareFields, fieldsOf};
 
 // A frame has 8 bytes.
 pub const FRAME_BYTES: usize = 8;
 
-// At most 8 events and 4 notes, numbered from 0.
+// At most 8 events, numbered from 0.
 const EVENTS: u8 = 8;
 
+// At most 4 notes, numbered from 0.
 const NOTES: u8 = 4;
-// The factor of i is 1 to 9, the offset −9,999 to 9,999.
+
+// The factor of i is 1 to 9.
 const FACTOR: u8 = 9;
 
+// The offset is −9,999 to 9,999.
 const OFFSET: i32 = 9999;
+
 // Literals are not negative.
 const LEAST_LITERAL: i32 = 0;
 
 // The k-th frame. Called where it lies within the slice: by the passes of order.rt and sizes.rt, and by crates above.
 pub fn frame_at(frames: &[u8], k: usize) -> Frame
-    requires { ⌜ k * 8 + 8 ≤ length (now frames) ⌝ }
+    requires { ⌜ k * frameBytes + frameBytes ≤ length (now frames) ⌝ }
     ensures { λ r. ⌜ r ≡ frameAt (now (frames .entry)) k ⌝ }
 {
     let at = k * FRAME_BYTES;

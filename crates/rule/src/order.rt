@@ -87,17 +87,17 @@ fn counted(kind: u8, m: usize) -> usize
     if kind == 0x03 { m + 1 } else { m }
 }
 
-// Whether the frames are a rule. One pass.
-pub fn order(bytes: &[u8]) -> Ordered
-    ensures { λ r. ⌜ r ≡ orderOf (now (bytes .entry)) ⌝ }
+// Whether the frames are a rule: after i of them, c conditions, k sums, and m references on the way.
+pub fn order(frames: &[u8]) -> Ordered
+    ensures { λ r. ⌜ r ≡ orderOf (now (frames .entry)) ⌝ }
 {
-    let n = bytes.len() / frames::FRAME_BYTES;
+    let n = frames.len() / frames::FRAME_BYTES;
     let mut i = 0;
     let mut c = 0;
     let mut k = 0;
     let mut m = 0;
     while i < n {
-        let x = frames::frame_at(bytes, i);
+        let x = frames::frame_at(frames, i);
         let next = frame_step(x, c, k);
         match next {
             Shape::Good(c2, k2) => {
@@ -119,14 +119,14 @@ pub fn order(bytes: &[u8]) -> Ordered
 }
 
 // How many references the frames have, whatever the bytes are.
-pub fn reference_count(bytes: &[u8]) -> usize
-    ensures { λ r. ⌜ r ≡ referenceCount (now (bytes .entry)) ⌝ }
+pub fn reference_count(frames: &[u8]) -> usize
+    ensures { λ r. ⌜ r ≡ referenceCount (now (frames .entry)) ⌝ }
 {
-    let n = bytes.len() / frames::FRAME_BYTES;
+    let n = frames.len() / frames::FRAME_BYTES;
     let mut m = 0;
     let mut i = 0;
     while i < n {
-        m = counted(bytes[i * frames::FRAME_BYTES], m);
+        m = counted(frames[i * frames::FRAME_BYTES], m);
         i += 1;
     }
     m

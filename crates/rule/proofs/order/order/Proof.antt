@@ -12,10 +12,10 @@ use Rattle.rule.proofs.order.order.Statement.{statement}
 use Rattle.rule.proofs.order.order.Tie as tie
 
 abbrev Inv-loop : tie.InvT-loop
-Inv-loop bytes n i₀ c₀ k₀ m₀ i c k m = (i ≤ n) × ((prefixAt bytes i ≡ viable c k) × (referencesTo oneMore bytes 0 i ≡ m))
+Inv-loop frames n i₀ c₀ k₀ m₀ i c k m = (i ≤ n) × ((prefixAt frames i ≡ viable c k) × (referencesTo oneMore frames 0 i ≡ m))
 
 abbrev μ-loop : tie.MeasureT-loop
-μ-loop bytes n i₀ c₀ k₀ m₀ i c k m = n - i
+μ-loop frames n i₀ c₀ k₀ m₀ i c k m = n - i
 
 loop-holds : tie.Need-loop-holds Inv-loop μ-loop
 loop-holds c = (search needs, (refl, refl))
@@ -26,7 +26,7 @@ frame-at-requires c κs = omega arith
 frame-step-requires : tie.Need-frame-step-requires Inv-loop μ-loop
 frame-step-requires c κs =
     let l = c .before .before .loop in
-    let h : l .c + l .k ≤ l .i = counts (c .before .before .before .before .args .bytes .now) (l .i) (l .c) (l .k) (l .inv .1 .0) in
+    let h : l .c + l .k ≤ l .i = counts (c .before .before .before .before .args .frames .now) (l .i) (l .c) (l .k) (l .inv .1 .0) in
     omega arith
 
 enum-known-next : tie.Need-enum-known-next Inv-loop μ-loop
@@ -39,7 +39,7 @@ returns : tie.Need-returns Inv-loop μ-loop
 unfolding orderOf
 returns c =
     let l = c .before .before .before .before .before .loop in
-    let s = c .before .before .before .before .before .before .before .args .bytes .now in
+    let s = c .before .before .before .before .before .before .before .args .frames .now in
     let x = c .before .before .before .frame-at in
     let g = c .before .before .frame-step in
     let bad : prefixAt s (l .i + 1) ≡ stuck (l .i) = prefix-next s (l .i) (l .c) (l .k) (l .inv .1 .0) (x .result) (x .ensures) (g .result) (g .ensures) ∙ ap (placed (l .i)) (c .enum-told .given .1) in
@@ -48,7 +48,7 @@ returns c =
 counted-requires : tie.Need-counted-requires Inv-loop μ-loop
 counted-requires c κs =
     let l = c .before .before .before .before .before .before .loop in
-    let h = count-le (c .before .before .before .before .before .before .before .before .args .bytes .now) (l .i) in
+    let h = count-le (c .before .before .before .before .before .before .before .before .args .frames .now) (l .i) in
     omega (arith, h, l .inv .1 .1)
 
 add-i : tie.Need-add-i Inv-loop μ-loop
@@ -60,7 +60,7 @@ loop-less c = omega arith
 loop-again : tie.Need-loop-again Inv-loop μ-loop
 loop-again c =
     let l = c .before .before .before .before .before .before .before .loop in
-    let s = c .before .before .before .before .before .before .before .before .before .args .bytes .now in
+    let s = c .before .before .before .before .before .before .before .before .before .args .frames .now in
     let x = c .before .before .before .before .before .frame-at in
     let g = c .before .before .before .before .frame-step in (
       omega arith,
@@ -74,7 +74,7 @@ returns-2 : tie.Need-returns-2 Inv-loop μ-loop
 unfolding orderOf referenceCount
 returns-2 c =
     let l = c .before .before .loop in
-    let s = c .before .before .before .before .args .bytes .now in
+    let s = c .before .before .before .before .args .frames .now in
     let e : l .i ≡ frameCount s = omega arith in
     let d : prefixAt s (frameCount s) ≡ viable (l .c) (l .k) = rw e at (l .inv .1 .0) in
     let m : referencesTo oneMore s 0 (frameCount s) ≡ l .m = rw e at (l .inv .1 .1) in
@@ -84,7 +84,7 @@ returns-3 : tie.Need-returns-3 Inv-loop μ-loop
 unfolding orderOf
 returns-3 c =
     let l = c .before .before .loop in
-    let s = c .before .before .before .before .args .bytes .now in
+    let s = c .before .before .before .before .args .frames .now in
     let e : l .i ≡ frameCount s = omega arith in
     let d : prefixAt s (frameCount s) ≡ viable (l .c) (l .k) = rw e at (l .inv .1 .0) in
     rw (d, c .if1 .left)

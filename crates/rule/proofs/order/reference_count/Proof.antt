@@ -10,10 +10,10 @@ use Rattle.rule.proofs.order.reference_count.Statement.{statement}
 use Rattle.rule.proofs.order.reference_count.Tie as tie
 
 abbrev Inv-loop : tie.InvT-loop
-Inv-loop bytes n m₀ i₀ m i = (i ≤ n) × (referencesTo oneMore bytes 0 i ≡ m)
+Inv-loop frames n m₀ i₀ m i = (i ≤ n) × (referencesTo oneMore frames 0 i ≡ m)
 
 abbrev μ-loop : tie.MeasureT-loop
-μ-loop bytes n m₀ i₀ m i = n - i
+μ-loop frames n m₀ i₀ m i = n - i
 
 loop-holds : tie.Need-loop-holds Inv-loop μ-loop
 loop-holds c = (search needs, refl)
@@ -27,7 +27,7 @@ shared-slice-read-counted c = omega arith
 counted-requires : tie.Need-counted-requires Inv-loop μ-loop
 counted-requires c κs =
     let l = c .before .before .loop in
-    let h = count-le (c .before .before .before .before .args .bytes .now) (l .i) in
+    let h = count-le (c .before .before .before .before .args .frames .now) (l .i) in
     omega (arith, h, l .inv .1)
 
 add-i : tie.Need-add-i Inv-loop μ-loop
@@ -39,13 +39,13 @@ loop-less c = omega arith
 loop-again : tie.Need-loop-again Inv-loop μ-loop
 loop-again c =
     let l = c .before .before .before .loop in
-    (omega arith, count-next (c .before .before .before .before .before .args .bytes .now) (l .i) (l .m) (l .inv .1) _ refl (c .counted .result) (c .counted .ensures))
+    (omega arith, count-next (c .before .before .before .before .before .args .frames .now) (l .i) (l .m) (l .inv .1) _ refl (c .counted .result) (c .counted .ensures))
 
 returns : tie.Need-returns Inv-loop μ-loop
 unfolding referenceCount
 returns c =
     let l = c .before .loop in
-    let s = c .before .before .before .args .bytes .now in
+    let s = c .before .before .before .args .frames .now in
     let e : l .i ≡ frameCount s = omega arith in
     sym (rw e at (l .inv .1))
 

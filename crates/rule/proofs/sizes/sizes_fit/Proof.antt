@@ -16,10 +16,10 @@ use Rattle.rule.proofs.sizes.sizes_fit.Statement.{statement}
 use Rattle.rule.proofs.sizes.sizes_fit.Tie as tie
 
 abbrev Inv-loop : tie.InvT-loop
-Inv-loop bytes n cells₀ k₀ i₀ cells k i = (i ≤ n) × ((length cells ≡ 64) × (sizeAt bytes i ≡ fits (stackOf 0 cells k)))
+Inv-loop frames n cells₀ k₀ i₀ cells k i = (i ≤ n) × ((length cells ≡ 64) × (sizeAt frames i ≡ fits (stackOf 0 cells k)))
 
 abbrev μ-loop : tie.MeasureT-loop
-μ-loop bytes n cells₀ k₀ i₀ cells k i = n - i
+μ-loop frames n cells₀ k₀ i₀ cells k i = n - i
 
 loop-holds : tie.Need-loop-holds Inv-loop μ-loop
 loop-holds c = (search needs, (refl, refl))
@@ -31,7 +31,7 @@ size-step-requires : tie.Need-size-step-requires Inv-loop μ-loop
 size-step-requires c κs =
     let l = c .before .before .before .before .loop in
     let x = c .before .before .frame-at in
-    let h = size-ready (c .before .before .before .before .before .before .args .bytes .now) (l .cells) (l .i) (l .k) (x .result) (omega arith) (c .before .before .before .before .before .before .pre .0) (x .ensures) (l .inv .1 .1) in
+    let h = size-ready (c .before .before .before .before .before .before .args .frames .now) (l .cells) (l .i) (l .k) (x .result) (omega arith) (c .before .before .before .before .before .before .pre .0) (x .ensures) (l .inv .1 .1) in
     (l .inv .1 .0, (omega (arith, h .0), h .1))
 
 enum-known-size : tie.Need-enum-known-size Inv-loop μ-loop
@@ -44,7 +44,7 @@ returns : tie.Need-returns Inv-loop μ-loop
 unfolding sizesFit
 returns c =
     let l = c .before .before .before .before .before .before .before .loop in
-    let s = c .before .before .before .before .before .before .before .before .before .args .bytes .now in
+    let s = c .before .before .before .before .before .before .before .before .before .args .frames .now in
     let x = c .before .before .before .before .before .frame-at in
     let g = c .before .before .size-step in
     let v : loaded (g .last .1 .1 .0) (g .result) ≡ sized (kindOf (x .result .kind)) (x .result .value) (stackOf 0 (l .cells) (l .k)) = g .ensures .1 ∙ ap (λ (z : ℤ). sized (kindOf (x .result .kind)) z (stackOf 0 (l .cells) (l .k))) (toZ-ofZ w32 (x .result .value) (sfits-of (c .before .before .before .struct-told .given .1 .1 .1 .1 .0 .1))) in
@@ -60,7 +60,7 @@ loop-less c = omega arith
 loop-again : tie.Need-loop-again Inv-loop μ-loop
 loop-again c =
     let l = c .before .before .before .before .before .before .before .before .loop in
-    let s = c .before .before .before .before .before .before .before .before .before .before .args .bytes .now in
+    let s = c .before .before .before .before .before .before .before .before .before .before .args .frames .now in
     let x = c .before .before .before .before .before .before .frame-at in
     let g = c .before .before .before .size-step in
     let v : loaded (g .last .1 .1 .0) (g .result) ≡ sized (kindOf (x .result .kind)) (x .result .value) (stackOf 0 (l .cells) (l .k)) = g .ensures .1 ∙ ap (λ (z : ℤ). sized (kindOf (x .result .kind)) z (stackOf 0 (l .cells) (l .k))) (toZ-ofZ w32 (x .result .value) (sfits-of (c .before .before .before .before .struct-told .given .1 .1 .1 .1 .0 .1))) in
@@ -70,7 +70,7 @@ returns-2 : tie.Need-returns-2 Inv-loop μ-loop
 unfolding sizesFit
 returns-2 c =
     let l = c .before .loop in
-    let s = c .before .before .before .args .bytes .now in
+    let s = c .before .before .before .args .frames .now in
     let e : l .i ≡ frameCount s = omega arith in
     sym (ap isFits (rw e at (l .inv .1 .1)))
 
