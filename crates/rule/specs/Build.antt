@@ -3,7 +3,7 @@
 use mathlib.Core.List.{List, [], _∷_}
 use Prim.Native.Nat.{ℕ, zero, suc}
 use lib.IntN.{natAbs}
-use Rattle.rule.specs.Frames.{Source, Arithmetic, Relation, Connective, Kind, kindOf, frameAt, frameCount}
+use Rattle.rule.specs.Frames.{Source, Relation, Kind, kindOf, frameAt, frameCount}
 use Rattle.rule.specs.Tree.{Sum, literal, instance, reference, arithmetic, abs, Cond, relation, not, connective}
 use Rattle.rule.specs.References.{referenceOf}
 use Rattle.rule.specs.declared.Frame.{Frame}

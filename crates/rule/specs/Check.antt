@@ -8,10 +8,10 @@ use lib.ListN.{length}
 use Rattle.rule.specs.Limits.{frameLimit, frameBytes}
 use Rattle.rule.specs.Order.{orderOf}
 use Rattle.rule.specs.Sizes.{sizesFit}
-use Rattle.rule.specs.declared.order.Ordered.{Ordered}
-use Rattle.rule.specs.declared.order.Ordered.the-variants.{Fine, At}
 use Rattle.rule.specs.declared.Checked.{Checked}
 use Rattle.rule.specs.declared.Checked.the-variants.{Accepted, Refused}
+use Rattle.rule.specs.declared.order.Ordered.{Ordered}
+use Rattle.rule.specs.declared.order.Ordered.the-variants.{Fine, At}
 
 abbrev pub refused : ℕ → ℕ → Checked
 refused n p = Refused (record { number = n; place = p })

@@ -81,8 +81,8 @@ bare k = frame (kindByte k) 0 0 0 (pos 0)
 -- the k-th frame: "0 kind, 1 event, 2 note, 3 factor, 4 to 7 offset or literal, signed, big-endian"
 abbrev pub frameAt : List ℕ → ℕ → Frame
 frameAt s k =
-    frame (getD s (k * 8) 0) (getD s (k * 8 + 1) 0) (getD s (k * 8 + 2) 0) (getD s (k * 8 + 3) 0)
-    (signedWord (getD s (k * 8 + 4) 0) (getD s (k * 8 + 5) 0) (getD s (k * 8 + 6) 0) (getD s (k * 8 + 7) 0))
+    frame (getD s (k * frameBytes) 0) (getD s (k * frameBytes + 1) 0) (getD s (k * frameBytes + 2) 0) (getD s (k * frameBytes + 3) 0)
+    (signedWord (getD s (k * frameBytes + 4) 0) (getD s (k * frameBytes + 5) 0) (getD s (k * frameBytes + 6) 0) (getD s (k * frameBytes + 7) 0))
 
 -- how many whole frames the bytes hold
 abbrev pub frameCount : List ℕ → ℕ
@@ -90,8 +90,8 @@ frameCount s = length s / frameBytes
 
 -- every element is a byte
 pub data Bytes : List ℕ → Type 0 where
-  none : Bytes []
-  one : {b : ℕ} {s : List ℕ} → b < 256 → Bytes s → Bytes (b ∷ s)
+  empty : Bytes []
+  byte : {b : ℕ} {s : List ℕ} → b < 256 → Bytes s → Bytes (b ∷ s)
 
 -- ---- the fields that a frame of a kind may have: "with the fields above, literals not negative"
 abbrev pub unused : Frame → Bool

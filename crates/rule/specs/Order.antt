@@ -9,10 +9,10 @@ use lib.Dec.{leb, eqb}
 use Rattle.rule.specs.Frames.{Kind, operand, arithmetic, absolute, relation, negation, connective, none, kindOf, frameAt, frameCount, fieldsOf}
 use Rattle.rule.specs.References.{referenceCount}
 use Rattle.rule.specs.declared.Frame.{Frame}
-use Rattle.rule.specs.declared.order.Shape.{Shape}
-use Rattle.rule.specs.declared.order.Shape.the-variants.{Good, Bad}
 use Rattle.rule.specs.declared.order.Ordered.{Ordered}
 use Rattle.rule.specs.declared.order.Ordered.the-variants.{Fine, At}
+use Rattle.rule.specs.declared.order.Shape.{Shape}
+use Rattle.rule.specs.declared.order.Shape.the-variants.{Good, Bad}
 
 -- the counts with a frame of a kind more: "each operand a sum or a condition as the grammar has it"
 abbrev pub stepBy : Kind → ℕ → ℕ → Shape
