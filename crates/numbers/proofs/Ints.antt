@@ -1,13 +1,13 @@
 -- Laws of the integers that the library lacks. Assumes nothing.
 use mathlib.Core.Path.{_≡_, refl, sym, _∙_}
-use mathlib.Core.Bool.{Bool, true, false, _&&_, cond}
-use Prim.Native.Nat.{ℕ, zero, suc, _+_, _-_, _*_, _^_, _≤_, _<_}
+use mathlib.Core.Bool.{true, false, _&&_}
+use Prim.Native.Nat.{ℕ, zero, suc, _-_, _^_, _≤_, _<_}
 use native.Mathlib.Nat.{le-refl}
 use native.Mathlib.Omega.{arith}
-use lib.Dec.{T, leb, ltb, eqb}
+use lib.Dec.{T, leb, eqb}
 use native.Mathlib.Decide.{decLt}
 use borrow.Author.Tests.{ne-eqb, le-leb, lt-leb, ltb-true}
-use lib.IntN.{ℤ, pos, negsuc, negℤ, natAbs, subℕ, _+ℤ_, _-ℤ_, _*ℤ_}
+use lib.IntN.{ℤ, pos, negsuc, negℤ, natAbs}
 use lib.Signed.{mag, ltZ, leZ, nonNeg}
 use mir.Syntax.{w32, w64}
 use mir.Val.{Fits, SFits, ofZ}
@@ -38,32 +38,6 @@ pub natAbs-neg : (a : ℤ) → natAbs (negℤ a) ≡ natAbs a
 natAbs-neg (pos zero) = refl
 natAbs-neg (pos (suc n)) = refl
 natAbs-neg (negsuc n) = refl
-
-pub natAbs-mul : (a b : ℤ) → natAbs (a *ℤ b) ≡ natAbs a * natAbs b
-natAbs-mul (pos a) (pos b) = refl
-natAbs-mul (pos a) (negsuc b) = natAbs-neg (pos (a * suc b))
-natAbs-mul (negsuc a) (pos b) = natAbs-neg (pos (suc a * b))
-natAbs-mul (negsuc a) (negsuc b) = refl
-
-natAbs-cond : (t : Bool) (x y m : ℕ) → suc x ≤ m → y ≤ m → natAbs (cond t (negsuc x) (pos y)) ≤ m
-natAbs-cond true x y m h k = h
-natAbs-cond false x y m h k = k
-
-natAbs-less : (a b : ℕ) → natAbs (subℕ a (suc b)) ≤ a + suc b
-natAbs-less a b = natAbs-cond (ltb a (suc b)) (suc b - suc a) (a - suc b) (a + suc b) (omega arith) (omega arith)
-
-pub natAbs-add : (a b : ℤ) → natAbs (a +ℤ b) ≤ natAbs a + natAbs b
-natAbs-add (pos a) (pos b) = le-refl (a + b)
-natAbs-add (pos a) (negsuc b) = natAbs-less a b
-natAbs-add (negsuc a) (pos b) = let h : natAbs (subℕ b (suc a)) ≤ b + suc a = natAbs-less b a in omega arith
-natAbs-add (negsuc a) (negsuc b) = omega arith
-
-pub natAbs-sub : (a b : ℤ) → natAbs (a -ℤ b) ≤ natAbs a + natAbs b
-natAbs-sub a b = omega (arith, natAbs-add a (negℤ b), natAbs-neg b)
-
--- within 2^62 it fits 64 bits
-pub small-fits : (z : ℤ) → natAbs z ≤ 2 ^ 62 → SFits w64 z
-small-fits z h = record { sfits = omega (arith, mag-natAbs z) }
 
 pub abs-neg : (z : ℤ) → ltZ z (pos 0) ≡ true → negℤ z ≡ pos (natAbs z)
 abs-neg (pos n) e = absurd (let h : n < 0 = ltb-true n 0 e in omega arith)

@@ -3,15 +3,14 @@ use mathlib.Core.Path.{_≡_, refl, sym, ap, _∙_}
 use mathlib.Core.Bool.{Bool, true, false, cond}
 use mathlib.Core.List.{List, [], _∷_}
 use Prim.Native.Nat.{ℕ, zero, suc, _+_, _-_, _≤_}
-use native.Mathlib.Nat.{add-suc, add-zero, mul-le-mul}
+use native.Mathlib.Nat.{add-suc, add-zero}
 use native.Mathlib.Numerals.{add-one}
 use native.Mathlib.Omega.{arith}
 use lib.Dec.{T, leb}
-use lib.IntN.{ℤ, natAbs, _+ℤ_, _-ℤ_, _*ℤ_}
+use lib.IntN.{ℤ}
 use borrow.Author.Tests.{leb-true}
-use Rattle.numbers.proofs.Ints.{natAbs-add, natAbs-sub, natAbs-mul}
 use Rattle.rule.specs.Limits.{magnitudeLimit}
-use Rattle.rule.specs.Frames.{add, subtract, multiply, Kind, operand, arithmetic, absolute, relation, negation, connective, none, kindOf, frameAt, frameCount}
+use Rattle.rule.specs.Frames.{Kind, operand, arithmetic, absolute, relation, negation, connective, none, kindOf, frameAt, frameCount}
 use Rattle.rule.specs.Tree.{grown}
 use Rattle.rule.specs.Sizes.{Sizes, fits, over, pushed, topped, operandSize, sized, sizeNext, sizeAt, isFits, sizesFit}
 use Rattle.rule.specs.Stack.{stackOf, loaded, capped, Bounded}
@@ -91,14 +90,3 @@ pub size-again : (s cells cells′ : List ℕ) (i k : ℕ) (x : Frame) (r : Size
     → loaded cells′ r ≡ sized (kindOf (x .kind)) (x .value) (stackOf 0 cells k) → sizeAt s (i + 1) ≡ loaded cells′ r
 size-again s cells cells′ i k x r e w h =
     rw add-one (ap (sizeNext (frameAt s i)) e ∙ ap (λ (y : Frame). sized (kindOf (y .kind)) (y .value) (stackOf 0 cells k)) (sym w) ∙ sym h)
-
--- ---- so arithmetic is exact: what is within two magnitudes has its sum, difference and product within the grown one
-module _ (a b : ℤ) (m n : ℕ) (h : natAbs a ≤ m) (k : natAbs b ≤ n) where
-  pub grown-add : natAbs (a +ℤ b) ≤ grown add m n
-  grown-add = omega (arith, natAbs-add a b)
-
-  pub grown-subtract : natAbs (a -ℤ b) ≤ grown subtract m n
-  grown-subtract = omega (arith, natAbs-sub a b)
-
-  pub grown-multiply : natAbs (a *ℤ b) ≤ grown multiply m n
-  grown-multiply = rw (natAbs-mul a b) (mul-le-mul h k)
