@@ -1,85 +1,60 @@
--- Examples of the definitions, computed: document 01's first rule, and M11. Assumes nothing.
+-- Worked tokens, names and numbers, computed from the definitions. Assumes nothing.
 use mathlib.Core.Path.{_≡_, refl}
-use mathlib.Core.List.{List, [], _∷_, _++_}
-use Prim.Native.Nat.{ℕ, _+_, _^_}
-use lib.IntN.{ℤ, pos, negsuc}
-use lib.ListN.{take}
-use Rattle.rule.specs.Frames.{add, subtract, multiply, equal, less, atMost, more, kindOf}
-use Rattle.rule.specs.Tree.{Sum, literal, instance, reference, arithmetic, Cond, relation, postfix, bytesOf, magnitude}
-use Rattle.rule.specs.References.{referenceCount}
-use Rattle.rule.specs.Order.{orderOf}
-use Rattle.rule.specs.Sizes.{sizesFit}
-use Rattle.rule.specs.Build.{treeOf}
-use Rattle.rule.specs.Check.{refused, checkedOf}
-use Rattle.rule.specs.declared.Checked.the-variants.{Accepted}
+use mathlib.Core.List.{[], _∷_}
+use Rattle.rule.specs.Class.{classOf, span}
+use Rattle.rule.specs.Token.{same, wordKind, markOf, markWidth, kindOf, widthOf, tokenHere, tokenAt, tokensIn, tokensFrom, tokens}
+use Rattle.rule.specs.Name.{code, longName, nameCode}
+use Rattle.rule.specs.Number.{most, decimalFrom, decimal, numberValue}
+use Rattle.rule.proofs.Here.{tok}
 
--- note 0 of event e at i + o
-abbrev t : ℕ → ℤ → Sum
-t e o = reference (record { event = e; note = 0; factor = 1; offset = o })
+-- a rule's condition: a reference, a mark of two bytes, a number
+rule-tokens : tokens (116 ∷ 40 ∷ 111 ∷ 117 ∷ 116 ∷ 91 ∷ 105 ∷ 93 ∷ 41 ∷ 32 ∷ 60 ∷ 61 ∷ 32 ∷ 50 ∷ 53 ∷ []) ≡ tok 1 0 1 ∷ tok 40 1 2 ∷ tok 1 2 5 ∷ tok 91 5 6 ∷ tok 5 6 7 ∷ tok 93 7 8 ∷ tok 41 8 9 ∷ tok 134 10 12 ∷ tok 2 13 15 ∷ []
+unfolding classOf span same wordKind markOf markWidth kindOf widthOf tokenHere tokenAt tokensIn tokensFrom
+rule-tokens = refl
 
-abbrev frames : Cond → List ℕ
-frames c = bytesOf (postfix c)
+-- the reserved words, and a name that begins with one
+reserved-tokens : tokens (101 ∷ 118 ∷ 101 ∷ 110 ∷ 116 ∷ 115 ∷ 32 ∷ 110 ∷ 111 ∷ 116 ∷ 101 ∷ 115 ∷ 32 ∷ 105 ∷ 32 ∷ 97 ∷ 98 ∷ 115 ∷ 32 ∷ 105 ∷ 105 ∷ []) ≡ tok 3 0 6 ∷ tok 4 7 12 ∷ tok 5 13 14 ∷ tok 6 15 18 ∷ tok 1 19 21 ∷ []
+unfolding classOf span same wordKind markOf markWidth kindOf widthOf tokenHere tokenAt tokensIn tokensFrom
+reserved-tokens = refl
 
--- t(out[i]) - t(in[i]) <= 25, with the events in, out
-abbrev latency : Cond
-latency = relation atMost (arithmetic subtract (t 1 (pos 0)) (t 0 (pos 0))) (literal 25)
+-- the longest match: ->, then > alone; <=, then =
+marks-longest : tokens (45 ∷ 62 ∷ 62 ∷ 60 ∷ 61 ∷ 61 ∷ 33 ∷ 61 ∷ 61 ∷ 62 ∷ 61 ∷ []) ≡ tok 130 0 2 ∷ tok 62 2 3 ∷ tok 134 3 5 ∷ tok 61 5 6 ∷ tok 133 6 8 ∷ tok 61 8 9 ∷ tok 135 9 11 ∷ []
+unfolding classOf span same wordKind markOf markWidth kindOf widthOf tokenHere tokenAt tokensIn tokensFrom
+marks-longest = refl
 
-latency-frames : frames latency
-    ≡ 0x03 ∷ 1 ∷ 0 ∷ 1 ∷ 0 ∷ 0 ∷ 0 ∷ 0 ∷ 0x03 ∷ 0 ∷ 0 ∷ 1 ∷ 0 ∷ 0 ∷ 0 ∷ 0 ∷ 0x12 ∷ 0 ∷ 0 ∷ 0 ∷ 0 ∷ 0 ∷ 0 ∷ 0
-    ∷ 0x01 ∷ 0 ∷ 0 ∷ 0 ∷ 0 ∷ 0 ∷ 0 ∷ 25 ∷ 0x24 ∷ 0 ∷ 0 ∷ 0 ∷ 0 ∷ 0 ∷ 0 ∷ 0 ∷ []
-latency-frames = refl
+-- a mark byte alone and a foreign byte are tokens that no rule has
+marks-of-one : tokens (124 ∷ 97 ∷ 38 ∷ 124 ∷ 124 ∷ 32 ∷ 65 ∷ []) ≡ tok 255 0 1 ∷ tok 1 1 2 ∷ tok 255 2 3 ∷ tok 131 3 5 ∷ tok 255 6 7 ∷ []
+unfolding classOf span same wordKind markOf markWidth kindOf widthOf tokenHere tokenAt tokensIn tokensFrom
+marks-of-one = refl
 
-latency-accepted : checkedOf (frames latency) ≡ Accepted
-unfolding checkedOf orderOf referenceCount sizesFit kindOf
-latency-accepted = refl
+-- blanks only
+blank-text : tokens (32 ∷ 10 ∷ 32 ∷ []) ≡ []
+unfolding classOf span same wordKind markOf markWidth kindOf widthOf tokenHere tokenAt tokensIn tokensFrom
+blank-text = refl
 
-latency-tree : treeOf (frames latency) ≡ latency
-unfolding treeOf kindOf
-latency-tree = refl
+-- nothing
+empty-text : tokens ([]) ≡ []
+unfolding classOf span same wordKind markOf markWidth kindOf widthOf tokenHere tokenAt tokensIn tokensFrom
+empty-text = refl
 
--- t(a[i-2]) > 0: an offset below 0
-abbrev before : Cond
-before = relation more (t 0 (negsuc 1)) (literal 0)
+-- a name of 12 letters has its own number, and one of 13 letters that of the long ones
+twelve : nameCode (122 ∷ 122 ∷ 122 ∷ 122 ∷ 122 ∷ 122 ∷ 122 ∷ 122 ∷ 122 ∷ 122 ∷ 122 ∷ 122 ∷ []) ≡ 150094635296999120
+unfolding nameCode code
+twelve = refl
 
-before-frames : frames before
-    ≡ 0x03 ∷ 0 ∷ 0 ∷ 1 ∷ 255 ∷ 255 ∷ 255 ∷ 254 ∷ 0x01 ∷ 0 ∷ 0 ∷ 0 ∷ 0 ∷ 0 ∷ 0 ∷ 0 ∷ 0x25 ∷ 0 ∷ 0 ∷ 0 ∷ 0 ∷ 0 ∷ 0 ∷ 0 ∷ []
-before-frames = refl
+thirteen : nameCode (122 ∷ 122 ∷ 122 ∷ 122 ∷ 122 ∷ 122 ∷ 122 ∷ 122 ∷ 122 ∷ 122 ∷ 122 ∷ 122 ∷ 122 ∷ []) ≡ longName
+unfolding nameCode code
+thirteen = refl
 
-before-accepted : checkedOf (frames before) ≡ Accepted
-unfolding checkedOf orderOf referenceCount sizesFit kindOf
-before-accepted = refl
+-- leading zeros count for nothing, and a value beyond all limits is capped
+zeros : numberValue (48 ∷ 48 ∷ 48 ∷ 49 ∷ 50 ∷ []) ≡ 12
+unfolding numberValue decimal decimalFrom
+zeros = refl
 
--- M11: a product of two notes is accepted, plus 1 it is refused with 8
-abbrev product : Sum
-product = arithmetic multiply (t 0 (pos 0)) (t 1 (pos 0))
+limit : numberValue (50 ∷ 49 ∷ 52 ∷ 55 ∷ 52 ∷ 56 ∷ 51 ∷ 54 ∷ 52 ∷ 55 ∷ []) ≡ 2147483647
+unfolding numberValue decimal decimalFrom
+limit = refl
 
-m11-magnitude : magnitude product ≡ 2 ^ 62
-m11-magnitude = refl
-
-m11 : checkedOf (frames (relation less product (literal 1))) ≡ Accepted
-unfolding checkedOf orderOf referenceCount sizesFit kindOf
-m11 = refl
-
-m11-plus-1 : checkedOf (frames (relation less (arithmetic add product (literal 1)) (literal 1))) ≡ refused 8 0
-unfolding checkedOf orderOf referenceCount sizesFit kindOf
-m11-plus-1 = refl
-
--- the other refusals
-no-bytes : checkedOf [] ≡ refused 9 0
-unfolding checkedOf
-no-bytes = refl
-
--- the end is wrong: two frames of the three
-cut : checkedOf (take 16 (frames before)) ≡ refused 10 2
-unfolding checkedOf orderOf referenceCount sizesFit kindOf
-cut = refl
-
--- a relation over three sums
-three : checkedOf (take 8 (frames before) ++ frames before) ≡ refused 10 3
-unfolding checkedOf orderOf referenceCount sizesFit kindOf
-three = refl
-
--- i = i
-no-note : checkedOf (frames (relation equal instance instance)) ≡ refused 7 0
-unfolding checkedOf orderOf referenceCount sizesFit kindOf
-no-note = refl
+beyond : numberValue (57 ∷ 57 ∷ 57 ∷ 57 ∷ 57 ∷ 57 ∷ 57 ∷ 57 ∷ 57 ∷ 57 ∷ 57 ∷ 57 ∷ 57 ∷ 57 ∷ 57 ∷ 57 ∷ 57 ∷ 57 ∷ 57 ∷ 57 ∷ []) ≡ most
+unfolding numberValue decimal decimalFrom
+beyond = refl

@@ -1,3 +1,11 @@
+pub mod Span
+pub mod Words
+pub mod Marks
+pub mod Here
+pub mod Codes
+pub mod Decimals
+pub mod Lexing
+pub mod Runs
 pub mod KindBytes
 pub mod Stack
 pub mod Prefix
@@ -14,5 +22,6 @@ pub mod Size
 pub mod Opening
 pub mod Exactly
 pub mod Facts
-pub mod Main
 pub mod Examples
+pub mod FrameExamples
+pub mod Main

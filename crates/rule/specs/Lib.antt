@@ -1,3 +1,7 @@
+pub mod Class
+pub mod Token
+pub mod Name
+pub mod Number
 pub mod Limits
 pub mod Frames
 pub mod Tree

@@ -1,4 +1,8 @@
 // Rules: text, tokens, frames and their checks. Nothing here knows of logs.
+pub mod classes;
+pub mod names;
+pub mod numerals;
+pub mod tokens;
 mod frames; // frames.rt: a frame's fields
 mod order; // order.rt: refusal 10, and how many references there are
 mod sizes; // sizes.rt: refusal 8
@@ -13,6 +17,13 @@ ghost use Rattle.rule.specs.Check.{wholeFrames, refused, checkedOf};
 pub struct Refusal {
     pub number: u8,
     pub place: u32,
+}
+
+// A token of a text: its kind, and its place from `start` up to, not including, `end`.
+pub struct Token {
+    pub kind: u8,
+    pub start: usize,
+    pub end: usize,
 }
 
 // A frame, the document's word for 8 bytes of a rule, by its fields; value is the offset or the literal.
