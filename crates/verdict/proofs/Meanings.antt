@@ -1,14 +1,13 @@
 -- The occurrence that a number means. Assumes nothing.
 use mathlib.Core.Path.{_≡_, refl}
 use mathlib.Core.Bool.{true, false}
-use Prim.Native.Nat.{ℕ, _<_}
+use Prim.Native.Nat.{_<_}
 use native.Mathlib.Omega.{arith}
 use borrow.Author.Tests.{ltb-true}
 use lib.IntN.{ℤ, pos, negsuc, natAbs}
 use lib.Signed.{ltZ}
 use Rattle.numbers.proofs.Bools.{true-false}
 use Rattle.verdict.specs.Found.{meantBy}
-use Rattle.verdict.specs.declared.Meant.{Meant}
 use Rattle.verdict.specs.declared.Meant.the-variants.{Void, At}
 
 pub meant-void : (z : ℤ) → ltZ z (pos 0) ≡ true → Void ≡ meantBy z

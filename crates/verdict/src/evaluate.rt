@@ -2,6 +2,7 @@
 use crate::Instance;
 use crate::Judgement;
 use crate::arithmetic;
+use crate::judgements;
 use crate::kleene;
 use crate::stacks;
 use rule::Frame;
@@ -15,8 +16,12 @@ ghost use Rattle.verdict.specs.Marks.{Judgeable};
 ghost use Rattle.verdict.specs.Pass.{withReference, passBy, judgementOf};
 ghost use Rattle.verdict.specs.Stacks.{passOf, Begun};
 
+// A frame has 8 bytes.
+const FRAME_BYTES: usize = 8;
+
 // The document's marks of a reference; the third, void, is 2.
 const PRESENT: u8 = 0;
+
 const PENDING: u8 = 1;
 
 // The numbers of sums and of conditions; whether a reference since the last relation is missing; whether a reference is
@@ -120,7 +125,7 @@ pub fn judge(frames: &[u8], i: Instance, marks: &[u8], notes: &[i32]) -> Judgeme
     requires { ⌜ Judgeable (now frames) (i .0) (now marks) (now notes) ⌝ }
     ensures { λ r. ⌜ r ≡ judgementOf (now (frames .entry)) (i .0) (now (marks .entry)) (now (notes .entry)) ⌝ }
 {
-    let n = frames.len() / 8;
+    let n = frames.len() / FRAME_BYTES;
     let mut sums = [0i64; 64];
     let mut conds = [0u8; 64];
     let mut top = Top {
@@ -136,5 +141,5 @@ pub fn judge(frames: &[u8], i: Instance, marks: &[u8], notes: &[i32]) -> Judgeme
         top = step(x, i, marks[k], notes[k], &mut sums, &mut conds, top);
         k += 1;
     }
-    kleene::judged(top.pending, top.present, kleene::decoded(conds[0]))
+    judgements::judged(top.pending, top.present, kleene::decoded(conds[0]))
 }

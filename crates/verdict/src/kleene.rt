@@ -1,12 +1,10 @@
-// Kleene's tables, and truth values as bytes.
-use crate::Judgement;
+// Kleene's tables, and truth values as bytes on the stack of conditions.
 use crate::Truth;
 ghost use mathlib.Core.Path.{_≡_};
 ghost use mathlib.Core.Bool.{cond};
 ghost use Prim.Native.Nat.{_≤_, _<_};
 ghost use Rattle.rule.specs.Frames.{kindOf};
 ghost use Rattle.verdict.specs.Kleene.{notK, andK, orK, truth};
-ghost use Rattle.verdict.specs.Pass.{judgedBy};
 ghost use Rattle.verdict.specs.Stacks.{joinedBy, truthOf};
 
 pub fn negated(p: Truth) -> Truth
@@ -26,8 +24,8 @@ fn both(p: Truth, q: Truth) -> Truth
         Truth::True => q,
         Truth::False => Truth::False,
         Truth::Unknown => match q {
-            Truth::True => Truth::Unknown,
-            Truth::False => Truth::False,
+            Truth::True => Truth::Unknown, // unknown and true
+            Truth::False => Truth::False, // unknown and false
             Truth::Unknown => Truth::Unknown,
         },
     }
@@ -40,8 +38,8 @@ fn either(p: Truth, q: Truth) -> Truth
         Truth::True => Truth::True,
         Truth::False => q,
         Truth::Unknown => match q {
-            Truth::True => Truth::True,
-            Truth::False => Truth::Unknown,
+            Truth::True => Truth::True, // unknown or true
+            Truth::False => Truth::Unknown, // unknown or false
             Truth::Unknown => Truth::Unknown,
         },
     }
@@ -59,16 +57,20 @@ pub fn connect(kind: u8, p: Truth, q: Truth) -> Truth
     }
 }
 
-// A relation's truth value.
+fn of_test(held: bool) -> Truth
+    ensures { λ r. ⌜ r ≡ truth held ⌝ }
+{
+    if held { Truth::True } else { Truth::False }
+}
+
+// A relation that names a missing reference is unknown.
 pub fn of_relation(missing: bool, held: bool) -> Truth
     ensures { λ r. ⌜ r ≡ cond missing Truth.Unknown (truth held) ⌝ }
 {
     if missing {
         Truth::Unknown
-    } else if held {
-        Truth::True
     } else {
-        Truth::False
+        of_test(held)
     }
 }
 
@@ -89,34 +91,5 @@ pub fn code(t: Truth) -> u8
         Truth::False => 0,
         Truth::True => 1,
         Truth::Unknown => 2,
-    }
-}
-
-// What is said of an instance, from whether a reference is pending, whether one is present, and the rule's value.
-pub fn judged(pending: bool, present: bool, t: Truth) -> Judgement
-    ensures { λ r. ⌜ r ≡ judgedBy pending present t ⌝ }
-{
-    match t {
-        Truth::True => {
-            if !pending | present {
-                Judgement::True
-            } else {
-                Judgement::Unsettled
-            }
-        }
-        Truth::False => {
-            if !pending | present {
-                Judgement::False
-            } else {
-                Judgement::Unsettled
-            }
-        }
-        Truth::Unknown => {
-            if pending {
-                Judgement::Unsettled
-            } else {
-                Judgement::Unknown
-            }
-        }
     }
 }
