@@ -19,12 +19,12 @@ ghost use Rattle.verdict.specs.Stacks.{passOf, Begun};
 // A frame has 8 bytes.
 const FRAME_BYTES: usize = 8;
 
-// The document's marks of a reference; the third, void, is 2.
+// The document's marks of a reference: 0 present, 1 pending, 2 void.
 const PRESENT: u8 = 0;
 
 const PENDING: u8 = 1;
 
-// The numbers of sums and of conditions; whether a reference since the last relation is missing; whether a reference is
+// What a step carries on beside the arrays: the numbers of sums and of conditions; whether a reference since the last relation is missing; whether a reference is
 // pending, and whether one is present.
 pub struct Top {
     pub sums: usize,
@@ -63,7 +63,7 @@ fn put_relation(kind: u8, sums: &mut [i64; 64], conds: &mut [u8; 64], top: Top) 
     Top {
         sums: 0,
         conds: c,
-        missing: false,
+        missing: false, // the next relation begins
         pending: top.pending,
         present: top.present,
     }
@@ -93,7 +93,7 @@ fn step(
             next
         }
         0x02 => {
-            next.sums = stacks::put_sum(sums, k, i.0 as i64);
+            next.sums = stacks::put_sum(sums, k, i.0 as i64); // only here an instance number is a value
             next
         }
         0x03 => put_reference(sums, top, mark, note),
@@ -114,7 +114,7 @@ fn step(
             next.conds = stacks::join_conds(kind, conds, c);
             next
         }
-        _ => next,
+        _ => next, // no accepted frame has another kind
     }
 }
 

@@ -6,6 +6,7 @@ ghost use Rattle.verdict.specs.Kleene.{isKnown};
 ghost use Rattle.verdict.specs.Settled.{settledBy, verdict};
 ghost use Rattle.verdict.specs.Pass.{judgedBy};
 
+// True or false.
 fn known(t: Truth) -> bool
     ensures { λ r. ⌜ r ≡ isKnown t ⌝ }
 {
@@ -23,6 +24,7 @@ fn settled(pending: bool, present: bool, t: Truth) -> bool
     !pending | (present & known(t))
 }
 
+// The verdict of a settled instance.
 fn verdict_of(t: Truth) -> Judgement
     ensures { λ r. ⌜ r ≡ verdict t ⌝ }
 {

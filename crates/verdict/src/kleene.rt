@@ -7,6 +7,7 @@ ghost use Rattle.rule.specs.Frames.{kindOf};
 ghost use Rattle.verdict.specs.Kleene.{notK, andK, orK, truth};
 ghost use Rattle.verdict.specs.Stacks.{joinedBy, truthOf};
 
+// Not.
 pub fn negated(p: Truth) -> Truth
     ensures { λ r. ⌜ r ≡ notK p ⌝ }
 {
@@ -17,6 +18,7 @@ pub fn negated(p: Truth) -> Truth
     }
 }
 
+// And.
 fn both(p: Truth, q: Truth) -> Truth
     ensures { λ r. ⌜ r ≡ andK p q ⌝ }
 {
@@ -31,6 +33,7 @@ fn both(p: Truth, q: Truth) -> Truth
     }
 }
 
+// Or.
 fn either(p: Truth, q: Truth) -> Truth
     ensures { λ r. ⌜ r ≡ orK p q ⌝ }
 {
@@ -45,7 +48,7 @@ fn either(p: Truth, q: Truth) -> Truth
     }
 }
 
-// And, or, implies, by the kind byte. Called by the step of the evaluator.
+// And, or, implies, by the kind byte. Called by stacks::join_conds.
 pub fn connect(kind: u8, p: Truth, q: Truth) -> Truth
     requires { ⌜ (0x32 ≤ kind) × (kind < 0x35) ⌝ }
     ensures { λ r. ⌜ r ≡ joinedBy (kindOf kind) p q ⌝ }
@@ -57,23 +60,25 @@ pub fn connect(kind: u8, p: Truth, q: Truth) -> Truth
     }
 }
 
+// The truth value of a test.
 fn of_test(held: bool) -> Truth
     ensures { λ r. ⌜ r ≡ truth held ⌝ }
 {
     if held { Truth::True } else { Truth::False }
 }
 
-// A relation that names a missing reference is unknown.
+// A relation's truth value: missing says that it names a void or pending reference.
 pub fn of_relation(missing: bool, held: bool) -> Truth
     ensures { λ r. ⌜ r ≡ cond missing Truth.Unknown (truth held) ⌝ }
 {
     if missing {
-        Truth::Unknown
+        Truth::Unknown // a reference is missing
     } else {
         of_test(held)
     }
 }
 
+// The truth value that a byte stands for.
 pub fn decoded(b: u8) -> Truth
     ensures { λ r. ⌜ r ≡ truthOf b ⌝ }
 {
@@ -84,6 +89,7 @@ pub fn decoded(b: u8) -> Truth
     }
 }
 
+// A byte that stands for a truth value.
 pub fn code(t: Truth) -> u8
     ensures { λ r. ⌜ truthOf r ≡ t ⌝ }
 {
