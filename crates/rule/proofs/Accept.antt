@@ -1,24 +1,21 @@
 -- Refusal 10 does not hold exactly of the bytes that are a tree's frames, within the limits. Assumes nothing.
-use mathlib.Core.Path.{_≡_, refl, sym, ap, _∙_, subst}
+use mathlib.Core.Path.{_≡_, refl, sym, ap, _∙_}
 use mathlib.Core.Logic.{_↔_}
-use mathlib.Core.Bool.{Bool, true, false, _&&_, cond}
+use mathlib.Core.Bool.{Bool, true, _&&_, cond}
 use mathlib.Core.List.{List, [], _∷_, _++_}
-use Prim.Native.Nat.{ℕ, zero, suc, _+_, _-_, _%_, _≤_, _<_, zero-le}
+use Prim.Native.Nat.{ℕ, _+_, _-_, _%_, _≤_, _<_, zero-le}
 use native.Mathlib.Omega.{arith}
-use lib.Dec.{leb, ltb, eqb}
-use borrow.Author.Tests.{le-leb, lt-ltb}
-use lib.IntN.{ℤ, pos, natAbs}
+use lib.Dec.{leb, eqb}
+use lib.IntN.{natAbs}
 use lib.ListN.{length}
-use mir.Syntax.{w32}
-use mir.Val.{SFits}
+use borrow.Author.Tests.{le-leb, lt-ltb}
 use Rattle.numbers.proofs.Ints.{mag-natAbs}
 use Rattle.rule.specs.Limits.{eventLimit, noteLimit, factorLimit, offsetLimit}
-use Rattle.rule.specs.Frames.{Source, Arithmetic, Kind, kindByte, kindOf, frame, bare, fieldsOf, Bytes}
-use Rattle.rule.specs.Tree.{Reference, Sum, literal, instance, reference, arithmetic, abs, Cond, relation, not, connective, LimitsR, LimitsS, Limits, postfixS, postfix, bytesOf, IsRule}
+use Rattle.rule.specs.Frames.{Source, Kind, kindOf, bare, fieldsOf, Bytes}
+use Rattle.rule.specs.Tree.{Sum, literal, instance, reference, arithmetic, abs, Cond, relation, not, connective, LimitsS, Limits, postfixS, postfix, bytesOf, IsRule}
 use Rattle.rule.specs.Order.{stepBy, stepIn, InOrder}
 use Rattle.rule.specs.Build.{treeOf}
 use Rattle.rule.specs.declared.Frame.{Frame}
-use Rattle.rule.specs.declared.order.Shape.{Shape}
 use Rattle.rule.specs.declared.order.Shape.the-variants.{Good, Bad}
 use Rattle.rule.proofs.KindBytes.{kind-byte, kind-octet}
 use Rattle.rule.proofs.Fold.{framesOf, runs, pass1, pass2, Octets, AllOctets, all-append, octets-in, octets-bytes, frames-bytes, bytes-frames}

@@ -1,15 +1,15 @@
 -- A rule's references: those of its frames, in frame order, and at most half of the frames. Assumes nothing.
-use mathlib.Core.Path.{_≡_, refl, sym, ap, _∙_, subst}
+use mathlib.Core.Path.{_≡_, refl, sym, ap, _∙_}
 use mathlib.Core.Bool.{Bool, true, false, cond}
 use mathlib.Core.List.{List, [], _∷_, _++_, append-nil}
-use Prim.Native.Nat.{ℕ, zero, suc, _+_, _*_, _≤_, _<_}
+use Prim.Native.Nat.{ℕ, suc, _+_, _*_, _≤_}
 use native.Mathlib.Omega.{arith}
 use lib.Dec.{eqb}
-use borrow.Author.Tests.{eqb-true, eq-eqb, ne-eqb}
 use lib.ListN.{length, length-append}
+use borrow.Author.Tests.{eqb-true, eq-eqb, ne-eqb}
 use Rattle.rule.specs.Limits.{frameLimit, frameBytes}
-use Rattle.rule.specs.Frames.{Source, Relation, equal, unequal, less, atMost, more, atLeast, Arithmetic, add, subtract, multiply, Connective, and, or, implies, Kind, kindByte, bare, frameAt, frameCount}
-use Rattle.rule.specs.Tree.{Reference, Sum, literal, instance, reference, arithmetic, abs, Cond, relation, not, connective, postfixS, postfix, bytesOf, IsRule, referencesS, references}
+use Rattle.rule.specs.Frames.{Relation, equal, unequal, less, atMost, more, atLeast, Arithmetic, add, subtract, multiply, Connective, and, or, implies, Kind, kindByte, bare, frameCount}
+use Rattle.rule.specs.Tree.{Reference, Sum, literal, instance, reference, arithmetic, abs, Cond, relation, not, connective, postfixS, postfix, IsRule, referencesS, references}
 use Rattle.rule.specs.References.{referenceByte, referenceOf, overReferences, referencesTo, oneMore, referenceCount}
 use Rattle.rule.specs.declared.Frame.{Frame}
 use Rattle.rule.proofs.Fold.{framesOf, runs, runs-all, bytes-length}

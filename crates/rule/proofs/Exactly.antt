@@ -1,19 +1,19 @@
 -- Which frames are accepted, and which are refused with 10 and at which place. Assumes nothing.
-use mathlib.Core.Path.{_≡_, refl, sym, ap, _∙_, subst}
+use mathlib.Core.Path.{_≡_, refl, sym, subst}
 use mathlib.Core.Logic.{_↔_}
 use mathlib.Core.List.{List, [], _∷_, _++_}
-use Prim.Native.Nat.{ℕ, suc, _+_, _*_, _%_, _≤_, _<_}
+use Prim.Native.Nat.{ℕ, _+_, _*_, _≤_}
 use native.Mathlib.Omega.{arith}
 use lib.ListN.{length, length-append}
-use Rattle.rule.specs.Limits.{frameLimit, frameBytes}
+use Rattle.rule.specs.Limits.{frameLimit}
 use Rattle.rule.specs.Frames.{Kind, bare, Bytes}
 use Rattle.rule.specs.Tree.{Cond, relation, not, connective, postfixS, postfix, IsRule}
 use Rattle.rule.specs.References.{referenceCount}
 use Rattle.rule.specs.Check.{refused, numberOf, placeOf, checkedOf}
 use Rattle.rule.specs.Opening.{Whole, Place, Opening, refused-9, refused-10, refused-7, refused-8, accepted, Proper}
-use Rattle.rule.specs.declared.Frame.{Frame}
 use Rattle.rule.specs.declared.Checked.{Checked}
 use Rattle.rule.specs.declared.Checked.the-variants.{Accepted}
+use Rattle.rule.specs.declared.Frame.{Frame}
 use Rattle.rule.proofs.Count.{rule-length, at-most-32, count-of}
 use Rattle.rule.proofs.Opening.{opening-iff}
 

@@ -1,30 +1,27 @@
 -- What an accepted answer says of the passes and of each frame: for whoever walks accepted frames. Assumes nothing.
-use mathlib.Core.Path.{_≡_, refl, sym, ap, _∙_, subst}
+use mathlib.Core.Path.{_≡_, refl, ap, subst}
 use mathlib.Core.Bool.{Bool, true, false, cond}
 use mathlib.Core.List.{List, [], _∷_, _++_}
-use Prim.Native.Nat.{ℕ, _≤_, _<_}
+use Prim.Native.Nat.{ℕ, _<_}
 use native.Mathlib.Omega.{arith}
 use lib.Dec.{T, eqb}
 use lib.IntN.{pos, natAbs}
 use lib.ListN.{length}
-use Rattle.rule.specs.Limits.{literalLimit}
-use Rattle.rule.specs.Frames.{Source, Kind, kindByte, kindOf, frameAt, frameCount, fieldsOf, literalFields, referenceFields}
+use Rattle.rule.specs.Frames.{Source, Kind, kindByte, frameAt, frameCount, fieldsOf}
 use Rattle.rule.specs.Tree.{Reference, Sum, literal, instance, reference, arithmetic, abs, Cond, relation, not, connective, LimitsR, LimitsS, Limits, referencesS, references}
-use Rattle.rule.specs.References.{referenceByte, referenceOf, referenceCount}
+use Rattle.rule.specs.References.{referenceByte, referenceOf}
 use Rattle.rule.specs.Order.{orderOf, InOrder}
 use Rattle.rule.specs.Sizes.{sizesFit}
 use Rattle.rule.specs.Check.{refused, numberOf, wholeFrames, afterOrder, checkedOf}
 use Rattle.rule.specs.Opening.{Whole}
-use Rattle.rule.specs.declared.Frame.{Frame}
+use Rattle.rule.specs.declared.Checked.the-variants.{Accepted}
 use Rattle.rule.specs.declared.order.Ordered.{Ordered}
 use Rattle.rule.specs.declared.order.Ordered.the-variants.{Fine, At}
-use Rattle.rule.specs.declared.Checked.{Checked}
-use Rattle.rule.specs.declared.Checked.the-variants.{Accepted}
 use Rattle.rule.proofs.KindBytes.{kind-at}
 use Rattle.rule.proofs.Prefix.{fine-order}
 use Rattle.rule.proofs.Link.{found}
-use Rattle.rule.proofs.Parse.{literal-value, reference-limits}
 use Rattle.rule.proofs.Whole.{true-whole}
+use Rattle.rule.proofs.Parse.{literal-value, reference-limits}
 
 -- ---- an accepted answer
 pub record Passed (s : List ℕ) : Type 0 where

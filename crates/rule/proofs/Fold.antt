@@ -1,5 +1,5 @@
 -- The list of a slice's frames, passes over it, and bytes and back. Assumes nothing.
-use mathlib.Core.Path.{_≡_, refl, sym, ap, _∙_, subst}
+use mathlib.Core.Path.{_≡_, refl, sym, ap, _∙_}
 use mathlib.Core.List.{List, [], _∷_, _++_}
 use Prim.Native.Nat.{ℕ, zero, suc, _+_, _-_, _*_, _/_, _%_, _^_, _≤_, _<_}
 use native.Mathlib.Nat.{le-refl}
@@ -7,12 +7,12 @@ use native.Mathlib.Omega.{arith}
 use lib.IntN.{ℤ, pos}
 use lib.ListN.{length, getD, take}
 use lib.Seq.{take-suc, take-length}
-use mir.Syntax.{w32}
-use mir.Val.{Fits, SFits, ofZ, toZ}
 use mir.Facts.{sfits-toZ}
+use mir.Syntax.{w32}
+use mir.Val.{SFits, ofZ, toZ}
 use mir.ValLaws.{toZ-ofZ, ofZ-toZ}
 use Rattle.numbers.specs.Word.{bigEndian, signedWord}
-use Rattle.rule.specs.Frames.{frame, frameAt, frameCount, Bytes, none, one}
+use Rattle.rule.specs.Frames.{frame, frameAt, frameCount, Bytes, empty, byte}
 use Rattle.rule.specs.Tree.{bytesOf}
 use Rattle.rule.specs.declared.Frame.{Frame}
 
@@ -131,15 +131,15 @@ big p q r t = omega arith
 
 -- those of bytes are
 pub octets-in : {s : List ℕ} → Bytes s → AllOctets (framesOf s)
-octets-in none = tt
-octets-in (one p none) = tt
-octets-in (one p (one q none)) = tt
-octets-in (one p (one q (one r none))) = tt
-octets-in (one p (one q (one r (one t none)))) = tt
-octets-in (one p (one q (one r (one t (one u none))))) = tt
-octets-in (one p (one q (one r (one t (one u (one v none)))))) = tt
-octets-in (one p (one q (one r (one t (one u (one v (one w none))))))) = tt
-octets-in (one p (one q (one r (one t (one u (one v (one w (one x l)))))))) =
+octets-in empty = tt
+octets-in (byte p empty) = tt
+octets-in (byte p (byte q empty)) = tt
+octets-in (byte p (byte q (byte r empty))) = tt
+octets-in (byte p (byte q (byte r (byte t empty)))) = tt
+octets-in (byte p (byte q (byte r (byte t (byte u empty))))) = tt
+octets-in (byte p (byte q (byte r (byte t (byte u (byte v empty)))))) = tt
+octets-in (byte p (byte q (byte r (byte t (byte u (byte v (byte w empty))))))) = tt
+octets-in (byte p (byte q (byte r (byte t (byte u (byte v (byte w (byte x l)))))))) =
     (record { kind = p; event = q; note = r; factor = t; value = sfits-toZ (record { fits = big u v w x }) }, octets-in l)
 
 -- ---- bytes and back
@@ -192,24 +192,24 @@ back-word : {a b c d : ℕ} → a < 256 → b < 256 → c < 256 → d < 256 → 
 back-word {a} {b} {c} {d} p q r t = ofZ-toZ w32 (bigEndian a b c d) (record { fits = big p q r t })
 
 pub bytes-frames : {s : List ℕ} → Bytes s → length s % 8 ≡ 0 → bytesOf (framesOf s) ≡ s
-bytes-frames none h = refl
-bytes-frames (one p none) h = absurd (omega arith)
-bytes-frames (one p (one q none)) h = absurd (omega arith)
-bytes-frames (one p (one q (one r none))) h = absurd (omega arith)
-bytes-frames (one p (one q (one r (one t none)))) h = absurd (omega arith)
-bytes-frames (one p (one q (one r (one t (one u none))))) h = absurd (omega arith)
-bytes-frames (one p (one q (one r (one t (one u (one v none)))))) h = absurd (omega arith)
-bytes-frames (one p (one q (one r (one t (one u (one v (one w none))))))) h = absurd (omega arith)
-bytes-frames (one p (one q (one r (one t (one {b = a} u (one {b = b} v (one {b = c} w (one {b = d} {s = s} x l)))))))) h =
+bytes-frames empty h = refl
+bytes-frames (byte p empty) h = absurd (omega arith)
+bytes-frames (byte p (byte q empty)) h = absurd (omega arith)
+bytes-frames (byte p (byte q (byte r empty))) h = absurd (omega arith)
+bytes-frames (byte p (byte q (byte r (byte t empty)))) h = absurd (omega arith)
+bytes-frames (byte p (byte q (byte r (byte t (byte u empty))))) h = absurd (omega arith)
+bytes-frames (byte p (byte q (byte r (byte t (byte u (byte v empty)))))) h = absurd (omega arith)
+bytes-frames (byte p (byte q (byte r (byte t (byte u (byte v (byte w empty))))))) h = absurd (omega arith)
+bytes-frames (byte p (byte q (byte r (byte t (byte {b = a} u (byte {b = b} v (byte {b = c} w (byte {b = d} {s = s} x l)))))))) h =
     rw (back-word u v w x, first-byte a b c d v w x, second-byte a b c d v w x, third-byte a b c d v w x, last-byte a b c d v w x, bytes-frames l (omega arith))
 
 -- bytes, where each element is one
 pub bytes-by : (s : List ℕ) → ((i : ℕ) → i < length s → getD s i 0 < 256) → Bytes s
-bytes-by [] h = none
-bytes-by (b ∷ s) h = one (h 0 (omega arith)) (bytes-by s (λ i k. h (suc i) (omega arith)))
+bytes-by [] h = empty
+bytes-by (b ∷ s) h = byte (h 0 (omega arith)) (bytes-by s (λ i k. h (suc i) (omega arith)))
 
 pub octets-bytes : (fs : List Frame) → AllOctets fs → Bytes (bytesOf fs)
-octets-bytes [] p = none
+octets-bytes [] p = empty
 octets-bytes (x ∷ fs) p =
     let w : ℕ = ofZ w32 (x .value) in
     let h : w < 2 ^ 32 = word-fits (x .value) (p .0 .value) in
@@ -217,7 +217,7 @@ octets-bytes (x ∷ fs) p =
     let b₅ : w / 256 / 256 % 256 < 256 = omega arith in
     let b₆ : w / 256 % 256 < 256 = omega arith in
     let b₇ : w % 256 < 256 = omega arith in
-    one (p .0 .kind) (one (p .0 .event) (one (p .0 .note) (one (p .0 .factor) (one b₄ (one b₅ (one b₆ (one b₇ (octets-bytes fs (p .1)))))))))
+    byte (p .0 .kind) (byte (p .0 .event) (byte (p .0 .note) (byte (p .0 .factor) (byte b₄ (byte b₅ (byte b₆ (byte b₇ (octets-bytes fs (p .1)))))))))
   where
     word-fits : (v : ℤ) → SFits w32 v → ofZ w32 v < 2 ^ 32
     word-fits (lib.IntN.pos n) f = omega (arith, f .sfits)

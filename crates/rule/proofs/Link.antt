@@ -1,6 +1,6 @@
 -- What frames in order say of the magnitudes and of the stacks: each frame has the sums and conditions that it needs,
 -- and there are as many magnitudes as sums. Assumes nothing.
-use mathlib.Core.Path.{_≡_, refl, sym, ap, _∙_, subst}
+use mathlib.Core.Path.{_≡_, refl, sym, _∙_, subst}
 use mathlib.Core.Bool.{Bool, true, false, _&&_, cond}
 use mathlib.Core.List.{List, [], _∷_}
 use Prim.Native.Nat.{ℕ, zero, suc, _+_, _-_, _≤_, _<_}
@@ -13,11 +13,11 @@ use Rattle.rule.specs.Limits.{magnitudeLimit}
 use Rattle.rule.specs.Frames.{Kind, operand, arithmetic, absolute, relation, negation, connective, none, kindOf, frameAt, frameCount, fieldsOf}
 use Rattle.rule.specs.Tree.{grown}
 use Rattle.rule.specs.Order.{stepBy, frameStep, Prefix, viable, stuck, placed, next, prefixAt, InOrder}
-use Rattle.rule.specs.Sizes.{Sizes, fits, over, pushed, topped, operandSize, sized, sizeNext, sizeAt}
+use Rattle.rule.specs.Sizes.{Sizes, fits, over, topped, operandSize, sized, sizeNext, sizeAt}
 use Rattle.rule.specs.Stack.{stackOf, Ready, ReadyC, Bounded}
 use Rattle.rule.specs.declared.Frame.{Frame}
 use Rattle.rule.specs.declared.order.Shape.{Shape}
-use Rattle.rule.specs.declared.order.Shape.the-variants.{Good, Bad}
+use Rattle.rule.specs.declared.order.Shape.the-variants.{Bad}
 use Rattle.rule.proofs.Stack.{stack-length}
 use Rattle.rule.proofs.Prefix.{Live, sumsOf, condsOf, live, sums-le}
 use Rattle.rule.proofs.Magnitudes.{BoundedIn, sizes-in}

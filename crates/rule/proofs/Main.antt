@@ -12,7 +12,7 @@ use Rattle.rule.proofs.Codes.{Letters}
 use Rattle.rule.proofs.Lexing.{IsWord, Rising}
 use Rattle.rule.proofs.Runs.{OfClass}
 use Rattle.rule.specs.Frames.{Bytes}
-use Rattle.rule.specs.Tree.{IsRule}
+use Rattle.rule.specs.Tree.{IsRule, references}
 use Rattle.rule.specs.References.{referenceCount}
 use Rattle.rule.specs.Build.{treeOf}
 use Rattle.rule.specs.Check.{refused, checkedOf}
@@ -25,6 +25,7 @@ use Rattle.rule.proofs.Decimals as decimals
 use Rattle.rule.proofs.Lexing as lexing
 use Rattle.rule.proofs.Runs as runs
 use Rattle.rule.proofs.Accept
+use Rattle.rule.proofs.Count
 use Rattle.rule.proofs.Opening
 use Rattle.rule.proofs.Exactly
 
@@ -94,6 +95,10 @@ place-10 = Exactly.place-iff
 -- at most 32 references in 64 frames
 pub few-references : {s : List ℕ} → Bytes s → checkedOf s ≡ Accepted → referenceCount s ≤ 32
 few-references = Exactly.few
+
+-- and the count is of the references that the tree names
+pub count-references : {s : List ℕ} (r : IsRule s) → referenceCount s ≡ length (references (r .tree))
+count-references = Count.count-of
 
 -- every answer, 9, 10, 7, 8 or accepted, in the words of trees
 pub opening-iff : {s : List ℕ} → Bytes s → (o : Checked) → (checkedOf s ≡ o) ↔ Opening s o

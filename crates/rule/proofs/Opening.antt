@@ -1,8 +1,8 @@
 -- The answer of the check is the one that the words of trees give. Assumes nothing.
-use mathlib.Core.Path.{_≡_, refl, sym, ap, _∙_, subst}
+use mathlib.Core.Path.{_≡_, refl, sym, _∙_, subst}
 use mathlib.Core.Logic.{_↔_}
 use mathlib.Core.Bool.{Bool, true, false, cond}
-use mathlib.Core.List.{List, [], _∷_}
+use mathlib.Core.List.{List, []}
 use Prim.Native.Nat.{ℕ}
 use lib.Dec.{eqb}
 use lib.ListN.{length}
@@ -14,10 +14,10 @@ use Rattle.rule.specs.Order.{orderOf}
 use Rattle.rule.specs.Sizes.{sizesFit}
 use Rattle.rule.specs.Check.{refused, wholeFrames, afterOrder, checkedOf}
 use Rattle.rule.specs.Opening.{Whole, Opening, refused-9, refused-10, refused-7, refused-8, accepted}
-use Rattle.rule.specs.declared.order.Ordered.{Ordered}
-use Rattle.rule.specs.declared.order.Ordered.the-variants.{Fine, At}
 use Rattle.rule.specs.declared.Checked.{Checked}
 use Rattle.rule.specs.declared.Checked.the-variants.{Accepted}
+use Rattle.rule.specs.declared.order.Ordered.{Ordered}
+use Rattle.rule.specs.declared.order.Ordered.the-variants.{Fine, At}
 use Rattle.rule.proofs.Prefix.{fine-count, fine-order}
 use Rattle.rule.proofs.Whole.{true-whole, whole-true, whole-false}
 use Rattle.rule.proofs.Accept.{fine-rule, rule-fine}

@@ -1,9 +1,9 @@
 -- Frames that refusal 10's pass takes are a tree in postfix order, and the tree is one. Assumes nothing.
 use mathlib.Core.Path.{_≡_, refl, sym, ap, _∙_, subst}
-use mathlib.Core.Bool.{Bool, true, false, _&&_, cond}
 use mathlib.Core.Logic.{_⊎_, inl, inr}
+use mathlib.Core.Bool.{Bool, true, false, _&&_, cond}
 use mathlib.Core.List.{List, [], _∷_, _++_, append-assoc, append-nil}
-use Prim.Native.Nat.{ℕ, zero, suc, _+_, _-_, _≤_, _<_}
+use Prim.Native.Nat.{ℕ, suc, _+_, _-_, _≤_}
 use native.Mathlib.Omega.{arith}
 use lib.Dec.{T, leb, ltb, eqb, leb→le, eqb→eq, ltb→lt}
 use lib.IntN.{ℤ, pos, negsuc, natAbs}
@@ -14,15 +14,15 @@ use mir.Val.{SFits}
 use Rattle.numbers.proofs.Bools.{and-l, and-r, T-true}
 use Rattle.numbers.proofs.Ints.{not-negative}
 use Rattle.rule.specs.Limits.{eventLimit, noteLimit, factorLimit, offsetLimit, literalLimit}
-use Rattle.rule.specs.Frames.{Source, Arithmetic, Relation, Connective, Kind, kindByte, kindOf, frame, bare, frameAt, frameCount, unused, literalFields, referenceFields, bareFields, fieldsOf}
-use Rattle.rule.specs.Tree.{Reference, Sum, literal, instance, reference, arithmetic, abs, Cond, relation, not, connective, LimitsR, LimitsS, Limits, postfixS, postfix}
+use Rattle.rule.specs.Frames.{Source, Arithmetic, Relation, Connective, Kind, kindByte, kindOf, frame, bare, frameAt, frameCount, unused, literalFields, referenceFields, bareFields}
+use Rattle.rule.specs.Tree.{Sum, literal, instance, reference, arithmetic, abs, Cond, relation, not, connective, LimitsR, LimitsS, Limits, postfixS, postfix}
 use Rattle.rule.specs.References.{referenceCount, referenceOf}
 use Rattle.rule.specs.Order.{stepBy, stepIn, frameStep, Prefix, viable, stuck, placed, next, prefixAt, ended, orderOf, InOrder}
-use Rattle.rule.specs.Build.{Trees, trees, top1, top2, related, leaf, builtBy, built, treesAt, firstC, treeOf}
+use Rattle.rule.specs.Build.{Trees, trees, top1, top2, related, builtBy, built, treesAt, firstC, treeOf}
 use Rattle.rule.specs.declared.Frame.{Frame}
+use Rattle.rule.specs.declared.order.Ordered.the-variants.{Fine}
 use Rattle.rule.specs.declared.order.Shape.{Shape}
 use Rattle.rule.specs.declared.order.Shape.the-variants.{Good, Bad}
-use Rattle.rule.specs.declared.order.Ordered.the-variants.{Fine, At}
 use Rattle.rule.proofs.KindBytes.{kind-byte, byte-kind}
 use Rattle.rule.proofs.Prefix.{one-left}
 use Rattle.rule.proofs.Fold.{framesOf, runs, runs-append, runs-to, runs-all, pass1, pass2, Octets, AllOctets}

@@ -4,22 +4,21 @@ use mathlib.Core.Logic.{_↔_}
 use mathlib.Core.Bool.{Bool, true, false, _&&_, cond}
 use mathlib.Core.List.{List, [], _∷_, _++_, append-assoc, append-nil}
 use Prim.Native.Nat.{ℕ, zero, suc, _+_, _-_, _≤_, _<_}
+use native.Mathlib.Decide.{decLt}
 use native.Mathlib.Nat.{le-refl}
 use native.Mathlib.Omega.{arith}
-use native.Mathlib.Decide.{decLt}
-use lib.Dec.{leb, eqb}
-use borrow.Author.Tests.{le-leb}
+use lib.Dec.{eqb}
 use lib.ListN.{length, take, drop}
 use lib.Seq.{take-length, take-add}
+use borrow.Author.Tests.{le-leb}
 use Rattle.rule.specs.Frames.{Source, Arithmetic, Relation, Connective, Kind, kindOf, bare, frameAt, frameCount, Bytes}
-use Rattle.rule.specs.Tree.{postfix}
 use Rattle.rule.specs.References.{referenceCount}
-use Rattle.rule.specs.Order.{frameStep, Prefix, viable, stuck, placed, next, prefixAt, ended, orderOf, InOrder}
+use Rattle.rule.specs.Order.{frameStep, Prefix, viable, stuck, placed, next, prefixAt, ended, orderOf}
 use Rattle.rule.specs.declared.Frame.{Frame}
-use Rattle.rule.specs.declared.order.Shape.{Shape}
-use Rattle.rule.specs.declared.order.Shape.the-variants.{Good, Bad}
 use Rattle.rule.specs.declared.order.Ordered.{Ordered}
 use Rattle.rule.specs.declared.order.Ordered.the-variants.{Fine, At}
+use Rattle.rule.specs.declared.order.Shape.{Shape}
+use Rattle.rule.specs.declared.order.Shape.the-variants.{Good, Bad}
 use Rattle.rule.proofs.Prefix.{fine-order}
 use Rattle.rule.proofs.Fold.{framesOf, frames-length, runs, runs-append, AllOctets, all-append, all-take, octets-in}
 use Rattle.rule.proofs.Parse.{ordered, shapeOf, order-to, order-all, fine-runs, bad-stays, Rule, rule-of}

@@ -13,10 +13,9 @@ use Rattle.rule.specs.Frames.{Kind, operand, arithmetic, absolute, relat
 use Rattle.rule.specs.References.{referenceByte, referencesTo, oneMore, referenceCount}
 use Rattle.rule.specs.Order.{stepBy, frameStep, Prefix, viable, stuck, placed, next, prefixAt, ended, orderOf, InOrder}
 use Rattle.rule.specs.declared.Frame.{Frame}
+use Rattle.rule.specs.declared.order.Ordered.the-variants.{Fine, At}
 use Rattle.rule.specs.declared.order.Shape.{Shape}
 use Rattle.rule.specs.declared.order.Shape.the-variants.{Good, Bad}
-use Rattle.rule.specs.declared.order.Ordered.{Ordered}
-use Rattle.rule.specs.declared.order.Ordered.the-variants.{Fine, At}
 
 abbrev pub sumsOf : Prefix → ℕ
 sumsOf (viable c k) = k

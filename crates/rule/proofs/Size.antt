@@ -1,5 +1,5 @@
 -- Refusal 8's pass takes exactly the rules of which no magnitude exceeds the limit. Assumes nothing.
-use mathlib.Core.Path.{_≡_, refl, sym, ap, _∙_, subst}
+use mathlib.Core.Path.{_≡_, refl, sym, ap, _∙_}
 use mathlib.Core.Logic.{_↔_}
 use mathlib.Core.Bool.{Bool, true, false, _&&_, cond}
 use mathlib.Core.List.{List, [], _∷_, _++_}
@@ -9,7 +9,7 @@ use lib.IntN.{pos}
 use borrow.Author.Tests.{leb-true, le-leb}
 use Rattle.numbers.proofs.Bools.{and-true, true-and}
 use Rattle.rule.specs.Limits.{instanceMagnitude, referenceMagnitude, magnitudeLimit}
-use Rattle.rule.specs.Frames.{Source, Arithmetic, Kind, kindOf, bare, frameAt, frameCount}
+use Rattle.rule.specs.Frames.{Kind, kindOf, bare}
 use Rattle.rule.specs.Tree.{Sum, literal, instance, reference, arithmetic, abs, Cond, relation, not, connective, postfixS, postfix, IsRule, grown, magnitude, partsS, parts, NoneExceeds}
 use Rattle.rule.specs.Sizes.{Sizes, fits, over, pushed, sized, sizeNext, sizeAt, isFits, sizesFit}
 use Rattle.rule.specs.declared.Frame.{Frame}

@@ -26,7 +26,7 @@ pub struct Token {
     pub end: usize,
 }
 
-// A frame's fields; value is the offset or the literal.
+// A frame, the document's word for 8 bytes of a rule, by its fields; value is the offset or the literal.
 pub struct Frame {
     pub kind: u8,
     pub event: u8,
@@ -35,15 +35,20 @@ pub struct Frame {
     pub value: i32,
 }
 
+// What the check of frames answers.
 pub enum Checked {
     Accepted,
     Refused(Refusal),
 }
 
+// At most 64 frames of 8 bytes.
+const LONGEST: usize = 512;
+
+// 8 to 512 bytes in steps of 8.
 fn whole_frames(n: usize) -> bool
     ensures { λ r. ⌜ r ≡ wholeFrames n ⌝ }
 {
-    ((8 <= n) & (n <= 512)) & (n % 8 == 0)
+    ((frames::FRAME_BYTES <= n) & (n <= LONGEST)) & (n % frames::FRAME_BYTES == 0)
 }
 
 fn refuse(number: u8, place: u32) -> Checked

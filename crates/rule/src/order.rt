@@ -21,7 +21,7 @@ pub enum Ordered {
     At(usize),
 }
 
-// One frame more, by its kind.
+// One frame more, by its kind: the counts, from fewer frames than 2^63. Called by frame_step.
 fn step(kind: u8, c: usize, k: usize) -> Shape
     requires { ⌜ (c < 2 ^ 63) × (k < 2 ^ 63) ⌝ }
     ensures { λ r. ⌜ r ≡ stepBy (kindOf kind) c k ⌝ }
@@ -67,6 +67,7 @@ fn step(kind: u8, c: usize, k: usize) -> Shape
     }
 }
 
+// The same by its fields too. Called by order.
 fn frame_step(x: Frame, c: usize, k: usize) -> Shape
     requires { ⌜ (c < 2 ^ 63) × (k < 2 ^ 63) ⌝ }
     ensures { λ r. ⌜ r ≡ frameStep x c k ⌝ }
@@ -78,7 +79,7 @@ fn frame_step(x: Frame, c: usize, k: usize) -> Shape
     }
 }
 
-// One reference more, where the kind is a reference's.
+// One reference more, where the kind is a reference's. Called by the two passes below.
 fn counted(kind: u8, m: usize) -> usize
     requires { ⌜ m < 2 ^ 63 ⌝ }
     ensures { λ r. ⌜ r ≡ cond (eqb kind referenceByte) (m + 1) m ⌝ }
@@ -86,16 +87,17 @@ fn counted(kind: u8, m: usize) -> usize
     if kind == 0x03 { m + 1 } else { m }
 }
 
-pub fn order(bytes: &[u8]) -> Ordered
-    ensures { λ r. ⌜ r ≡ orderOf (now (bytes .entry)) ⌝ }
+// Whether the frames are a rule: after i of them, c conditions, k sums, and m references on the way.
+pub fn order(frames: &[u8]) -> Ordered
+    ensures { λ r. ⌜ r ≡ orderOf (now (frames .entry)) ⌝ }
 {
-    let n = bytes.len() / 8;
+    let n = frames.len() / frames::FRAME_BYTES;
     let mut i = 0;
     let mut c = 0;
     let mut k = 0;
     let mut m = 0;
     while i < n {
-        let x = frames::frame_at(bytes, i);
+        let x = frames::frame_at(frames, i);
         let next = frame_step(x, c, k);
         match next {
             Shape::Good(c2, k2) => {
@@ -117,14 +119,14 @@ pub fn order(bytes: &[u8]) -> Ordered
 }
 
 // How many references the frames have, whatever the bytes are.
-pub fn reference_count(bytes: &[u8]) -> usize
-    ensures { λ r. ⌜ r ≡ referenceCount (now (bytes .entry)) ⌝ }
+pub fn reference_count(frames: &[u8]) -> usize
+    ensures { λ r. ⌜ r ≡ referenceCount (now (frames .entry)) ⌝ }
 {
-    let n = bytes.len() / 8;
+    let n = frames.len() / frames::FRAME_BYTES;
     let mut m = 0;
     let mut i = 0;
     while i < n {
-        m = counted(bytes[i * 8], m);
+        m = counted(frames[i * frames::FRAME_BYTES], m);
         i += 1;
     }
     m

@@ -1,18 +1,22 @@
 // Refusal 8: magnitudes over 2^62, in one pass over frames that are a rule.
 use crate::frames;
 ghost use mathlib.Core.Path.{_≡_};
-ghost use Prim.Native.Nat.{_+_, _-_, _*_, _≤_, _<_};
+ghost use Prim.Native.Nat.{_+_, _*_, _≤_, _<_};
 ghost use lib.IntN.{natAbs};
 ghost use lib.ListN.{length};
+ghost use Rattle.rule.specs.Limits.{frameBytes, frameLimit};
 ghost use Rattle.rule.specs.Frames.{kindOf};
 ghost use Rattle.rule.specs.Order.{InOrder};
 ghost use Rattle.rule.specs.Sizes.{pushed, topped, sized, sizesFit};
 ghost use Rattle.rule.specs.Stack.{stackOf, loaded, capped, Ready, Bounded};
 
+// No magnitude exceeds 2^62.
 const LIMIT: u64 = 0x4000_0000_0000_0000;
 
+// The magnitude of i, 2^20.
 const INSTANCE: u64 = 0x10_0000;
 
+// The magnitude of a reference, 2^31.
 const REFERENCE: u64 = 0x8000_0000;
 
 // How many magnitudes the array holds, or that one is over the limit.
@@ -47,8 +51,8 @@ fn own(v: i32) -> u64
 
 // A magnitude onto the k that are below it. Called by the steps below.
 fn push(cells: &mut [u64; 64], k: usize, m: u64) -> Size
-    requires { ⌜ (length (now cells) ≡ 64) × (k < 64) ⌝ }
-    ensures kept { λ r. ⌜ length (now (cells .exit)) ≡ 64 ⌝ }
+    requires { ⌜ (length (now cells) ≡ frameLimit) × (k < frameLimit) ⌝ }
+    ensures kept { λ r. ⌜ length (now (cells .exit)) ≡ frameLimit ⌝ }
     ensures { λ r. ⌜ loaded (now (cells .exit)) r ≡ pushed m (stackOf 0 (now (cells .entry)) k) ⌝ }
 {
     if m <= LIMIT {
@@ -59,9 +63,10 @@ fn push(cells: &mut [u64; 64], k: usize, m: u64) -> Size
     }
 }
 
+// The two on top become one: their sum, their product. Called by size_step.
 fn sum_top(cells: &mut [u64; 64], k: usize) -> Size
-    requires { ⌜ (length (now cells) ≡ 64) × ((k < 64) × ((2 ≤ k) × Bounded (stackOf 0 (now cells) k))) ⌝ }
-    ensures kept { λ r. ⌜ length (now (cells .exit)) ≡ 64 ⌝ }
+    requires { ⌜ (length (now cells) ≡ frameLimit) × ((k < frameLimit) × ((2 ≤ k) × Bounded (stackOf 0 (now cells) k))) ⌝ }
+    ensures kept { λ r. ⌜ length (now (cells .exit)) ≡ frameLimit ⌝ }
     ensures { λ r. ⌜ loaded (now (cells .exit)) r ≡ topped _+_ (stackOf 0 (now (cells .entry)) k) ⌝ }
 {
     let a = cells[k - 2];
@@ -70,8 +75,8 @@ fn sum_top(cells: &mut [u64; 64], k: usize) -> Size
 }
 
 fn product_top(cells: &mut [u64; 64], k: usize) -> Size
-    requires { ⌜ (length (now cells) ≡ 64) × ((k < 64) × (2 ≤ k)) ⌝ }
-    ensures kept { λ r. ⌜ length (now (cells .exit)) ≡ 64 ⌝ }
+    requires { ⌜ (length (now cells) ≡ frameLimit) × ((k < frameLimit) × (2 ≤ k)) ⌝ }
+    ensures kept { λ r. ⌜ length (now (cells .exit)) ≡ frameLimit ⌝ }
     ensures { λ r. ⌜ loaded (now (cells .exit)) r ≡ topped _*_ (stackOf 0 (now (cells .entry)) k) ⌝ }
 {
     let a = cells[k - 2];
@@ -81,8 +86,8 @@ fn product_top(cells: &mut [u64; 64], k: usize) -> Size
 
 // One frame more. Called by sizes_fit, on frames that are a rule.
 fn size_step(kind: u8, value: i32, cells: &mut [u64; 64], k: usize) -> Size
-    requires { ⌜ (length (now cells) ≡ 64) × ((k < 64) × (Ready (kindOf kind) k × Bounded (stackOf 0 (now cells) k))) ⌝ }
-    ensures kept { λ r. ⌜ length (now (cells .exit)) ≡ 64 ⌝ }
+    requires { ⌜ (length (now cells) ≡ frameLimit) × ((k < frameLimit) × (Ready (kindOf kind) k × Bounded (stackOf 0 (now cells) k))) ⌝ }
+    ensures kept { λ r. ⌜ length (now (cells .exit)) ≡ frameLimit ⌝ }
     ensures { λ r. ⌜ loaded (now (cells .exit)) r ≡ sized (kindOf kind) value (stackOf 0 (now (cells .entry)) k) ⌝ }
 {
     match kind {
@@ -97,16 +102,16 @@ fn size_step(kind: u8, value: i32, cells: &mut [u64; 64], k: usize) -> Size
 }
 
 // Whether every magnitude is within the limit. Called by check, on frames that are a rule.
-pub fn sizes_fit(bytes: &[u8]) -> bool
-    requires { ⌜ InOrder (now bytes) × (length (now bytes) ≤ 512) ⌝ }
-    ensures { λ r. ⌜ r ≡ sizesFit (now (bytes .entry)) ⌝ }
+pub fn sizes_fit(frames: &[u8]) -> bool
+    requires { ⌜ InOrder (now frames) × (length (now frames) ≤ frameLimit * frameBytes) ⌝ }
+    ensures { λ r. ⌜ r ≡ sizesFit (now (frames .entry)) ⌝ }
 {
-    let n = bytes.len() / 8;
+    let n = frames.len() / frames::FRAME_BYTES;
     let mut cells = [0u64; 64];
     let mut k = 0;
     let mut i = 0;
     while i < n {
-        let x = frames::frame_at(bytes, i);
+        let x = frames::frame_at(frames, i);
         let size = size_step(x.kind, x.value, &mut cells, k);
         match size {
             Size::Fits(k2) => {

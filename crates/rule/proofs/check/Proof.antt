@@ -1,40 +1,30 @@
-use Rattle.rule.proofs.Whole.{true-whole}
-use Rattle.rule.proofs.Prefix.{place-le, fine-order}
-use Rattle.rule.specs.declared.order.Ordered.the-variants.{Fine, At}
-use Rattle.rule.specs.Check.{wholeFrames, checkedOf}
-use Rattle.rule.specs.Sizes.{sizesFit}
-use Rattle.rule.specs.Order.{orderOf}
-use Rattle.rule.specs.Frames.{frameCount}
-use borrow.Author.Tests.{eq-eqb, ne-eqb}
-use lib.ListN.{length}
-use lib.Dec.{eqb}
-use Prim.Native.Nat.{_≤_}
+-- `rule::check` meets its contract. Assumes nothing.
+use mathlib.Core.Path.{_≡_, sym, _∙_}
 use mathlib.Core.Bool.{true, false}
-use mathlib.Core.Path.{_≡_, refl, sym, ap, _∙_}
+use Prim.Native.Nat.{_≤_}
 use native.Mathlib.Omega.{arith}
+use lib.ListN.{length}
 use borrow.Author.Needs.{needs}
+use borrow.Author.Tests.{eq-eqb, ne-eqb}
+use Rattle.rule.specs.Frames.{frameCount}
+use Rattle.rule.specs.Order.{orderOf}
+use Rattle.rule.specs.Sizes.{sizesFit}
+use Rattle.rule.specs.Check.{wholeFrames, checkedOf}
+use Rattle.rule.specs.declared.order.Ordered.the-variants.{Fine, At}
+use Rattle.rule.proofs.Prefix.{place-le, fine-order}
+use Rattle.rule.proofs.Whole.{true-whole}
 use Rattle.rule.proofs.check.Statement.{statement}
 use Rattle.rule.proofs.check.Tie as tie
-use Rattle.rule.proofs.check.Reads as reads
-use Rattle.rule.proofs.check.Lts as lts
-use Rattle.rule.proofs.order.order.Reads as order-reads
-use Rattle.rule.proofs.refuse.Reads as refuse-reads
-use Rattle.rule.proofs.sizes.sizes_fit.Reads as sizes-fit-reads
-use Rattle.rule.proofs.whole_frames.Reads as whole-frames-reads
 
--- src/lib.rt:48:8
 whole-frames-requires : tie.Need-whole-frames-requires
 whole-frames-requires c κs = search needs
 
--- src/lib.rt:49:13
 order-requires : tie.Need-order-requires
 order-requires c κs = search needs
 
--- src/lib.rt:51:25
 enum-known-found : tie.Need-enum-known-found
 enum-known-found c = search needs
 
--- src/lib.rt:51:42
 cast-refuse : tie.Need-cast-refuse
 cast-refuse c =
     let s = c .before .before .before .before .before .before .before .args .frames .now in
@@ -45,19 +35,15 @@ cast-refuse c =
     let n : length s ≤ 512 = true-whole (length s) w .most in
     record { fits = omega arith }
 
--- src/lib.rt:51:31
 refuse-requires : tie.Need-refuse-requires
 refuse-requires c κs = search needs
 
--- src/lib.rt:52:27
 enum-known-found-2 : tie.Need-enum-known-found-2
 enum-known-found-2 c = search needs
 
--- src/lib.rt:54:21
 refuse-requires-2 : tie.Need-refuse-requires-2
 refuse-requires-2 c κs = search needs
 
--- src/lib.rt:55:27
 sizes-fit-requires : tie.Need-sizes-fit-requires
 sizes-fit-requires c κs =
     let s = c .before .before .before .before .before .before .before .before .args .frames .now in
@@ -66,15 +52,12 @@ sizes-fit-requires c κs =
     let o : orderOf s ≡ Fine m = sym (c .before .before .before .before .order .ensures) ∙ c .before .before .found2 .given .1 in
     (fine-order s m o, true-whole (length s) w .most)
 
--- src/lib.rt:58:21
 refuse-requires-3 : tie.Need-refuse-requires-3
 refuse-requires-3 c κs = search needs
 
--- src/lib.rt:63:9
 refuse-requires-4 : tie.Need-refuse-requires-4
 refuse-requires-4 c κs = search needs
 
--- src/lib.rt:45:1
 returns : tie.Need-returns
 unfolding checkedOf
 returns c =
@@ -84,7 +67,6 @@ returns c =
     let o : orderOf s ≡ At p = sym (c .before .before .before .before .order .ensures) ∙ c .before .before .found .given .1 in
     rw (w, o) (c .refuse .ensures)
 
--- src/lib.rt:45:1
 returns-2 : tie.Need-returns-2
 unfolding checkedOf
 returns-2 c =
@@ -94,7 +76,6 @@ returns-2 c =
     let o : orderOf s ≡ Fine m = sym (c .before .before .before .before .before .order .ensures) ∙ c .before .before .before .found2 .given .1 in
     rw (w, o, eq-eqb m 0 (c .before .if2 .taken)) (c .refuse2 .ensures)
 
--- src/lib.rt:45:1
 returns-3 : tie.Need-returns-3
 unfolding checkedOf
 returns-3 c =
@@ -105,7 +86,6 @@ returns-3 c =
     let z : sizesFit s ≡ true = sym (c .before .sizes-fit .ensures) ∙ c .if3 .taken in
     rw (w, o, ne-eqb m 0 (c .before .before .if2 .left), z)
 
--- src/lib.rt:45:1
 returns-4 : tie.Need-returns-4
 unfolding checkedOf
 returns-4 c =
@@ -116,7 +96,6 @@ returns-4 c =
     let z : sizesFit s ≡ false = sym (c .before .before .sizes-fit .ensures) ∙ c .before .if3 .left in
     rw (w, o, ne-eqb m 0 (c .before .before .before .if2 .left), z) (c .refuse3 .ensures)
 
--- src/lib.rt:45:1
 returns-5 : tie.Need-returns-5
 unfolding checkedOf
 returns-5 c =

@@ -1,84 +1,61 @@
-use borrow.Author.Needs.{sfits-of}
-use mir.ValLaws.{toZ-ofZ}
+-- `rule::frames::frame_at` meets its contract. Assumes nothing.
+use borrow.Author.Needs.{sfits-of, needs}
 use mir.Syntax.{w32}
-use mathlib.Core.Path.{_≡_, refl, sym, ap, _∙_}
-use native.Mathlib.Omega.{arith}
-use borrow.Author.Needs.{needs}
+use mir.ValLaws.{toZ-ofZ}
 use Rattle.rule.proofs.frames.frame_at.Statement.{statement}
 use Rattle.rule.proofs.frames.frame_at.Tie as tie
-use Rattle.rule.proofs.frames.frame_at.Reads as reads
-use Rattle.rule.proofs.frames.frame_at.Lts as lts
-use Rattle.numbers.proofs.word.Reads as word-reads
 
--- src/frames.rt:22:14
 mul-at : tie.Need-mul-at
 mul-at c = search needs
 
--- src/frames.rt:23:38
 add-word : tie.Need-add-word
 add-word c = search needs
 
--- src/frames.rt:23:31
 shared-slice-read-word : tie.Need-shared-slice-read-word
 shared-slice-read-word c = search needs
 
--- src/frames.rt:23:54
 add-word-2 : tie.Need-add-word-2
 add-word-2 c = search needs
 
--- src/frames.rt:23:47
 shared-slice-read-word-2 : tie.Need-shared-slice-read-word-2
 shared-slice-read-word-2 c = search needs
 
--- src/frames.rt:23:70
 add-word-3 : tie.Need-add-word-3
 add-word-3 c = search needs
 
--- src/frames.rt:23:63
 shared-slice-read-word-3 : tie.Need-shared-slice-read-word-3
 shared-slice-read-word-3 c = search needs
 
--- src/frames.rt:23:86
 add-word-4 : tie.Need-add-word-4
 add-word-4 c = search needs
 
--- src/frames.rt:23:79
 shared-slice-read-word-4 : tie.Need-shared-slice-read-word-4
 shared-slice-read-word-4 c = search needs
 
--- src/frames.rt:23:9
 word-requires : tie.Need-word-requires
 word-requires c κs = search needs
 
--- src/frames.rt:25:15
 shared-slice-read-t7 : tie.Need-shared-slice-read-t7
 shared-slice-read-t7 c = search needs
 
--- src/frames.rt:26:23
 add-t5 : tie.Need-add-t5
 add-t5 c = search needs
 
--- src/frames.rt:26:16
 shared-slice-read-t16 : tie.Need-shared-slice-read-t16
 shared-slice-read-t16 c = search needs
 
--- src/frames.rt:27:22
 add-t14 : tie.Need-add-t14
 add-t14 c = search needs
 
--- src/frames.rt:27:15
 shared-slice-read-t13 : tie.Need-shared-slice-read-t13
 shared-slice-read-t13 c = search needs
 
--- src/frames.rt:28:24
 add-t11 : tie.Need-add-t11
 add-t11 c = search needs
 
--- src/frames.rt:28:17
 shared-slice-read-t10 : tie.Need-shared-slice-read-t10
 shared-slice-read-t10 c = search needs
 
--- src/frames.rt:18:1
 returns : tie.Need-returns
 returns c = rw (toZ-ofZ w32 (c .before .before .before .before .word .result) (sfits-of (c .before .before .before .before .word .ok)), c .before .before .before .before .word .ensures)
 

@@ -1,29 +1,21 @@
-use lib.Dec.{leb, eqb, ltb}
-use lib.IntN.{ℤ, natAbs}
-use borrow.Author.Needs.{sfits-of}
-use mir.ValLaws.{toZ-ofZ}
-use mir.Syntax.{w32}
-use Rattle.rule.specs.Frames.{unused}
+-- `rule::frames::of_bare` meets its contract. Assumes nothing.
+use mathlib.Core.Path.{ap, _∙_}
 use mathlib.Core.Bool.{Bool, _&&_}
-use mathlib.Core.Path.{_≡_, refl, sym, ap, _∙_}
-use native.Mathlib.Omega.{arith}
-use borrow.Author.Needs.{needs}
+use lib.Dec.{eqb}
+use lib.IntN.{ℤ, natAbs}
+use borrow.Author.Needs.{sfits-of, needs}
+use mir.Syntax.{w32}
+use mir.ValLaws.{toZ-ofZ}
+use Rattle.rule.specs.Frames.{unused}
 use Rattle.rule.proofs.frames.of_bare.Statement.{statement}
 use Rattle.rule.proofs.frames.of_bare.Tie as tie
-use Rattle.rule.proofs.frames.of_bare.Reads as reads
-use Rattle.rule.proofs.frames.of_bare.Lts as lts
-use Rattle.rule.proofs.frames.no_operand.Reads as no-operand-reads
-use Rattle.rule.proofs.frames.zero.Reads as zero-reads
 
--- src/frames.rt:66:5
 no-operand-requires : tie.Need-no-operand-requires
 no-operand-requires c κs = search needs
 
--- src/frames.rt:66:21
 zero-requires : tie.Need-zero-requires
 zero-requires c κs = search needs
 
--- src/frames.rt:63:1
 returns : tie.Need-returns
 returns c =
     let x = c .before .before .before .args .x in

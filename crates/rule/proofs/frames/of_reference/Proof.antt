@@ -1,23 +1,17 @@
-use lib.Dec.{leb, eqb, ltb}
+-- `rule::frames::of_reference` meets its contract. Assumes nothing.
+use mathlib.Core.Path.{ap, _∙_}
 use mathlib.Core.Bool.{Bool, _&&_}
+use lib.Dec.{leb, ltb}
 use lib.IntN.{ℤ, natAbs}
-use borrow.Author.Needs.{sfits-of}
-use mir.ValLaws.{toZ-ofZ}
+use borrow.Author.Needs.{sfits-of, needs}
 use mir.Syntax.{w32}
-use mathlib.Core.Path.{_≡_, refl, sym, ap, _∙_}
-use native.Mathlib.Omega.{arith}
-use borrow.Author.Needs.{needs}
+use mir.ValLaws.{toZ-ofZ}
 use Rattle.rule.proofs.frames.of_reference.Statement.{statement}
 use Rattle.rule.proofs.frames.of_reference.Tie as tie
-use Rattle.rule.proofs.frames.of_reference.Reads as reads
-use Rattle.rule.proofs.frames.of_reference.Lts as lts
-use Rattle.rule.proofs.frames.near.Reads as near-reads
 
--- src/frames.rt:60:90
 near-requires : tie.Need-near-requires
 near-requires c κs = search needs
 
--- src/frames.rt:57:1
 returns : tie.Need-returns
 returns c =
     let x = c .before .before .before .before .before .before .args .x in

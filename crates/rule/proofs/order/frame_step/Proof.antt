@@ -1,31 +1,23 @@
+-- `rule::order::frame_step` meets its contract. Assumes nothing.
+use mathlib.Core.Path.{_≡_, sym, _∙_}
 use mathlib.Core.Bool.{true, false}
-use Rattle.rule.specs.Frames.{kindOf, fieldsOf}
-use mathlib.Core.Path.{_≡_, refl, sym, ap, _∙_}
-use native.Mathlib.Omega.{arith}
 use borrow.Author.Needs.{needs}
+use Rattle.rule.specs.Frames.{kindOf, fieldsOf}
 use Rattle.rule.proofs.order.frame_step.Statement.{statement}
 use Rattle.rule.proofs.order.frame_step.Tie as tie
-use Rattle.rule.proofs.order.frame_step.Reads as reads
-use Rattle.rule.proofs.order.frame_step.Lts as lts
-use Rattle.rule.proofs.frames.fields.Reads as fields-reads
-use Rattle.rule.proofs.order.step.Reads as step-reads
 
--- src/order.rt:74:8
 fields-requires : tie.Need-fields-requires
 fields-requires c κs = search needs
 
--- src/order.rt:75:9
 step-requires : tie.Need-step-requires
 step-requires c κs = search needs
 
--- src/order.rt:70:1
 returns : tie.Need-returns
 returns c =
     let x = c .before .before .before .args .x in
     let t : fieldsOf (kindOf (x .kind)) x ≡ true = sym (c .before .before .fields .ensures) ∙ c .before .if1 .taken in
     rw t (c .step .ensures)
 
--- src/order.rt:70:1
 returns-2 : tie.Need-returns-2
 returns-2 c =
     let x = c .before .before .args .x in

@@ -1,62 +1,51 @@
-use Rattle.rule.proofs.Prefix.{count-next, count-le}
-use Rattle.rule.specs.References.{referencesTo, oneMore, referenceCount}
-use Rattle.rule.specs.Frames.{frameCount}
-use lib.ListN.{length}
-use Prim.Native.Nat.{_≤_, _-_, _/_, _+_, _*_}
-use mathlib.Core.Path.{_≡_, refl, sym, ap, _∙_}
-use borrow.Author.Needs.{needs}
+-- `rule::order::reference_count` meets its contract. Assumes nothing.
+use mathlib.Core.Path.{_≡_, refl, sym}
+use Prim.Native.Nat.{_≤_, _-_}
 use native.Mathlib.Omega.{arith}
+use borrow.Author.Needs.{needs}
+use Rattle.rule.specs.Frames.{frameCount}
+use Rattle.rule.specs.References.{referencesTo, oneMore, referenceCount}
+use Rattle.rule.proofs.Prefix.{count-next, count-le}
 use Rattle.rule.proofs.order.reference_count.Statement.{statement}
 use Rattle.rule.proofs.order.reference_count.Tie as tie
-use Rattle.rule.proofs.order.reference_count.Reads as reads
-use Rattle.rule.proofs.order.reference_count.Lts as lts
-use Rattle.rule.proofs.order.counted.Reads as counted-reads
 
 abbrev Inv-loop : tie.InvT-loop
-Inv-loop bytes n m₀ i₀ m i = (i ≤ n) × (referencesTo oneMore bytes 0 i ≡ m)
+Inv-loop frames n m₀ i₀ m i = (i ≤ n) × (referencesTo oneMore frames 0 i ≡ m)
 
 abbrev μ-loop : tie.MeasureT-loop
-μ-loop bytes n m₀ i₀ m i = n - i
+μ-loop frames n m₀ i₀ m i = n - i
 
--- src/order.rt:126:5
 loop-holds : tie.Need-loop-holds Inv-loop μ-loop
 loop-holds c = (search needs, refl)
 
--- src/order.rt:127:27
 mul-counted : tie.Need-mul-counted Inv-loop μ-loop
 mul-counted c = omega arith
 
--- src/order.rt:127:21
 shared-slice-read-counted : tie.Need-shared-slice-read-counted Inv-loop μ-loop
 shared-slice-read-counted c = omega arith
 
--- src/order.rt:127:9
 counted-requires : tie.Need-counted-requires Inv-loop μ-loop
 counted-requires c κs =
     let l = c .before .before .loop in
-    let h = count-le (c .before .before .before .before .args .bytes .now) (l .i) in
+    let h = count-le (c .before .before .before .before .args .frames .now) (l .i) in
     omega (arith, h, l .inv .1)
 
--- src/order.rt:128:9
 add-i : tie.Need-add-i Inv-loop μ-loop
 add-i c = omega arith
 
--- src/order.rt:126:5
 loop-less : tie.Need-loop-less Inv-loop μ-loop
 loop-less c = omega arith
 
--- src/order.rt:126:5
 loop-again : tie.Need-loop-again Inv-loop μ-loop
 loop-again c =
     let l = c .before .before .before .loop in
-    (omega arith, count-next (c .before .before .before .before .before .args .bytes .now) (l .i) (l .m) (l .inv .1) _ refl (c .counted .result) (c .counted .ensures))
+    (omega arith, count-next (c .before .before .before .before .before .args .frames .now) (l .i) (l .m) (l .inv .1) _ refl (c .counted .result) (c .counted .ensures))
 
--- src/order.rt:120:1
 returns : tie.Need-returns Inv-loop μ-loop
 unfolding referenceCount
 returns c =
     let l = c .before .loop in
-    let s = c .before .before .before .args .bytes .now in
+    let s = c .before .before .before .args .frames .now in
     let e : l .i ≡ frameCount s = omega arith in
     sym (rw e at (l .inv .1))
 

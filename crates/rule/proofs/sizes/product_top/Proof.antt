@@ -1,56 +1,43 @@
-use Rattle.rule.proofs.Magnitudes.{pushed-capped}
-use Rattle.rule.proofs.Stack.{stack-two}
-use Rattle.rule.specs.Stack.{stackOf}
-use Rattle.rule.specs.Sizes.{pushed, topped}
-use lib.ListN.{getD}
-use Prim.Native.Nat.{ℕ, _≤_, _<_, _-_, _/_, _+_, _*_, _^_}
-use mathlib.Core.Path.{_≡_, refl, sym, ap, _∙_, subst}
+-- `rule::sizes::product_top` meets its contract. Assumes nothing.
+use mathlib.Core.Path.{sym, ap, _∙_}
+use Prim.Native.Nat.{ℕ, _-_, _*_}
 use native.Mathlib.Omega.{arith}
+use lib.ListN.{getD}
 use borrow.Author.Needs.{needs}
+use Rattle.rule.specs.Sizes.{pushed, topped}
+use Rattle.rule.specs.Stack.{stackOf}
+use Rattle.rule.proofs.Stack.{stack-two}
+use Rattle.rule.proofs.Magnitudes.{pushed-capped}
 use Rattle.rule.proofs.sizes.product_top.Statement.{statement}
 use Rattle.rule.proofs.sizes.product_top.Tie as tie
-use Rattle.rule.proofs.sizes.product_top.Reads as reads
-use Rattle.rule.proofs.sizes.product_top.Lts as lts
-use Rattle.rule.proofs.sizes.push.Reads as push-reads
-use Rattle.rule.proofs.sizes.times.Reads as times-reads
 
--- src/sizes.rt:73:19
 sub-a : tie.Need-sub-a
 sub-a c = search needs
 
--- src/sizes.rt:73:13
 mul-a : tie.Need-mul-a
 mul-a c = search needs
 
--- src/sizes.rt:73:13
 element-copy-out-a : tie.Need-element-copy-out-a
 element-copy-out-a c = search needs
 
--- src/sizes.rt:74:19
 sub-b : tie.Need-sub-b
 sub-b c = search needs
 
--- src/sizes.rt:74:13
 mul-b : tie.Need-mul-b
 mul-b c = search needs
 
--- src/sizes.rt:74:13
 element-copy-out-b : tie.Need-element-copy-out-b
 element-copy-out-b c = search needs
 
--- src/sizes.rt:75:17
 sub-push : tie.Need-sub-push
 sub-push c = search needs
 
--- src/sizes.rt:75:24
 times-requires : tie.Need-times-requires
 times-requires c κs = search needs
 
--- src/sizes.rt:75:5
 push-requires : tie.Need-push-requires
 push-requires c κs = search needs
 
--- src/sizes.rt:68:1
 returns : tie.Need-returns
 returns c =
     let a = c .before .before .before .before .before .args in

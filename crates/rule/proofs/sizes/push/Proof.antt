@@ -1,30 +1,25 @@
-use Rattle.rule.proofs.Stack.{stack-push}
-use Rattle.rule.specs.Sizes.{fits}
-use Rattle.rule.specs.Limits.{magnitudeLimit}
-use lib.ListN.{length, length-set}
-use borrow.Author.Tests.{le-leb, lt-leb}
-use Prim.Native.Nat.{ℕ, _≤_, _<_, _-_, _/_, _+_, _*_, _^_}
-use mathlib.Core.Path.{_≡_, refl, sym, ap, _∙_, subst}
+-- `rule::sizes::push` meets its contract. Assumes nothing.
+use mathlib.Core.Path.{ap, _∙_}
+use Prim.Native.Nat.{_-_}
 use native.Mathlib.Omega.{arith}
+use lib.ListN.{length-set}
 use borrow.Author.Needs.{needs}
+use borrow.Author.Tests.{le-leb, lt-leb}
+use Rattle.rule.specs.Limits.{magnitudeLimit}
+use Rattle.rule.specs.Sizes.{fits}
+use Rattle.rule.proofs.Stack.{stack-push}
 use Rattle.rule.proofs.sizes.push.Statement.{statement}
 use Rattle.rule.proofs.sizes.push.Tie as tie
-use Rattle.rule.proofs.sizes.push.Reads as reads
-use Rattle.rule.proofs.sizes.push.Lts as lts
 
--- src/sizes.rt:51:9
 mul-cells : tie.Need-mul-cells
 mul-cells c = search needs
 
--- src/sizes.rt:51:9
 element-write-cells : tie.Need-element-write-cells
 element-write-cells c = search needs
 
--- src/sizes.rt:52:20
 add-t6 : tie.Need-add-t6
 add-t6 c = search needs
 
--- src/sizes.rt:45:1
 returns : tie.Need-returns
 returns c =
     let a = c .before .args in (
@@ -32,7 +27,6 @@ returns c =
       rw (le-leb (a .m) magnitudeLimit (c .if1 .taken)) (ap fits (stack-push 0 (a .cells .now) (a .k) (a .m) (omega arith))),
     )
 
--- src/sizes.rt:45:1
 returns-2 : tie.Need-returns-2
 returns-2 c = (c .before .pre .0, rw (lt-leb (c .before .args .m) magnitudeLimit (c .if1 .left)))
 

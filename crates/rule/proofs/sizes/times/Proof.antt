@@ -1,42 +1,34 @@
-use Rattle.rule.specs.Limits.{magnitudeLimit}
+-- `rule::sizes::times` meets its contract. Assumes nothing.
+use Prim.Native.Nat.{_≤_, _<_, _-_, _*_}
 use native.Mathlib.Nat.{mul-zero, le-div-iff-mul-le, div-lt-iff-lt-mul}
-use borrow.Author.Tests.{le-leb, lt-leb}
-use Prim.Native.Nat.{ℕ, _≤_, _<_, _-_, _/_, _+_, _*_, _^_}
-use mathlib.Core.Path.{_≡_, refl, sym, ap, _∙_, subst}
 use native.Mathlib.Omega.{arith}
 use borrow.Author.Needs.{needs}
+use borrow.Author.Tests.{le-leb, lt-leb}
+use Rattle.rule.specs.Limits.{magnitudeLimit}
 use Rattle.rule.proofs.sizes.times.Statement.{statement}
 use Rattle.rule.proofs.sizes.times.Tie as tie
-use Rattle.rule.proofs.sizes.times.Reads as reads
-use Rattle.rule.proofs.sizes.times.Lts as lts
 
--- src/sizes.rt:30:20
 div-if2 : tie.Need-div-if2
 div-if2 c = search needs
 
--- src/sizes.rt:31:9
 mul-result : tie.Need-mul-result
 mul-result c =
     let a = c .before .before .args in
     let h : a .a * a .b ≤ magnitudeLimit = le-div-iff-mul-le {k = a .b} (omega arith) .0 (c .if2 .taken) in
     omega arith
 
--- src/sizes.rt:33:9
 add-result : tie.Need-add-result
 add-result c = search needs
 
--- src/sizes.rt:25:1
 returns : tie.Need-returns
 returns c = rw (c .if1 .taken, mul-zero)
 
--- src/sizes.rt:25:1
 returns-2 : tie.Need-returns-2
 returns-2 c =
     let a = c .before .before .args in
     let h : a .a * a .b ≤ magnitudeLimit = le-div-iff-mul-le {k = a .b} (omega arith) .0 (c .if2 .taken) in
     rw (le-leb (a .a * a .b) magnitudeLimit h)
 
--- src/sizes.rt:25:1
 returns-3 : tie.Need-returns-3
 returns-3 c =
     let a = c .before .before .args in

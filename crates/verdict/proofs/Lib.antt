@@ -1,0 +1,13 @@
+pub mod Tables
+pub mod Own
+pub mod Stays
+pub mod Numbers
+pub mod Meanings
+pub mod ByKind
+pub mod Built
+pub mod Bounds
+pub mod Loop
+pub mod Mirror
+pub mod Means
+pub mod Marked
+pub mod Main

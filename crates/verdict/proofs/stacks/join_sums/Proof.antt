@@ -1,0 +1,96 @@
+-- `verdict::stacks::join_sums` meets its contract. Assumes nothing.
+use mathlib.Core.Path.{_≡_, sym, ap, _∙_}
+use Prim.Native.Nat.{_-_}
+use native.Mathlib.Omega.{arith}
+use borrow.Author.Needs.{sfits-of, needs}
+use lib.IntN.{ℤ, pos}
+use lib.ListN.{getD, set, length-set}
+use mir.ValLaws.{toZ-ofZ}
+use mir.Syntax.{w64}
+use mir.Val.{toZ, ofZ}
+use Rattle.rule.specs.Frames.{kindOf}
+use Rattle.rule.specs.Build.{top2}
+use Rattle.rule.specs.Stack.{stackOf}
+use Rattle.rule.proofs.Stack.{stack-two, stack-fold}
+use Rattle.verdict.specs.Stacks.{computedBy}
+use Rattle.verdict.proofs.Numbers.{small-fits}
+use Rattle.verdict.proofs.stacks.join_sums.Statement.{statement}
+use Rattle.verdict.proofs.stacks.join_sums.Tie as tie
+
+sub-a : tie.Need-sub-a
+sub-a c = search needs
+
+mul-a : tie.Need-mul-a
+mul-a c = search needs
+
+element-copy-out-a : tie.Need-element-copy-out-a
+element-copy-out-a c = search needs
+
+sub-b : tie.Need-sub-b
+sub-b c = search needs
+
+mul-b : tie.Need-mul-b
+mul-b c = search needs
+
+element-copy-out-b : tie.Need-element-copy-out-b
+element-copy-out-b c = search needs
+
+compute-requires : tie.Need-compute-requires
+compute-requires c κs =
+    let st = c .before .before in
+    let s = st .args .sums .now in
+    let k = st .args .k in
+    let b = rw (stack-two (pos 0) s k (omega arith)) at (st .pre .1 .1 .1 .1 .1) in (
+      st .pre .1 .1 .1 .0,
+      (
+        st .pre .1 .1 .1 .1 .0,
+        rw (toZ-ofZ w64 (getD s (k - 2) (pos 0)) (sfits-of (c .before .a .given)), toZ-ofZ w64 (getD s (k - 1) (pos 0)) (sfits-of (c .b .given)))
+            (small-fits _ (b .0)),
+      ),
+    )
+
+sub-v : tie.Need-sub-v
+sub-v c = search needs
+
+mul-v : tie.Need-mul-v
+mul-v c = search needs
+
+element-set-from-v : tie.Need-element-set-from-v
+element-set-from-v c = search needs
+
+sub-result : tie.Need-sub-result
+sub-result c = search needs
+
+returns : tie.Need-returns
+returns c =
+    let st = c .before .before .before in
+    let s = st .args .sums .now in
+    let k = st .args .k in
+    let f = computedBy (kindOf (st .args .kind)) in
+    let x = getD s (k - 2) (pos 0) in
+    let y = getD s (k - 1) (pos 0) in
+    let e : toZ w64 (ofZ w64 (c .compute .result)) ≡ f x y =
+    toZ-ofZ w64 (c .compute .result) (sfits-of (c .compute .ok)) ∙ c .compute .ensures
+    ∙ rw (toZ-ofZ w64 x (sfits-of (c .before .before .a .given)), toZ-ofZ w64 y (sfits-of (c .before .b .given))) in (
+      length-set s (k - 2) (toZ w64 (ofZ w64 (c .compute .result))) ∙ st .pre .0,
+      ap (λ (v : ℤ). stackOf (pos 0) (set s (k - 2) v) (k - 1)) e
+          ∙ stack-fold (pos 0) s k (f x y) (omega arith) (omega arith)
+          ∙ ap (top2 f) (sym (stack-two (pos 0) s k (omega arith))),
+    )
+
+pub join-sums-spec : {M : Type 1} → statement M
+join-sums-spec =
+    tie.close
+    (tie.spec
+    sub-a
+    mul-a
+    element-copy-out-a
+    sub-b
+    mul-b
+    element-copy-out-b
+    compute-requires
+    sub-v
+    mul-v
+    element-set-from-v
+    sub-result
+    returns)
