@@ -103,22 +103,22 @@ both-fresh frames w b e =
     let h = whole-length frames b e in
     record {
       inv =
-        record {
-          few = λ e. omega arith;
-          room = λ e q. omega arith;
-          empty = λ e q. refl;
-          low = omega arith;
-          sum = refl;
-        };
+          record {
+            few = λ e. omega arith;
+            room = λ e q. omega arith;
+            empty = λ e q. refl;
+            low = omega arith;
+            sum = refl;
+          };
       sim =
-        record {
-          rule = take-at frames (replicate (frameLimit * frameBytes - length frames) 0) (length frames / frameBytes * frameBytes) (h .0);
-          len = le-leb (length frames / frameBytes) frameLimit (h .1);
-          width = refl;
-          tally = refl;
-          long = length-replicate (windowWords w) (pos 0);
-          live = λ e k n he hb hk hn. absurd (omega arith);
-        };
+          record {
+            rule = take-at frames (replicate (frameLimit * frameBytes - length frames) 0) (length frames / frameBytes * frameBytes) (h .0);
+            len = le-leb (length frames / frameBytes) frameLimit (h .1);
+            width = refl;
+            tally = refl;
+            long = length-replicate (windowWords w) (pos 0);
+            live = λ e k n he hb hk hn. absurd (omega arith);
+          };
     }
 
 module _ {frames : List ℕ} {w : ℕ} {win : List ℤ} (o : Unrefused frames w win) where

@@ -39,12 +39,12 @@ unfolding lineOf feedEvent
 line-number s refs w t =
     cond-case (λ (l : Told). Late (feedAnswer (feedRead refs w t l))) (isLine s) (log.line (byteAt s 0) (noteAt s 0) (noteAt s 1) (noteAt s 2) (noteAt s 3)) (log.refused 15 (badPlace s))
     (λ _. cond-case (λ (f : FeedRead). Late (feedAnswer f)) (referenced refs (byteAt s 0)) _ _
-      (λ _. cond-case (λ (f : FeedRead). Late (feedAnswer f)) (leb lineLimit (countOf t (byteAt s 0))) _ _
-        (λ _. (λ q. omega (arith, q), λ q. omega (arith, q)))
-        (λ _. cond-case (λ (f : FeedRead). Late (feedAnswer f)) (leb (base refs (byteAt s 0) (t .next) + w) (countOf t (byteAt s 0))) _ _
-          (λ _. (λ q. omega (arith, q), λ q. omega (arith, q)))
-          (λ _. (λ q. omega (arith, q), λ q. omega (arith, q)))))
-      (λ _. (λ q. omega (arith, q), λ q. omega (arith, q))))
+    (λ _. cond-case (λ (f : FeedRead). Late (feedAnswer f)) (leb lineLimit (countOf t (byteAt s 0))) _ _
+    (λ _. (λ q. omega (arith, q), λ q. omega (arith, q)))
+    (λ _. cond-case (λ (f : FeedRead). Late (feedAnswer f)) (leb (base refs (byteAt s 0) (t .next) + w) (countOf t (byteAt s 0))) _ _
+    (λ _. (λ q. omega (arith, q), λ q. omega (arith, q)))
+    (λ _. (λ q. omega (arith, q), λ q. omega (arith, q)))))
+    (λ _. (λ q. omega (arith, q), λ q. omega (arith, q))))
     (λ _. (λ q. omega (arith, q), λ q. omega (arith, q)))
 
 pull-number : (x : PullRead) → Late (pullAnswer x)

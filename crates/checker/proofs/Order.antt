@@ -49,9 +49,11 @@ swap-two a b rest e h = go (eqb e (a .event)) (eqb e (b .event)) refl refl
 reordered-more : (xs ys : List Entry) → Reordered xs ys → MoreLines (linesIn xs) (linesIn ys)
 reordered-more _ _ (same es) = more-refl (linesIn es)
 reordered-more _ _ (later es more) = λ e. (linesIn more e, sym (lines-append es more e))
-reordered-more _ _ (swapped front a b rest h) = λ e.
-    ([], append-nil (linesIn (front ++ (a ∷ (b ∷ rest))) e)
-    ∙ lines-append front (a ∷ (b ∷ rest)) e ∙ ap (λ (l : List (List ℤ)). linesIn front e ++ l) (swap-two a b rest e h) ∙ sym (lines-append front (b ∷ (a ∷ rest)) e))
+reordered-more _ _ (swapped front a b rest h) = λ e. (
+  [],
+  append-nil (linesIn (front ++ (a ∷ (b ∷ rest))) e)
+      ∙ lines-append front (a ∷ (b ∷ rest)) e ∙ ap (λ (l : List (List ℤ)). linesIn front e ++ l) (swap-two a b rest e h) ∙ sym (lines-append front (b ∷ (a ∷ rest)) e),
+)
 reordered-more _ _ (then es fs gs p q) = more-trans (linesIn es) (linesIn fs) (linesIn gs) (reordered-more es fs p) (reordered-more fs gs q)
 
 -- ---- the machine's lists are the accepted lines, event by event

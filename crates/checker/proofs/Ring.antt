@@ -38,18 +38,18 @@ rows-apart w e f j k hw h q =
     ⊎-elim
     (λ (l : e < f). omega (arith, mod-lt k hw, row-bound w e f l))
     (λ (l : f ≤ e). ⊎-elim
-      (λ (m : f < e). omega (arith, mod-lt j hw, row-bound w f e m))
-      (λ (m : e ≤ f). h (omega arith))
-      (less-or f e))
+    (λ (m : f < e). omega (arith, mod-lt j hw, row-bound w f e m))
+    (λ (m : e ≤ f). h (omega arith))
+    (less-or f e))
     (less-or e f)
 
 -- ---- four words at a place
 abbrev four : List ℤ → ℕ → List ℤ → List ℤ
 four win a notes =
     set (set (set (set win (a + 0) (getD notes 0 (pos 0)))
-      (a + 1) (getD notes 1 (pos 0)))
-      (a + 2) (getD notes 2 (pos 0)))
-      (a + 3) (getD notes 3 (pos 0))
+    (a + 1) (getD notes 1 (pos 0)))
+    (a + 2) (getD notes 2 (pos 0)))
+    (a + 3) (getD notes 3 (pos 0))
 
 length-four : (win : List ℤ) (a : ℕ) (notes : List ℤ) → length (four win a notes) ≡ length win
 length-four win a notes = simp length-set

@@ -109,10 +109,10 @@ took refs w t (log.refused number place) = tt
 took refs w t (log.line e n₀ n₁ n₂ n₃) =
     cond-case (Took refs w t) (referenced refs e) _ _
     (λ q. cond-case (Took refs w t) (leb lineLimit (countOf t e)) _ _
-      (λ _. tt)
-      (λ a. cond-case (Took refs w t) (leb (base refs e (t .next) + w) (countOf t e)) _ _
-        (λ _. tt)
-        (λ b. (q, leb-false lineLimit (countOf t e) a, leb-false (base refs e (t .next) + w) (countOf t e) b))))
+    (λ _. tt)
+    (λ a. cond-case (Took refs w t) (leb (base refs e (t .next) + w) (countOf t e)) _ _
+    (λ _. tt)
+    (λ b. (q, leb-false lineLimit (countOf t e) a, leb-false (base refs e (t .next) + w) (countOf t e) b))))
     (λ _. tt)
 
 -- ---- a line is taken: the machine
@@ -154,7 +154,7 @@ inv-joined refs w m e notes i r h₁ h₂ =
     record {
       few = λ f. ⊎-elim (λ (q : f ≡ e). rw (q, length-same m e notes) (omega arith)) (λ (q : f ≢ e). rw (list-other m e f notes q) (i .few f)) (same-or f e);
       room = λ f g. rw (joined-next m e notes)
-        (⊎-elim (λ (q : f ≡ e). rw (q, length-same m e notes) (omega arith)) (λ (q : f ≢ e). rw (list-other m e f notes q) (i .room f g)) (same-or f e));
+          (⊎-elim (λ (q : f ≡ e). rw (q, length-same m e notes) (omega arith)) (λ (q : f ≢ e). rw (list-other m e f notes q) (i .room f g)) (same-or f e));
       empty = λ f g. ⊎-elim (λ (q : f ≡ e). absurd (true-false (sym r ∙ ap (referenced refs) (sym q) ∙ g))) (λ (q : f ≢ e). rw (list-other m e f notes q) (i .empty f g)) (same-or f e);
       low = unfold joined in i .low;
       sum = unfold joined in i .sum;
@@ -168,23 +168,28 @@ module _ (refs : List Reference) (w : ℕ) (m : Machine) (words : List ℤ) (wid
     where
       B : ℕ
       B = base refs e (m .next)
+
       after : List ℤ
       after = kept words w e (base refs e (m .next)) (length (m .lists e)) notes
+
       old : k < length (m .lists e) → base refs e (m .next) ≤ k → getD (kept words w e (base refs e (m .next)) (length (m .lists e)) notes) (wordAt w e k n) (pos 0) ≡ getD (getD (m .lists e ++ (notes ∷ [])) k []) n (pos 0)
       old l b =
           kept-old w words notes wide e (base refs e (m .next)) (length (m .lists e)) k n l (omega arith) hn
           ∙ live e k n he b l hn
           ∙ ap (λ (x : List ℤ). getD x n (pos 0)) (sym (List·getD-append (m .lists e) (notes ∷ []) [] k l))
+
       new : k ≡ length (m .lists e) → base refs e (m .next) ≤ k → getD (kept words w e (base refs e (m .next)) (length (m .lists e)) notes) (wordAt w e k n) (pos 0) ≡ getD (getD (m .lists e ++ (notes ∷ [])) k []) n (pos 0)
       new q b =
           rw q
           (kept-new w words notes wide e (base refs e (m .next)) (length (m .lists e)) n he (omega arith) hn long
           ∙ ap (λ (x : List ℤ). getD x n (pos 0)) (sym (getD-append-seam (m .lists e) notes [] [])))
+
       same : f ≡ e → getD (kept words w e (base refs e (m .next)) (length (m .lists e)) notes) (wordAt w f k n) (pos 0) ≡ getD (getD (joined m e notes .lists f) k []) n (pos 0)
       same q =
           let b : base refs e (m .next) ≤ k = rw (q, joined-next m e notes) at hb in
           let h : k < length (m .lists e) + 1 = rw (q, length-same m e notes) at hk in
           rw (q, list-same m e notes) (⊎-elim (λ l. old l b) (λ (l : length (m .lists e) ≤ k). new (omega arith) b) (less-or k (length (m .lists e))))
+
       other : f ≢ e → getD (kept words w e (base refs e (m .next)) (length (m .lists e)) notes) (wordAt w f k n) (pos 0) ≡ getD (getD (joined m e notes .lists f) k []) n (pos 0)
       other q =
           kept-other w words notes wide e f (base refs e (m .next)) (length (m .lists e)) k n q hn
@@ -266,7 +271,7 @@ module _ (frames : List ℕ) (w : ℕ) (ok : Fine frames w) where
       ⊎-elim
       (λ l. l)
       (λ (l : instanceLimit ≤ m .next). absurd (verdict-settled v (sym q ∙ all-pending (treeOf frames) (m .next) (foundIn (m .lists) (m .next)) (ok .some)
-        (λ r h. late-pending (m .lists (r .event)) r (m .next) (ok .limits r h .least) (ok .limits r h .offset) (i .few (r .event)) l))))
+      (λ r h. late-pending (m .lists (r .event)) r (m .next) (ok .limits r h .least) (ok .limits r h .offset) (i .few (r .event)) l))))
       (less-or (m .next) instanceLimit)
 
   module _ (m : Machine) (k : Checker) (b : Both frames w m k) where
@@ -365,7 +370,7 @@ module _ (frames : List ℕ) (w : ℕ) (ok : Fine frames w) where
     result-own p t found found′ buffer s =
         ap (λ (x : PullRead). resultOf p t found buffer x) (read-own p t found found′ (length buffer) s)
         ∙ ap (λ (l : List ℕ). record { answer = pullAnswer (pullRead t p found′ (length buffer)); state = stateAfter (k .state) (pullRead t p found′ (length buffer)); report = l })
-          (report-own p t found found′ buffer s (pullRead t p found′ (length buffer)))
+        (report-own p t found found′ buffer s (pullRead t p found′ (length buffer)))
 
     pull-eq : (buffer : List ℕ) → pullDef (k .state) (k .words) buffer ≡ resultAt (m .next) (treeOf frames) (foundIn (m .lists) (m .next)) buffer
     unfolding pullDef
@@ -383,14 +388,14 @@ module _ (frames : List ℕ) (w : ℕ) (ok : Fine frames w) where
         record {
           inv = inv-moved refs w m v (b .inv) (gave-low m v (b .inv) t);
           sim =
-            record {
-              rule = unfold withPulled in b .sim .rule;
-              len = unfold withPulled in b .sim .len;
-              width = unfold withPulled in b .sim .width;
-              tally = unfold withPulled in unfold moved in ap (λ (y : Tally). record { counts = y .counts; next = y .next + 1; totals = counted (y .totals) v }) (b .sim .tally);
-              long = b .sim .long;
-              live = unfold moved in λ e j n he hb hk hn. b .sim .live e j n he (omega (arith, base-mono refs e (m .next) (m .next + 1) (omega arith))) hk hn;
-            };
+              record {
+                rule = unfold withPulled in b .sim .rule;
+                len = unfold withPulled in b .sim .len;
+                width = unfold withPulled in b .sim .width;
+                tally = unfold withPulled in unfold moved in ap (λ (y : Tally). record { counts = y .counts; next = y .next + 1; totals = counted (y .totals) v }) (b .sim .tally);
+                long = b .sim .long;
+                live = unfold moved in λ e j n he hb hk hn. b .sim .live e j n he (omega (arith, base-mono refs e (m .next) (m .next + 1) (omega arith))) hk hn;
+              };
         }
 
     -- ---- one call

@@ -49,8 +49,8 @@ module _ (s : State) (win : List ℤ) (line : List ℕ) where
   feed-unchanged =
       cond-case KeptF (goodState s) _ _
       (λ _. cond-case KeptF (windowFits (s .width) win) _ _
-        (λ _. fed-by (feedRead (refsIn s) (s .width) (tallyIn s) (lineOf line)))
-        (λ _ h. (refl, refl)))
+      (λ _. fed-by (feedRead (refsIn s) (s .width) (tallyIn s) (lineOf line)))
+      (λ _ h. (refl, refl)))
       (λ _ h. (refl, refl))
 
 -- ---- pulling
@@ -68,6 +68,6 @@ module _ (s : State) (win : List ℤ) (buffer : List ℕ) where
   pull-unchanged =
       cond-case KeptP (goodState s) _ _
       (λ _. cond-case KeptP (windowFits (s .width) win) _ _
-        (λ _. pulled-by (pullRead (ruleIn s) (s .next .0) (foundHere s win) (length buffer)))
-        (λ _ h. (refl, refl)))
+      (λ _. pulled-by (pullRead (ruleIn s) (s .next .0) (foundHere s win) (length buffer)))
+      (λ _ h. (refl, refl)))
       (λ _ h. (refl, refl))
