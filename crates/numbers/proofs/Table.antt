@@ -3,7 +3,9 @@
 use mathlib.Core.Path.{_≡_, _∙_, subst, sym}
 use mathlib.Core.Bool.{Bool, true, false}
 use mathlib.Core.List.{List, [], _∷_}
-use Prim.Native.Nat.{ℕ, zero, suc, _+_, _<_}
+use Prim.Native.Nat.{ℕ, zero, suc, _+_, _≤_, _<_}
+use native.Mathlib.Omega.{arith}
+use native.Mathlib.Decide.{ℕ-discrete}
 use native.Mathlib.Nat.{add-zero, zero-add, add-suc, suc-add, le-of-suc-le-suc, not-suc-le-zero}
 use lib.Dec.{T}
 use lib.ListN.{length, getD}
@@ -34,3 +36,16 @@ from f (x ∷ xs) i t (suc k) h =
 
 pub at : (f : ℕ → ℕ → Bool) (xs : List ℕ) → T (every f 0 xs) → (k : ℕ) → k < length xs → T (f k (getD xs k 0))
 at f xs t k h = subst (λ (m : ℕ). T (f m (getD xs k 0))) (zero-add k) (from f xs 0 t k h)
+
+-- the same for each number from lo on, d of them, with no table
+abbrev pub each : (ℕ → Bool) → ℕ → ℕ → Bool
+each f lo zero = true
+each f lo (suc d) = both (f lo) (each f (suc lo) d)
+
+pub tested : (f : ℕ → Bool) (lo d b : ℕ) → T (each f lo d) → lo ≤ b → b < lo + d → T (f b)
+tested f lo zero b t h k = absurd (let z : b < lo + 0 = k in omega arith)
+tested f lo (suc d) b t h k =
+    elim (ℕ-discrete lo b) [
+      | yes e ↦ subst (λ (x : ℕ). T (f x)) e (both-left (f lo) (each f (suc lo) d) t)
+      | no n ↦ tested f (suc lo) d b (both-right (f lo) (each f (suc lo) d) t) (omega (arith, n)) (omega arith)
+    ]

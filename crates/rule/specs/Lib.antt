@@ -1,0 +1,4 @@
+pub mod Class
+pub mod Token
+pub mod Name
+pub mod Number

@@ -1,7 +1,18 @@
 // Rules: text, tokens, frames and their checks. Nothing here knows of logs.
+pub mod classes;
+pub mod names;
+pub mod numerals;
+pub mod tokens;
 
 // A refusal: document 01's number, and its place, 0 where none is named.
 pub struct Refusal {
     pub number: u8,
     pub place: u32,
+}
+
+// A token of a text: its kind, and its place from `start` up to, not including, `end`.
+pub struct Token {
+    pub kind: u8,
+    pub start: usize,
+    pub end: usize,
 }

@@ -1,0 +1,88 @@
+-- `rule::tokens::mark_of` meets its contract: in each arm the tests that led there say which mark it is. Assumes nothing.
+use borrow.Author.Tests.{eq-eqb, ne-eqb}
+use Rattle.rule.specs.Token.{markOf}
+use Rattle.rule.proofs.Marks.{mark-alone, mark-none}
+use native.Mathlib.Omega.{arith}
+use borrow.Author.Needs.{needs}
+use Rattle.rule.proofs.tokens.mark_of.Statement.{statement}
+use Rattle.rule.proofs.tokens.mark_of.Tie as tie
+use Rattle.rule.proofs.tokens.mark_of.Reads as reads
+use Rattle.rule.proofs.tokens.mark_of.Lts as lts
+use Rattle.rule.proofs.classes.class_of.Reads as class-of-reads
+
+class-of-requires : tie.Need-class-of-requires
+class-of-requires c κs = search needs
+
+returns : tie.Need-returns
+unfolding markOf
+returns c = simp (c .before .match .keys1, eq-eqb _ _ (c .if1 .taken))
+
+returns-2 : tie.Need-returns-2
+unfolding markOf
+returns-2 c = simp (c .before .match .keys1, ne-eqb _ _ (c .if1 .left))
+
+returns-3 : tie.Need-returns-3
+unfolding markOf
+returns-3 c = simp (c .before .match .keys2, eq-eqb _ _ (c .if2 .taken))
+
+returns-4 : tie.Need-returns-4
+unfolding markOf
+returns-4 c = simp (c .before .match .keys2, ne-eqb _ _ (c .if2 .left))
+
+returns-5 : tie.Need-returns-5
+unfolding markOf
+returns-5 c = simp (c .before .match .keys3, eq-eqb _ _ (c .if3 .taken))
+
+returns-6 : tie.Need-returns-6
+unfolding markOf
+returns-6 c = simp (c .before .match .keys3, ne-eqb _ _ (c .if3 .left))
+
+returns-7 : tie.Need-returns-7
+unfolding markOf
+returns-7 c = simp (c .before .match .keys4, eq-eqb _ _ (c .if4 .taken))
+
+returns-8 : tie.Need-returns-8
+unfolding markOf
+returns-8 c = simp (c .before .match .keys4, ne-eqb _ _ (c .if4 .left))
+
+returns-9 : tie.Need-returns-9
+unfolding markOf
+returns-9 c = simp (c .before .match .keys5, eq-eqb _ _ (c .if5 .taken))
+
+returns-10 : tie.Need-returns-10
+unfolding markOf
+returns-10 c = simp (c .before .match .keys5, ne-eqb _ _ (c .if5 .left))
+
+returns-11 : tie.Need-returns-11
+unfolding markOf
+returns-11 c = simp (c .before .match .keys6, eq-eqb _ _ (c .if6 .taken))
+
+returns-12 : tie.Need-returns-12
+unfolding markOf
+returns-12 c = simp (c .before .match .keys6, ne-eqb _ _ (c .if6 .left))
+
+returns-13 : tie.Need-returns-13
+returns-13 c = mark-alone _ _ (c .before .before .before .fits .b .fits) _ (c .before .class-of .ensures) (c .before .before .match .rest .0 .0 .0 .0 .0 .1) (c .before .before .match .rest .0 .0 .0 .0 .1) (c .before .before .match .rest .0 .0 .0 .1) (c .before .before .match .rest .0 .0 .1) (c .before .before .match .rest .0 .1) (c .before .before .match .rest .1) (c .if7 .taken)
+
+returns-14 : tie.Need-returns-14
+returns-14 c = mark-none _ _ (c .before .before .before .fits .b .fits) _ (c .before .class-of .ensures) (c .before .before .match .rest .0 .0 .0 .0 .0 .1) (c .before .before .match .rest .0 .0 .0 .0 .1) (c .before .before .match .rest .0 .0 .0 .1) (c .before .before .match .rest .0 .0 .1) (c .before .before .match .rest .0 .1) (c .before .before .match .rest .1) (c .if7 .left)
+
+pub mark-of-spec : {M : Type 1} → statement M
+mark-of-spec =
+    tie.close
+    (tie.spec
+    class-of-requires
+    returns
+    returns-2
+    returns-3
+    returns-4
+    returns-5
+    returns-6
+    returns-7
+    returns-8
+    returns-9
+    returns-10
+    returns-11
+    returns-12
+    returns-13
+    returns-14)

@@ -1,0 +1,135 @@
+-- The tokens of a text, from 'From rule text to frames' of document 01. Assumes nothing: definitions.
+use Prim.Native.Nat.{ℕ, zero, suc, _+_, _-_}
+use mathlib.Core.Bool.{Bool, true, false, _&&_, cond}
+use mathlib.Core.List.{List, [], _∷_}
+use lib.ListN.{length, getD, take, drop}
+use lib.Dec.{leb, eqb}
+use Rattle.rule.specs.Class.{letter, digit, blank, mark, among, oneByteMarks, classOf, span}
+use Rattle.rule.specs.declared.Token.{Token}
+
+-- Kinds of tokens; a mark of one byte has that byte for its kind.
+-- the end of the text
+abbrev pub endKind : ℕ
+endKind = 0
+
+-- a name
+abbrev pub nameKind : ℕ
+nameKind = 1
+
+-- a number
+abbrev pub numberKind : ℕ
+numberKind = 2
+
+-- the reserved words
+abbrev pub eventsKind : ℕ
+eventsKind = 3
+
+abbrev pub notesKind : ℕ
+notesKind = 4
+
+abbrev pub indexKind : ℕ
+indexKind = 5
+
+abbrev pub absKind : ℕ
+absKind = 6
+
+-- the marks of two bytes, -> || && != <= >=
+abbrev pub arrowKind : ℕ
+arrowKind = 130
+
+abbrev pub barsKind : ℕ
+barsKind = 131
+
+abbrev pub ampersandsKind : ℕ
+ampersandsKind = 132
+
+abbrev pub unequalKind : ℕ
+unequalKind = 133
+
+abbrev pub atMostKind : ℕ
+atMostKind = 134
+
+abbrev pub atLeastKind : ℕ
+atLeastKind = 135
+
+-- a token that no rule has
+abbrev pub foreignKind : ℕ
+foreignKind = 255
+
+-- two words are the same if their letters are
+unfoldable pub same : List ℕ → List ℕ → Bool
+same [] [] = true
+same [] (y ∷ ys) = false
+same (x ∷ xs) [] = false
+same (x ∷ xs) (y ∷ ys) = eqb x y && same xs ys
+
+-- "The words `events notes i abs` are reserved; any other is a name."
+unfoldable pub wordKind : List ℕ → ℕ
+wordKind w =
+    cond (same w (101 ∷ 118 ∷ 101 ∷ 110 ∷ 116 ∷ 115 ∷ [])) eventsKind
+    (cond (same w (110 ∷ 111 ∷ 116 ∷ 101 ∷ 115 ∷ [])) notesKind
+    (cond (same w (105 ∷ [])) indexKind
+    (cond (same w (97 ∷ 98 ∷ 115 ∷ [])) absKind nameKind)))
+
+-- the quoted marks of two bytes, -> || && != <= >=; 0 where the two bytes are none
+abbrev pub twoByteMark : ℕ → ℕ → ℕ
+twoByteMark b n =
+    cond (eqb b 45 && eqb n 62) arrowKind
+    (cond (eqb b 124 && eqb n 124) barsKind
+    (cond (eqb b 38 && eqb n 38) ampersandsKind
+    (cond (eqb b 33 && eqb n 61) unequalKind
+    (cond (eqb b 60 && eqb n 61) atMostKind
+    (cond (eqb b 62 && eqb n 61) atLeastKind 0)))))
+
+-- "a mark byte in no quoted mark is a token that no rule has"
+abbrev pub oneByteMark : ℕ → ℕ
+oneByteMark b = cond (among oneByteMarks b) b foreignKind
+
+-- "marks take the longest match": the mark that begins with the byte b, with n after it
+unfoldable pub markOf : ℕ → ℕ → ℕ
+markOf b n = cond (eqb (twoByteMark b n) 0) (oneByteMark b) (twoByteMark b n)
+
+-- the bytes of a mark of that kind
+unfoldable pub markWidth : ℕ → ℕ
+markWidth k = cond (leb arrowKind k && leb k atLeastKind) 2 1
+
+-- "A run of letters is a word, a run of digits a number"; "A foreign byte is a token that no rule has":
+-- the kind of the token that begins with the byte b, with bs after it
+unfoldable pub kindOf : ℕ → List ℕ → ℕ
+kindOf b bs =
+    cond (eqb (classOf b) letter) (wordKind (b ∷ take (span letter bs) bs))
+    (cond (eqb (classOf b) digit) numberKind
+    (cond (eqb (classOf b) mark) (markOf b (getD bs 0 0)) foreignKind))
+
+-- and how many bytes it has
+unfoldable pub widthOf : ℕ → List ℕ → ℕ
+widthOf b bs =
+    cond (eqb (classOf b) letter) (1 + span letter bs)
+    (cond (eqb (classOf b) digit) (1 + span digit bs)
+    (cond (eqb (classOf b) mark) (markWidth (markOf b (getD bs 0 0))) 1))
+
+-- what stands at the place s, where the list is what is left of the text: the end or a token
+unfoldable pub tokenHere : ℕ → List ℕ → Token
+tokenHere s [] = record { kind = endKind; start = s; end = s }
+tokenHere s (b ∷ bs) = record { kind = kindOf b bs; start = s; end = s + widthOf b bs }
+
+-- where the first byte from at on stands that is no blank
+abbrev pub past : List ℕ → ℕ → ℕ
+past text at = at + span blank (drop at text)
+
+-- the next token from at on
+unfoldable pub tokenAt : List ℕ → ℕ → Token
+tokenAt text at = tokenHere (past text at) (drop (past text at) text)
+
+-- the tokens from at on, at most k of them: none at the end, else the next one and those from its end on
+unfoldable pub tokensIn : ℕ → List ℕ → ℕ → List Token
+tokensIn zero text at = []
+tokensIn (suc k) text at = cond (eqb (tokenAt text at .kind) endKind) [] (tokenAt text at ∷ tokensIn k text (tokenAt text at .end))
+
+-- the tokens from at on: each has at least one byte, so there are no more tokens than bytes
+unfoldable pub tokensFrom : List ℕ → ℕ → List Token
+tokensFrom text at = tokensIn (length text - at) text at
+
+-- a text's tokens
+abbrev pub tokens : List ℕ → List Token
+tokens text = tokensFrom text 0

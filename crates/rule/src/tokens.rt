@@ -1,0 +1,168 @@
+// Tokens: words, numbers and marks, by longest match.
+use crate::Token;
+use crate::classes::BLANK;
+use crate::classes::DIGIT;
+use crate::classes::LETTER;
+use crate::classes::MARK;
+use crate::classes::class_of;
+ghost use mathlib.Core.Path.{_≡_};
+ghost use Prim.Native.Nat.{_+_, _≤_};
+ghost use lib.ListN.{length, drop, getD};
+ghost use Rattle.rule.specs.Class.{span};
+ghost use Rattle.rule.specs.Token.{same, wordKind, markOf, markWidth, tokenAt};
+
+// Kinds of tokens; a mark of one byte has that byte for its kind.
+pub const END: u8 = 0;
+
+pub const NAME: u8 = 1;
+
+pub const NUMBER: u8 = 2;
+
+pub const EVENTS: u8 = 3;
+
+pub const NOTES: u8 = 4;
+
+pub const INDEX: u8 = 5;
+
+pub const ABS: u8 = 6;
+
+pub const ARROW: u8 = 130;
+
+pub const BARS: u8 = 131;
+
+pub const AMPERSANDS: u8 = 132;
+
+pub const UNEQUAL: u8 = 133;
+
+pub const AT_MOST: u8 = 134;
+
+pub const AT_LEAST: u8 = 135;
+
+pub const FOREIGN: u8 = 255;
+
+// Where the run of bytes of one class that begins at `at` ends.
+fn run_end(text: &[u8], at: usize, class: u8) -> usize
+    requires { ⌜ at ≤ length (now text) ⌝ }
+    ensures { λ r. ⌜ (r ≡ at + span class (drop at (now (text .entry)))) × (r ≤ length (now (text .entry))) ⌝ }
+{
+    let mut i = at;
+    while i < text.len() {
+        if class_of(text[i]) != class {
+            return i;
+        }
+        i += 1;
+    }
+    i
+}
+
+// The byte at `at`, or 0 past the end.
+fn byte_at(text: &[u8], at: usize) -> u8
+    ensures { λ r. ⌜ r ≡ getD (now (text .entry)) at 0 ⌝ }
+{
+    if at < text.len() { text[at] } else { 0 }
+}
+
+// Whether two words have the same letters.
+fn same_bytes(a: &[u8], b: &[u8]) -> bool
+    ensures { λ r. ⌜ r ≡ same (now (a .entry)) (now (b .entry)) ⌝ }
+{
+    if a.len() != b.len() {
+        return false;
+    }
+    let mut i = 0;
+    while i < a.len() {
+        if a[i] != b[i] {
+            return false;
+        }
+        i += 1;
+    }
+    true
+}
+
+// The kind of a word: one of the four reserved ones, or a name.
+fn word_kind(word: &[u8]) -> u8
+    ensures { λ r. ⌜ r ≡ wordKind (now (word .entry)) ⌝ }
+{
+    if same_bytes(word, b"events") {
+        return EVENTS;
+    }
+    if same_bytes(word, b"notes") {
+        return NOTES;
+    }
+    if same_bytes(word, b"i") {
+        return INDEX;
+    }
+    if same_bytes(word, b"abs") {
+        return ABS;
+    }
+    NAME
+}
+
+// The kind of the mark that begins with `b`, with `n` after it: the longest match.
+fn mark_of(b: u8, n: u8) -> u8
+    ensures { λ r. ⌜ r ≡ markOf b n ⌝ }
+{
+    match b {
+        b'-' => if n == b'>' { ARROW } else { b },
+        b'|' => if n == b'|' { BARS } else { FOREIGN },
+        b'&' => if n == b'&' { AMPERSANDS } else { FOREIGN },
+        b'!' => if n == b'=' { UNEQUAL } else { b },
+        b'<' => if n == b'=' { AT_MOST } else { b },
+        b'>' => if n == b'=' { AT_LEAST } else { b },
+        _ => if class_of(b) == MARK { b } else { FOREIGN },
+    }
+}
+
+fn mark_width(kind: u8) -> usize
+    ensures { λ r. ⌜ r ≡ markWidth kind ⌝ }
+{
+    if kind < ARROW {
+        return 1;
+    }
+    if kind <= AT_LEAST { 2 } else { 1 }
+}
+
+// The next token from `at` on; past the last one, the end.
+pub fn token_at(text: &[u8], at: usize) -> Token
+    requires { ⌜ at ≤ length (now text) ⌝ }
+    ensures { λ r. ⌜ r ≡ tokenAt (now (text .entry)) at ⌝ }
+{
+    let s = run_end(text, at, BLANK);
+    if text.len() <= s {
+        return Token {
+            kind: END,
+            start: s,
+            end: s,
+        };
+    }
+    let b = text[s];
+    let c = class_of(b);
+    if c == LETTER {
+        let e = run_end(text, s + 1, LETTER);
+        return Token {
+            kind: word_kind(&text[s..e]),
+            start: s,
+            end: e,
+        };
+    }
+    if c == DIGIT {
+        return Token {
+            kind: NUMBER,
+            start: s,
+            end: run_end(text, s + 1, DIGIT),
+        };
+    }
+    if c == MARK {
+        let k = mark_of(b, byte_at(text, s + 1));
+        return Token {
+            kind: k,
+            start: s,
+            end: s + mark_width(k),
+        };
+    }
+    Token {
+        kind: FOREIGN,
+        start: s,
+        end: s + 1,
+    }
+}
