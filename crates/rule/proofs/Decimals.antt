@@ -1,5 +1,6 @@
 -- Laws of `decimal`: capping a value on the way does not change the capped value of the whole. Assumes nothing.
 use mathlib.Core.Path.{_≡_, refl, sym, ap, _∙_}
+use mathlib.Core.Logic.{_↔_}
 use mathlib.Core.List.{List, [], _∷_}
 use Prim.Native.Nat.{ℕ, suc, _+_, _-_, _*_, _≤_, _<_, min}
 use native.Mathlib.Numerals.{add-one}
@@ -27,3 +28,12 @@ digit-more ds v i h = cap-from (v * 10 + (getD ds i 0 - 48)) (drop (i + 1) ds) �
 pub digits-end : (ds : List ℕ) (v i : ℕ) → length ds ≤ i → v ≤ most → v ≡ min most (decimalFrom v (drop i ds))
 unfolding decimalFrom
 digits-end ds v i h l = rw (drop-of-length-le ds h) (omega arith)
+
+-- a value at or below a limit that `most` exceeds is told exactly, and one above it stays above
+pub number-decides : (ds : List ℕ) (limit : ℕ) → limit < most → (numberValue ds ≤ limit) ↔ (decimal ds ≤ limit)
+unfolding numberValue
+number-decides ds limit h = (λ l. omega arith, λ l. omega arith)
+
+pub number-exact : (ds : List ℕ) → decimal ds ≤ most → numberValue ds ≡ decimal ds
+unfolding numberValue
+number-exact ds l = omega arith

@@ -4,3 +4,5 @@ pub mod Marks
 pub mod Here
 pub mod Codes
 pub mod Decimals
+pub mod Lexing
+pub mod Runs

@@ -1,14 +1,14 @@
 -- Laws of `markOf`: a byte of class mark in no mark of two bytes is a mark of one byte, or no rule has it. Assumes nothing.
-use mathlib.Core.Path.{_≡_, refl, sym, ap, _∙_}
+use mathlib.Core.Path.{_≡_, refl, sym, subst, _∙_}
 use mathlib.Core.Bool.{Bool, true, false, _||_, _&&_, not, cond}
 use mathlib.Core.List.{List, [], _∷_}
 use Prim.Native.Nat.{ℕ, zero, suc, _+_, _≤_, _<_}
 use native.Mathlib.Omega.{arith}
-use borrow.Author.Tests.{eq-eqb, ne-eqb}
-use lib.Dec.{T, leb, eqb}
-use Rattle.numbers.proofs.Table.{tested}
+use borrow.Author.Tests.{eq-eqb, ne-eqb, eqb-true, eqb-false, lt-leb, ltb-true}
+use lib.Dec.{T, leb, ltb, eqb, ltb→lt}
+use Rattle.numbers.proofs.Table.{both, both-left, both-right, tested}
 use Rattle.rule.specs.Class.{mark, among, oneByteMarks, classOf}
-use Rattle.rule.specs.Token.{foreignKind, oneByteMark, twoByteMark, markOf, markWidth}
+use Rattle.rule.specs.Token.{arrowKind, barsKind, ampersandsKind, unequalKind, atMostKind, atLeastKind, foreignKind, oneByteMark, twoByteMark, markOf, markWidth}
 
 abbrev agree : Bool → Bool → Bool
 agree true y = y
@@ -57,3 +57,62 @@ width-some k = go (leb 130 k && leb k 135)
     go : (t : Bool) → (1 ≤ cond t 2 1) × (cond t 2 1 ≤ 2)
     go true = (omega arith, omega arith)
     go false = (omega arith, omega arith)
+
+-- what a test says of every byte of a list, it says of a byte among them
+abbrev every : (ℕ → Bool) → List ℕ → Bool
+every f [] = true
+every f (x ∷ xs) = both (f x) (every f xs)
+
+among-every : (f : ℕ → Bool) (xs : List ℕ) (b : ℕ) → T (every f xs) → among xs b ≡ true → T (f b)
+among-every f [] b t e = absurd (let n : _≡_ {A = ℕ} 0 1 = cc in omega arith)
+among-every f (x ∷ xs) b t e = go (eqb b x) refl (λ q. among-every f xs b (both-right (f x) (every f xs) t) q) e
+  where
+    go : (u : Bool) → eqb b x ≡ u → (among xs b ≡ true → T (f b)) → (u || among xs b) ≡ true → T (f b)
+    go true q ih p = subst (λ (y : ℕ). T (f y)) (sym (eqb-true b x q)) (both-left (f x) (every f xs) t)
+    go false q ih p = ih p
+
+-- the kind of a mark of one byte is no other token's
+abbrev low : ℕ → Bool
+low x = both (ltb 6 x) (ltb x 130)
+
+one-low : (b : ℕ) → among oneByteMarks b ≡ true → (6 < b) × (b < 130)
+one-low b e =
+    let t = among-every low oneByteMarks b tt e in
+    (ltb→lt 6 b (both-left (ltb 6 b) (ltb b 130) t), ltb→lt b 130 (both-right (ltb 6 b) (ltb b 130) t))
+
+-- a mark byte with 0 after it, as at the end of a text, is a token of one byte
+and-false : (t : Bool) → (t && false) ≡ false
+and-false true = refl
+and-false false = refl
+
+pub width-alone : (b : ℕ) → markWidth (markOf b 0) ≡ 1
+unfolding markOf markWidth
+width-alone b = simp and-false (go (among oneByteMarks b) refl)
+  where
+    go : (t : Bool) → among oneByteMarks b ≡ t → _≡_ {A = ℕ} (cond (leb 130 (cond t b 255) && leb (cond t b 255) 135) 2 1) 1
+    go true e = rw (lt-leb 130 b (one-low b e .1))
+    go false e = refl
+
+two-high : (b n : ℕ) → (twoByteMark b n ≡ 0 → ⊥) → 6 < twoByteMark b n
+two-high b n ne = go (eqb b 45 && eqb n 62) (eqb b 124 && eqb n 124) (eqb b 38 && eqb n 38) (eqb b 33 && eqb n 61) (eqb b 60 && eqb n 61) (eqb b 62 && eqb n 61) ne
+  where
+    kind : (t u v w x y : Bool) → ℕ
+    kind t u v w x y = cond t arrowKind (cond u barsKind (cond v ampersandsKind (cond w unequalKind (cond x atMostKind (cond y atLeastKind 0)))))
+    go : (t u v w x y : Bool) → (kind t u v w x y ≡ 0 → ⊥) → 6 < kind t u v w x y
+    go true u v w x y ne = omega arith
+    go false true v w x y ne = omega arith
+    go false false true w x y ne = omega arith
+    go false false false true x y ne = omega arith
+    go false false false false true y ne = omega arith
+    go false false false false false true ne = omega arith
+    go false false false false false false ne = absurd (ne refl)
+
+-- a mark's kind is neither that of the end nor a word's or a number's
+pub mark-high : (b n : ℕ) → 6 < markOf b n
+unfolding markOf
+mark-high b n = go (eqb (twoByteMark b n) 0) refl (among oneByteMarks b) refl
+  where
+    go : (t : Bool) → eqb (twoByteMark b n) 0 ≡ t → (u : Bool) → among oneByteMarks b ≡ u → 6 < cond t (cond u b 255) (twoByteMark b n)
+    go true e true q = one-low b q .0
+    go true e false q = omega arith
+    go false e u q = two-high b n (eqb-false _ _ e)

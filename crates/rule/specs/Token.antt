@@ -121,6 +121,10 @@ past text at = at + span blank (drop at text)
 unfoldable pub tokenAt : List ℕ → ℕ → Token
 tokenAt text at = tokenHere (past text at) (drop (past text at) text)
 
+-- the bytes of a token
+abbrev pub spelling : List ℕ → Token → List ℕ
+spelling text t = take (t .end - t .start) (drop (t .start) text)
+
 -- the tokens from at on, at most k of them: none at the end, else the next one and those from its end on
 unfoldable pub tokensIn : ℕ → List ℕ → ℕ → List Token
 tokensIn zero text at = []
