@@ -1,6 +1,6 @@
 -- The extremes of a signed word, computed. Assumes nothing.
 use mathlib.Core.Path.{_≡_, refl}
-use lib.IntN.{ℤ, pos, negsuc}
+use lib.IntN.{pos, negsuc}
 use Rattle.numbers.specs.Word.{signedWord}
 
 greatest : signedWord 0x7F 0xFF 0xFF 0xFF ≡ pos 2147483647

@@ -2,10 +2,9 @@
 -- number is `longName`. Assumes nothing.
 use mathlib.Core.Path.{_≡_, refl, sym, ap, ap₂, _∙_}
 use mathlib.Core.Logic.{_↔_}
-use mathlib.Core.Bool.{Bool, true, false, cond}
+use mathlib.Core.Bool.{Bool, true, false}
 use mathlib.Core.List.{List, [], _∷_}
 use Prim.Native.Nat.{ℕ, zero, suc, _+_, _-_, _*_, _≤_, _<_}
-use native.Mathlib.Numerals.{add-one}
 use native.Mathlib.Nat.{lt-of-lt-of-le}
 use native.Mathlib.Omega.{arith}
 use borrow.Author.Tests.{le-leb, lt-leb, leb-true, leb-false}
@@ -39,7 +38,7 @@ code-end w = (rw (drop-length w), let e : length w - length w ≡ 0 = omega arit
 
 -- one letter more in front, for any byte below 256
 pub code-more : (w : List ℕ) (v j : ℕ) → j < length w → getD w j 0 < 256 → v ≡ code (drop (suc j) w) → v + 7 ≤ 7 * top (length w - suc j)
-  → ((getD w j 0 - 96) + 27 * v ≡ code (drop j w)) × ((getD w j 0 - 96) + 27 * v + 7 ≤ 7 * top (length w - j))
+    → ((getD w j 0 - 96) + 27 * v ≡ code (drop j w)) × ((getD w j 0 - 96) + 27 * v + 7 ≤ 7 * top (length w - j))
 unfolding code top
 code-more w v j h b e l =
     let k : length w - j ≡ suc (length w - suc j) = omega arith in
@@ -47,7 +46,7 @@ code-more w v j h b e l =
 
 -- the same at the place before i
 pub code-back : (w : List ℕ) (v i : ℕ) → 0 < i → i ≤ length w → getD w (i - 1) 0 < 256 → v ≡ code (drop i w) → v + 7 ≤ 7 * top (length w - i)
-  → ((getD w (i - 1) 0 - 96) + 27 * v ≡ code (drop (i - 1) w)) × ((getD w (i - 1) 0 - 96) + 27 * v + 7 ≤ 7 * top (length w - (i - 1)))
+    → ((getD w (i - 1) 0 - 96) + 27 * v ≡ code (drop (i - 1) w)) × ((getD w (i - 1) 0 - 96) + 27 * v + 7 ≤ 7 * top (length w - (i - 1)))
 code-back w v zero h k b e l = absurd (omega arith)
 code-back w v (suc j) h k b e l = let q : suc j - 1 ≡ j = omega arith in rw q (code-more w v j k (rw q at b) e l)
 

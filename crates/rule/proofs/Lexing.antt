@@ -1,16 +1,16 @@
 -- Laws of the tokens of a text: the next one lies beyond the place and within the text, what stands before it is blank, and
 -- `tokensFrom` is the next one and those after it. Assumes nothing.
-use mathlib.Core.Path.{_≡_, refl, ap, sym, _∙_, subst}
-use mathlib.Core.Bool.{Bool, true, false, _&&_, _||_, cond}
+use mathlib.Core.Path.{_≡_, refl, ap, sym, _∙_}
+use mathlib.Core.Bool.{Bool, true, false, cond}
 use mathlib.Core.List.{List, [], _∷_}
 use Prim.Native.Nat.{ℕ, zero, suc, _+_, _-_, _≤_, _<_}
 use native.Mathlib.Omega.{arith}
-use borrow.Author.Tests.{eq-eqb, ne-eqb, eqb-true, eqb-false}
-use lib.Dec.{eqb, leb}
+use borrow.Author.Tests.{eq-eqb, ne-eqb, eqb-false}
+use lib.Dec.{eqb}
 use lib.ListN.{length, take, drop, getD, length-drop}
 use lib.Seq.{getD-drop}
-use Rattle.rule.specs.Class.{letter, digit, blank, mark, among, oneByteMarks, classOf, span}
-use Rattle.rule.specs.Token.{endKind, nameKind, numberKind, eventsKind, notesKind, indexKind, absKind, same, wordKind, twoByteMark, oneByteMark, markOf, markWidth, kindOf, widthOf, past, tokenHere, tokenAt, tokensIn, tokensFrom}
+use Rattle.rule.specs.Class.{letter, digit, blank, mark, classOf, span}
+use Rattle.rule.specs.Token.{endKind, nameKind, numberKind, eventsKind, notesKind, indexKind, absKind, eventsWord, notesWord, indexWord, absWord, same, wordKind, markOf, markWidth, kindOf, widthOf, past, tokenHere, tokenAt, tokensIn, tokensFrom}
 use Rattle.rule.specs.declared.Token.{Token}
 use Rattle.rule.proofs.Span.{span-le, span-class}
 use Rattle.rule.proofs.Marks.{mark-high, width-some, width-alone}
@@ -21,7 +21,7 @@ IsWord k = (0 < k) × (k ≤ absKind) × (k ≡ numberKind → ⊥)
 
 pub word-is : (w : List ℕ) → IsWord (wordKind w)
 unfolding wordKind
-word-is w = go (same w (101 ∷ 118 ∷ 101 ∷ 110 ∷ 116 ∷ 115 ∷ [])) (same w (110 ∷ 111 ∷ 116 ∷ 101 ∷ 115 ∷ [])) (same w (105 ∷ [])) (same w (97 ∷ 98 ∷ 115 ∷ []))
+word-is w = go (same w eventsWord) (same w notesWord) (same w indexWord) (same w absWord)
   where
     go : (a b c d : Bool) → IsWord (cond a eventsKind (cond b notesKind (cond c indexKind (cond d absKind nameKind))))
     go true b c d = (omega arith, omega arith, λ e. omega arith)
@@ -49,8 +49,9 @@ width-le b bs = go (eqb (classOf b) letter) (eqb (classOf b) digit) (eqb (classO
     within : (l : List ℕ) → markWidth (markOf b (getD l 0 0)) ≤ suc (length l)
     within [] = omega (arith, width-alone b)
     within (x ∷ l) = omega (arith, width-some (markOf b x))
+
     go : (t u v : Bool) → (1 ≤ cond t (1 + span letter bs) (cond u (1 + span digit bs) (cond v (markWidth (markOf b (getD bs 0 0))) 1)))
-       × (cond t (1 + span letter bs) (cond u (1 + span digit bs) (cond v (markWidth (markOf b (getD bs 0 0))) 1)) ≤ suc (length bs))
+        × (cond t (1 + span letter bs) (cond u (1 + span digit bs) (cond v (markWidth (markOf b (getD bs 0 0))) 1)) ≤ suc (length bs))
     go true u v = (omega arith, omega (arith, span-le letter bs))
     go false true v = (omega arith, omega (arith, span-le digit bs))
     go false false true = (width-some (markOf b (getD bs 0 0)) .0, within bs)
@@ -133,8 +134,8 @@ enough text (suc j) zero at h hj hk = go (eqb (tokenAt text at .kind) endKind) r
 enough text (suc j) (suc k) at h hj hk = go (λ a. enough text j k a) (eqb (tokenAt text at .kind) endKind) refl
   where
     go : ((a : ℕ) → a ≤ length text → length text - a ≤ j → length text - a ≤ k → tokensIn j text a ≡ tokensIn k text a)
-       → (t : Bool) → eqb (tokenAt text at .kind) endKind ≡ t
-       → cond t [] (tokenAt text at ∷ tokensIn j text (tokenAt text at .end)) ≡ cond t [] (tokenAt text at ∷ tokensIn k text (tokenAt text at .end))
+        → (t : Bool) → eqb (tokenAt text at .kind) endKind ≡ t
+        → cond t [] (tokenAt text at ∷ tokensIn j text (tokenAt text at .end)) ≡ cond t [] (tokenAt text at ∷ tokensIn k text (tokenAt text at .end))
     go ih true e = refl
     go ih false e =
         let r = moves text at h (eqb-false _ _ e) in
@@ -156,7 +157,7 @@ one-more text at h ne =
     let s = spans text at h in
     enough text (length text - at) (suc (length text - at)) at h (omega arith) (omega arith)
     ∙ rw (ne-eqb (tokenAt text at .kind) endKind ne)
-      (ap (λ (l : List Token). tokenAt text at ∷ l) (enough text (length text - at) (length text - tokenAt text at .end) (tokenAt text at .end) (r .1) (omega arith) (omega arith)))
+    (ap (λ (l : List Token). tokenAt text at ∷ l) (enough text (length text - at) (length text - tokenAt text at .end) (tokenAt text at .end) (r .1) (omega arith) (omega arith)))
 
 -- places rise from lo on, up to hi: a token has a byte at least, and ends before the next one begins
 abbrev pub Rising : ℕ → ℕ → List Token → Type 0
@@ -169,7 +170,7 @@ rising-in zero text at h = h
 rising-in (suc k) text at h = go (eqb (tokenAt text at .kind) endKind) refl (λ l. rising-in k text (tokenAt text at .end) l)
   where
     go : (t : Bool) → eqb (tokenAt text at .kind) endKind ≡ t → (tokenAt text at .end ≤ length text → Rising (tokenAt text at .end) (length text) (tokensIn k text (tokenAt text at .end)))
-       → Rising at (length text) (cond t [] (tokenAt text at ∷ tokensIn k text (tokenAt text at .end)))
+        → Rising at (length text) (cond t [] (tokenAt text at ∷ tokensIn k text (tokenAt text at .end)))
     go true e ih = h
     go false e ih = let r = moves text at h (eqb-false _ _ e) in let s = spans text at h in (s .0, r .0, ih (r .1))
 

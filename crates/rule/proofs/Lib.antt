@@ -6,3 +6,5 @@ pub mod Codes
 pub mod Decimals
 pub mod Lexing
 pub mod Runs
+pub mod Examples
+pub mod Main

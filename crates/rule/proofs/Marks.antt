@@ -2,9 +2,9 @@
 use mathlib.Core.Path.{_≡_, refl, sym, subst, _∙_}
 use mathlib.Core.Bool.{Bool, true, false, _||_, _&&_, not, cond}
 use mathlib.Core.List.{List, [], _∷_}
-use Prim.Native.Nat.{ℕ, zero, suc, _+_, _≤_, _<_}
+use Prim.Native.Nat.{ℕ, _≤_, _<_}
 use native.Mathlib.Omega.{arith}
-use borrow.Author.Tests.{eq-eqb, ne-eqb, eqb-true, eqb-false, lt-leb, ltb-true}
+use borrow.Author.Tests.{eq-eqb, ne-eqb, eqb-true, eqb-false, lt-leb}
 use lib.Dec.{T, leb, ltb, eqb, ltb→lt}
 use Rattle.numbers.proofs.Table.{both, both-left, both-right, tested}
 use Rattle.rule.specs.Class.{mark, among, oneByteMarks, classOf}
@@ -37,7 +37,7 @@ one-byte b h p q = agree-eq (among oneByteMarks b) (eqb (classOf b) mark) (other
     other false false z e f t = t
 
 module _ (b n : ℕ) (byte : b < 256) (k : ℕ) (is : k ≡ classOf b)
-  (n45 : b ≡ 45 → ⊥) (n124 : b ≡ 124 → ⊥) (n38 : b ≡ 38 → ⊥) (n33 : b ≡ 33 → ⊥) (n60 : b ≡ 60 → ⊥) (n62 : b ≡ 62 → ⊥) where
+    (n45 : b ≡ 45 → ⊥) (n124 : b ≡ 124 → ⊥) (n38 : b ≡ 38 → ⊥) (n33 : b ≡ 33 → ⊥) (n60 : b ≡ 60 → ⊥) (n62 : b ≡ 62 → ⊥) where
   alone : markOf b n ≡ oneByteMark b
   unfolding markOf
   alone = simp (ne-eqb b 45 n45, ne-eqb b 124 n124, ne-eqb b 38 n38, ne-eqb b 33 n33, ne-eqb b 60 n60, ne-eqb b 62 n62)
@@ -98,6 +98,7 @@ two-high b n ne = go (eqb b 45 && eqb n 62) (eqb b 124 && eqb n 124) (eqb b 38 &
   where
     kind : (t u v w x y : Bool) → ℕ
     kind t u v w x y = cond t arrowKind (cond u barsKind (cond v ampersandsKind (cond w unequalKind (cond x atMostKind (cond y atLeastKind 0)))))
+
     go : (t u v w x y : Bool) → (kind t u v w x y ≡ 0 → ⊥) → 6 < kind t u v w x y
     go true u v w x y ne = omega arith
     go false true v w x y ne = omega arith

@@ -1,19 +1,16 @@
 -- A word is a run of letters and a number a run of digits, each as long as can be. Assumes nothing.
-use mathlib.Core.Path.{_≡_, refl, ap, sym, subst, _∙_}
+use mathlib.Core.Path.{_≡_, refl, ap, sym, _∙_}
 use mathlib.Core.Logic.{_⊎_, inl, inr}
 use mathlib.Core.Bool.{Bool, true, false, _&&_, _||_, cond}
 use mathlib.Core.List.{List, [], _∷_}
-use Prim.Native.Nat.{ℕ, zero, suc, _+_, _-_, _≤_, _<_}
-use native.Mathlib.Nat.{add-zero}
-use native.Mathlib.Numerals.{add-one}
+use Prim.Native.Nat.{ℕ, suc, _+_, _-_, _≤_, _<_}
 use native.Mathlib.Omega.{arith}
-use borrow.Author.Tests.{eq-eqb, ne-eqb, eqb-true, eqb-false, leb-true}
+use borrow.Author.Tests.{eq-eqb, ne-eqb, eqb-true, leb-true}
 use lib.Dec.{eqb, leb}
 use lib.ListN.{length, take, drop, getD, length-drop}
 use lib.Seq.{getD-drop}
 use Rattle.rule.specs.Class.{letter, digit, blank, mark, foreign, between, isMarkByte, classOf, span}
-use Rattle.rule.specs.Token.{endKind, numberKind, wordKind, markOf, markWidth, kindOf, widthOf, past, tokenHere, tokenAt, spelling}
-use Rattle.rule.specs.declared.Token.{Token}
+use Rattle.rule.specs.Token.{numberKind, wordKind, markOf, kindOf, widthOf, past, tokenHere, tokenAt, spelling}
 use Rattle.rule.proofs.Span.{span-stops}
 use Rattle.rule.proofs.Marks.{mark-high}
 use Rattle.rule.proofs.Codes.{Letters}

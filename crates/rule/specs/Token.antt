@@ -63,13 +63,26 @@ same [] (y ∷ ys) = false
 same (x ∷ xs) [] = false
 same (x ∷ xs) (y ∷ ys) = eqb x y && same xs ys
 
--- "The words `events notes i abs` are reserved; any other is a name."
+-- "The words `events notes i abs` are reserved", each by its letters
+abbrev pub eventsWord : List ℕ
+eventsWord = 101 ∷ 118 ∷ 101 ∷ 110 ∷ 116 ∷ 115 ∷ []
+
+abbrev pub notesWord : List ℕ
+notesWord = 110 ∷ 111 ∷ 116 ∷ 101 ∷ 115 ∷ []
+
+abbrev pub indexWord : List ℕ
+indexWord = 105 ∷ []
+
+abbrev pub absWord : List ℕ
+absWord = 97 ∷ 98 ∷ 115 ∷ []
+
+-- "any other is a name"
 unfoldable pub wordKind : List ℕ → ℕ
 wordKind w =
-    cond (same w (101 ∷ 118 ∷ 101 ∷ 110 ∷ 116 ∷ 115 ∷ [])) eventsKind
-    (cond (same w (110 ∷ 111 ∷ 116 ∷ 101 ∷ 115 ∷ [])) notesKind
-    (cond (same w (105 ∷ [])) indexKind
-    (cond (same w (97 ∷ 98 ∷ 115 ∷ [])) absKind nameKind)))
+    cond (same w eventsWord) eventsKind
+    (cond (same w notesWord) notesKind
+    (cond (same w indexWord) indexKind
+    (cond (same w absWord) absKind nameKind)))
 
 -- the quoted marks of two bytes, -> || && != <= >=; 0 where the two bytes are none
 abbrev pub twoByteMark : ℕ → ℕ → ℕ

@@ -1,16 +1,13 @@
 -- `rule::names::name_code` meets its contract. The invariant: the letters from `i` on are read, and their number leaves room for one more. Assumes nothing.
-use mathlib.Core.Path.{_≡_, refl, sym, ap, _∙_}
+use mathlib.Core.Path.{_≡_, sym, ap, _∙_}
 use Prim.Native.Nat.{ℕ, _≤_, _-_, _+_, _*_}
 use lib.ListN.{length, drop}
-use Rattle.rule.specs.Name.{code, nameCode}
+use Rattle.rule.specs.Name.{code}
 use Rattle.rule.proofs.Codes.{top, code-end, code-back, code-room, short-code, long-code}
 use borrow.Author.Needs.{needs}
 use native.Mathlib.Omega.{arith}
 use Rattle.rule.proofs.names.name_code.Statement.{statement}
 use Rattle.rule.proofs.names.name_code.Tie as tie
-use Rattle.rule.proofs.names.name_code.Reads as reads
-use Rattle.rule.proofs.names.name_code.Lts as lts
-use Rattle.rule.proofs.names.letter_number.Reads as letter-number-reads
 
 abbrev Inv-loop : tie.InvT-loop
 Inv-loop word n v₀ i₀ v i = (i ≤ length word) × ((v ≡ code (drop i word)) × (v + 7 ≤ 7 * top (length word - i)))

@@ -8,9 +8,6 @@ use borrow.Author.Needs.{needs}
 use native.Mathlib.Omega.{arith}
 use Rattle.rule.proofs.numerals.number_value.Statement.{statement}
 use Rattle.rule.proofs.numerals.number_value.Tie as tie
-use Rattle.rule.proofs.numerals.number_value.Reads as reads
-use Rattle.rule.proofs.numerals.number_value.Lts as lts
-use Rattle.rule.proofs.numerals.with_digit.Reads as with-digit-reads
 
 abbrev Inv-loop : tie.InvT-loop
 Inv-loop digits v₀ i₀ v i = (i ≤ length digits) × ((v ≤ most) × (min most (decimalFrom v (drop i digits)) ≡ min most (decimalFrom 0 digits)))

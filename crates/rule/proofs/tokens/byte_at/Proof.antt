@@ -1,12 +1,9 @@
 -- `rule::tokens::byte_at` meets its contract. Assumes nothing.
 use mathlib.Core.Path.{sym}
 use lib.ListN.{List·getD-eq-default}
-use native.Mathlib.Omega.{arith}
 use borrow.Author.Needs.{needs}
 use Rattle.rule.proofs.tokens.byte_at.Statement.{statement}
 use Rattle.rule.proofs.tokens.byte_at.Tie as tie
-use Rattle.rule.proofs.tokens.byte_at.Reads as reads
-use Rattle.rule.proofs.tokens.byte_at.Lts as lts
 
 shared-slice-read-result : tie.Need-shared-slice-read-result
 shared-slice-read-result c = search needs

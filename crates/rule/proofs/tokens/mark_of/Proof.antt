@@ -2,13 +2,9 @@
 use borrow.Author.Tests.{eq-eqb, ne-eqb}
 use Rattle.rule.specs.Token.{markOf}
 use Rattle.rule.proofs.Marks.{mark-alone, mark-none}
-use native.Mathlib.Omega.{arith}
 use borrow.Author.Needs.{needs}
 use Rattle.rule.proofs.tokens.mark_of.Statement.{statement}
 use Rattle.rule.proofs.tokens.mark_of.Tie as tie
-use Rattle.rule.proofs.tokens.mark_of.Reads as reads
-use Rattle.rule.proofs.tokens.mark_of.Lts as lts
-use Rattle.rule.proofs.classes.class_of.Reads as class-of-reads
 
 class-of-requires : tie.Need-class-of-requires
 class-of-requires c κs = search needs

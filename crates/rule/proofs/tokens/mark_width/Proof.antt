@@ -1,12 +1,8 @@
 -- `rule::tokens::mark_width` meets its contract, by the tests. Assumes nothing.
 use borrow.Author.Tests.{le-leb, lt-leb}
 use Rattle.rule.specs.Token.{markWidth}
-use borrow.Author.Needs.{needs}
-use native.Mathlib.Omega.{arith}
 use Rattle.rule.proofs.tokens.mark_width.Statement.{statement}
 use Rattle.rule.proofs.tokens.mark_width.Tie as tie
-use Rattle.rule.proofs.tokens.mark_width.Reads as reads
-use Rattle.rule.proofs.tokens.mark_width.Lts as lts
 
 returns : tie.Need-returns
 unfolding markWidth

@@ -8,9 +8,6 @@ use borrow.Author.Needs.{needs}
 use native.Mathlib.Omega.{arith}
 use Rattle.rule.proofs.tokens.run_end.Statement.{statement}
 use Rattle.rule.proofs.tokens.run_end.Tie as tie
-use Rattle.rule.proofs.tokens.run_end.Reads as reads
-use Rattle.rule.proofs.tokens.run_end.Lts as lts
-use Rattle.rule.proofs.classes.class_of.Reads as class-of-reads
 
 abbrev Inv-loop : tie.InvT-loop
 Inv-loop text at class i₀ i = (i ≤ length text) × (i + span class (drop i text) ≡ at + span class (drop at text))

@@ -8,8 +8,6 @@ use borrow.Author.Needs.{needs}
 use native.Mathlib.Omega.{arith}
 use Rattle.rule.proofs.tokens.same_bytes.Statement.{statement}
 use Rattle.rule.proofs.tokens.same_bytes.Tie as tie
-use Rattle.rule.proofs.tokens.same_bytes.Reads as reads
-use Rattle.rule.proofs.tokens.same_bytes.Lts as lts
 
 abbrev Inv-loop : tie.InvT-loop
 Inv-loop a b i₀ i = (i ≤ length a) × (same (drop i a) (drop i b) ≡ same a b)

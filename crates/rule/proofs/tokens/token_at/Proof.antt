@@ -6,14 +6,6 @@ use native.Mathlib.Omega.{arith}
 use borrow.Author.Needs.{needs}
 use Rattle.rule.proofs.tokens.token_at.Statement.{statement}
 use Rattle.rule.proofs.tokens.token_at.Tie as tie
-use Rattle.rule.proofs.tokens.token_at.Reads as reads
-use Rattle.rule.proofs.tokens.token_at.Lts as lts
-use Rattle.rule.proofs.classes.class_of.Reads as class-of-reads
-use Rattle.rule.proofs.tokens.byte_at.Reads as byte-at-reads
-use Rattle.rule.proofs.tokens.mark_of.Reads as mark-of-reads
-use Rattle.rule.proofs.tokens.mark_width.Reads as mark-width-reads
-use Rattle.rule.proofs.tokens.run_end.Reads as run-end-reads
-use Rattle.rule.proofs.tokens.word_kind.Reads as word-kind-reads
 
 run-end-requires : tie.Need-run-end-requires
 run-end-requires c κs = search needs

@@ -1,13 +1,9 @@
 -- `rule::tokens::word_kind` meets its contract: each answer is what `same` says of the reserved words. Assumes nothing.
 use mathlib.Core.Path.{sym, _∙_}
 use Rattle.rule.specs.Token.{wordKind}
-use native.Mathlib.Omega.{arith}
 use borrow.Author.Needs.{needs}
 use Rattle.rule.proofs.tokens.word_kind.Statement.{statement}
 use Rattle.rule.proofs.tokens.word_kind.Tie as tie
-use Rattle.rule.proofs.tokens.word_kind.Reads as reads
-use Rattle.rule.proofs.tokens.word_kind.Lts as lts
-use Rattle.rule.proofs.tokens.same_bytes.Reads as same-bytes-reads
 
 slice-aggregate-same-bytes : tie.Need-slice-aggregate-same-bytes
 slice-aggregate-same-bytes c = search needs
