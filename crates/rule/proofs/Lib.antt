@@ -6,5 +6,15 @@ pub mod Codes
 pub mod Decimals
 pub mod Lexing
 pub mod Runs
+pub mod Walk
+pub mod Gen
+pub mod Machines
+pub mod Trees
+pub mod Rules
+pub mod Measures
+pub mod Depth
+pub mod Registers
+pub mod Bytes
+pub mod Answer
 pub mod Examples
 pub mod Main

@@ -2,3 +2,10 @@ pub mod Class
 pub mod Token
 pub mod Name
 pub mod Number
+pub mod Limits
+pub mod ReadLimits
+pub mod Grammar
+pub mod Measure
+pub mod Machine
+pub mod Judge
+pub mod Memory

@@ -1,7 +1,9 @@
 // Rules: text, tokens, frames and their checks. Nothing here knows of logs.
 pub mod classes;
+pub mod memory;
 pub mod names;
 pub mod numerals;
+pub mod parts;
 pub mod tokens;
 
 // A refusal: document 01's number, and its place, 0 where none is named.
