@@ -16,5 +16,7 @@ pub mod Depth
 pub mod Registers
 pub mod Bytes
 pub mod Answer
+pub mod Laws
+pub mod Tables
 pub mod Examples
 pub mod Main

@@ -32,6 +32,12 @@ abbrev pub among : ℕ → List ℕ → Bool
 among c [] = false
 among c (x ∷ xs) = cond (eqb c x) true (among c xs)
 
+-- "The factor of i is 1 to 9, the offset −9,999 to 9,999, a literal at most 2,147,483,647"
+abbrev pub beyond : Limit → ℕ → Bool
+beyond OfLiteral v = ltb literalLimit v
+beyond OfFactor v = cond (eqb v 0) true (ltb factorLimit v)
+beyond OfOffset v = ltb offsetLimit v
+
 -- refused with a number and a place, or read as frames
 pub data Verdict : Type 0 where
   refused-by : ℕ → ℕ → Verdict
@@ -63,11 +69,9 @@ module _ (code value : Place → ℕ) where
   first-name before [] = none
   first-name before (x ∷ xs) = cond (bad-name before x) (some (spot x)) (first-name (before ++ x ∷ []) xs)
 
-  -- 5: "a number beyond its limit"; "The factor of i is 1 to 9, the offset −9,999 to 9,999, a literal at most 2,147,483,647"
+  -- 5: "a number beyond its limit"
   abbrev pub bad-number : Sized → Bool
-  bad-number (sized-by OfLiteral p) = ltb literalLimit (value p)
-  bad-number (sized-by OfFactor p) = cond (eqb (value p) 0) true (ltb factorLimit (value p))
-  bad-number (sized-by OfOffset p) = ltb offsetLimit (value p)
+  bad-number (sized-by l p) = beyond l (value p)
 
   -- "place the first"
   abbrev pub first-number : List Sized → Option Place

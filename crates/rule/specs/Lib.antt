@@ -9,3 +9,4 @@ pub mod Measure
 pub mod Machine
 pub mod Judge
 pub mod Memory
+pub mod Does

@@ -1,5 +1,7 @@
 // Rules: text, tokens, frames and their checks. Nothing here knows of logs.
 pub mod classes;
+pub mod emit;
+pub mod lookup;
 pub mod memory;
 pub mod names;
 pub mod numerals;
