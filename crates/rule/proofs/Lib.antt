@@ -18,5 +18,6 @@ pub mod Bytes
 pub mod Answer
 pub mod Laws
 pub mod Tables
+pub mod Marked
 pub mod Examples
 pub mod Main

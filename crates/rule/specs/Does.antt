@@ -2,8 +2,11 @@
 use mathlib.Core.Path.{_≡_}
 use mathlib.Core.List.{List}
 use Prim.Native.Nat.{ℕ, _≤_, _<_}
+use mathlib.Core.Bool.{cond}
+use lib.Dec.{eqb}
 use lib.ListN.{length}
-use Rattle.rule.specs.Token.{tokensFrom}
+use Rattle.rule.specs.Token.{unequalKind, atMostKind, atLeastKind, tokensFrom}
+use Rattle.rule.specs.Grammar.{plusMark, minusMark, equalMark, lessMark, moreMark}
 use Rattle.rule.specs.Machine.{Sym, Answer, refused, run}
 use Rattle.rule.specs.Memory.{Mem, acts, mem}
 use Rattle.rule.specs.declared.parts.Place.{Place}
@@ -45,3 +48,16 @@ InsideScale n (Times p) = Inside n p
 abbrev pub InsideShift : ℕ → Shift → Type 0
 InsideShift n Unshifted = Unit
 InsideShift n (By g p) = Inside n p
+
+-- the kind of frame that a token stands for, 0 for none: of "+" and "-", and of the relations
+unfoldable pub signByte : ℕ → ℕ
+signByte k = cond (eqb k plusMark) 0x11 (cond (eqb k minusMark) 0x12 0)
+
+unfoldable pub relByte : ℕ → ℕ
+relByte k =
+    cond (eqb k equalMark) 0x21
+    (cond (eqb k unequalKind) 0x22
+    (cond (eqb k lessMark) 0x23
+    (cond (eqb k atMostKind) 0x24
+    (cond (eqb k moreMark) 0x25
+    (cond (eqb k atLeastKind) 0x26 0)))))
