@@ -1,0 +1,4 @@
+pub mod Digit
+pub mod Pair
+pub mod Line
+pub mod Walk

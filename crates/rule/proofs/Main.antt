@@ -8,53 +8,98 @@ use Rattle.rule.specs.Class.{letter, digit, blank, classOf}
 use Rattle.rule.specs.Token.{endKind, numberKind, eventsKind, notesKind, indexKind, absKind, eventsWord, notesWord, indexWord, absWord, wordKind, tokenAt, spelling, tokens}
 use Rattle.rule.specs.Name.{longName, nameCode}
 use Rattle.rule.specs.Number.{most, decimal, numberValue}
+use Rattle.rule.proofs.Codes.{Letters}
+use Rattle.rule.proofs.Lexing.{IsWord, Rising}
+use Rattle.rule.proofs.Runs.{OfClass}
+use Rattle.rule.specs.Frames.{Bytes}
+use Rattle.rule.specs.Tree.{IsRule, references}
+use Rattle.rule.specs.References.{referenceCount}
+use Rattle.rule.specs.Build.{treeOf}
+use Rattle.rule.specs.Check.{refused, checkedOf}
+use Rattle.rule.specs.Opening.{Whole, Place, Opening, Proper}
+use Rattle.rule.specs.declared.Checked.{Checked}
+use Rattle.rule.specs.declared.Checked.the-variants.{Accepted}
 use Rattle.rule.proofs.Words as words
 use Rattle.rule.proofs.Codes as codes
-use Rattle.rule.proofs.Codes.{Letters}
 use Rattle.rule.proofs.Decimals as decimals
 use Rattle.rule.proofs.Lexing as lexing
-use Rattle.rule.proofs.Lexing.{IsWord, Rising}
 use Rattle.rule.proofs.Runs as runs
-use Rattle.rule.proofs.Runs.{OfClass}
+use Rattle.rule.proofs.Accept
+use Rattle.rule.proofs.Count
+use Rattle.rule.proofs.Opening
+use Rattle.rule.proofs.Exactly
+
+-- ---- text
 
 -- Tokens: places rise, each token has a byte at least and lies within the text.
-tokens-rise : (text : List ℕ) → Rising 0 (length text) (tokens text)
+pub tokens-rise : (text : List ℕ) → Rising 0 (length text) (tokens text)
 tokens-rise text = lexing.rising text 0 zero-le
 
 -- The end of a text has its length as its place.
-end-of-text : (text : List ℕ) (at : ℕ) → at ≤ length text → tokenAt text at .kind ≡ endKind → tokenAt text at .start ≡ length text
+pub end-of-text : (text : List ℕ) (at : ℕ) → at ≤ length text → tokenAt text at .kind ≡ endKind → tokenAt text at .start ≡ length text
 end-of-text = lexing.at-end
 
 -- Nothing but blanks stands between two tokens.
-blanks-between : (text : List ℕ) (at k : ℕ) → at ≤ k → k < tokenAt text at .start → classOf (getD text k 0) ≡ blank
+pub blanks-between : (text : List ℕ) (at k : ℕ) → at ≤ k → k < tokenAt text at .start → classOf (getD text k 0) ≡ blank
 blanks-between = lexing.gap-blank
 
 -- A word is a run of letters, as long as can be.
-word-letters : (text : List ℕ) (at : ℕ) → IsWord (tokenAt text at .kind) → OfClass letter (spelling text (tokenAt text at))
+pub word-letters : (text : List ℕ) (at : ℕ) → IsWord (tokenAt text at .kind) → OfClass letter (spelling text (tokenAt text at))
 word-letters = runs.word-letters
 
-word-longest : (text : List ℕ) (at : ℕ) → tokenAt text at .end < length text → IsWord (tokenAt text at .kind) → classOf (getD text (tokenAt text at .end) 0) ≡ letter → ⊥
+pub word-longest : (text : List ℕ) (at : ℕ) → tokenAt text at .end < length text → IsWord (tokenAt text at .kind) → classOf (getD text (tokenAt text at .end) 0) ≡ letter → ⊥
 word-longest = runs.word-longest
 
 -- A number is a run of digits, as long as can be.
-number-digits : (text : List ℕ) (at : ℕ) → tokenAt text at .kind ≡ numberKind → OfClass digit (spelling text (tokenAt text at))
+pub number-digits : (text : List ℕ) (at : ℕ) → tokenAt text at .kind ≡ numberKind → OfClass digit (spelling text (tokenAt text at))
 number-digits = runs.number-digits
 
-number-longest : (text : List ℕ) (at : ℕ) → tokenAt text at .end < length text → tokenAt text at .kind ≡ numberKind → classOf (getD text (tokenAt text at .end) 0) ≡ digit → ⊥
+pub number-longest : (text : List ℕ) (at : ℕ) → tokenAt text at .end < length text → tokenAt text at .kind ≡ numberKind → classOf (getD text (tokenAt text at .end) 0) ≡ digit → ⊥
 number-longest = runs.number-longest
 
 -- The reserved words are told apart, each from every other word.
-reserved : (w : List ℕ) → ((wordKind w ≡ eventsKind) ↔ (w ≡ eventsWord)) × ((wordKind w ≡ notesKind) ↔ (w ≡ notesWord)) × ((wordKind w ≡ indexKind) ↔ (w ≡ indexWord)) × ((wordKind w ≡ absKind) ↔ (w ≡ absWord))
+pub reserved : (w : List ℕ) → ((wordKind w ≡ eventsKind) ↔ (w ≡ eventsWord)) × ((wordKind w ≡ notesKind) ↔ (w ≡ notesWord)) × ((wordKind w ≡ indexKind) ↔ (w ≡ indexWord)) × ((wordKind w ≡ absKind) ↔ (w ≡ absWord))
 reserved = words.reserved
 
 -- Two names of at most 12 letters have one number exactly if they are equal.
-names-apart : (x y : List ℕ) → Letters x → Letters y → length x ≤ 12 → length y ≤ 12 → (nameCode x ≡ nameCode y) ↔ (x ≡ y)
+pub names-apart : (x y : List ℕ) → Letters x → Letters y → length x ≤ 12 → length y ≤ 12 → (nameCode x ≡ nameCode y) ↔ (x ≡ y)
 names-apart = codes.names-apart
 
 -- A word is over 12 letters exactly if its number is that of the long ones.
-over-12 : (w : List ℕ) → Letters w → (12 < length w) ↔ (nameCode w ≡ longName)
+pub over-12 : (w : List ℕ) → Letters w → (12 < length w) ↔ (nameCode w ≡ longName)
 over-12 = codes.over-12
 
 -- The capped value decides every limit below the cap.
-number-decides : (ds : List ℕ) (limit : ℕ) → limit < most → (numberValue ds ≤ limit) ↔ (decimal ds ≤ limit)
+pub number-decides : (ds : List ℕ) (limit : ℕ) → limit < most → (numberValue ds ≤ limit) ↔ (decimal ds ≤ limit)
 number-decides = decimals.number-decides
+
+-- ---- frames
+
+-- accepted: exactly the frames of a tree within the limits, at most 64, with a reference, every magnitude at most 2^62
+pub frames-exactly : {s : List ℕ} → Bytes s → (checkedOf s ≡ Accepted) ↔ Proper s
+frames-exactly = Exactly.accepted-iff
+
+-- bytes are the frames of one tree only
+pub one-tree : {s : List ℕ} (p q : IsRule s) → p .tree ≡ q .tree
+one-tree = Accept.one-tree
+
+-- which a function finds
+pub tree-of : {s : List ℕ} (r : IsRule s) → treeOf s ≡ r .tree
+tree-of = Accept.tree-of
+
+-- refused with 10 at p: exactly where the frames before p begin some rule of some length, and with the frame at p none;
+-- at their count, where only the end is wrong
+pub place-10 : {s : List ℕ} → Bytes s → (p : ℕ) → (checkedOf s ≡ refused 10 p) ↔ (Whole (length s) × Place s p)
+place-10 = Exactly.place-iff
+
+-- at most 32 references in 64 frames
+pub few-references : {s : List ℕ} → Bytes s → checkedOf s ≡ Accepted → referenceCount s ≤ 32
+few-references = Exactly.few
+
+-- and the count is of the references that the tree names
+pub count-references : {s : List ℕ} (r : IsRule s) → referenceCount s ≡ length (references (r .tree))
+count-references = Count.count-of
+
+-- every answer, 9, 10, 7, 8 or accepted, in the words of trees
+pub opening-iff : {s : List ℕ} → Bytes s → (o : Checked) → (checkedOf s ≡ o) ↔ Opening s o
+opening-iff = Opening.opening-iff

@@ -6,7 +6,8 @@ use Prim.Native.Nat.{ℕ, _≤_, _<_}
 use native.Mathlib.Omega.{arith}
 use borrow.Author.Tests.{eq-eqb, ne-eqb, eqb-true, eqb-false, lt-leb}
 use lib.Dec.{T, leb, ltb, eqb, ltb→lt}
-use Rattle.numbers.proofs.Table.{both, both-left, both-right, tested}
+use Rattle.numbers.proofs.Bools.{and-l, and-r}
+use Rattle.numbers.proofs.Ranges.{tested}
 use Rattle.rule.specs.Class.{mark, among, oneByteMarks, classOf}
 use Rattle.rule.specs.Token.{arrowKind, barsKind, ampersandsKind, unequalKind, atMostKind, atLeastKind, foreignKind, oneByteMark, twoByteMark, markOf, markWidth}
 
@@ -61,24 +62,24 @@ width-some k = go (leb 130 k && leb k 135)
 -- what a test says of every byte of a list, it says of a byte among them
 abbrev every : (ℕ → Bool) → List ℕ → Bool
 every f [] = true
-every f (x ∷ xs) = both (f x) (every f xs)
+every f (x ∷ xs) = f x && every f xs
 
 among-every : (f : ℕ → Bool) (xs : List ℕ) (b : ℕ) → T (every f xs) → among xs b ≡ true → T (f b)
 among-every f [] b t e = absurd (let n : _≡_ {A = ℕ} 0 1 = cc in omega arith)
-among-every f (x ∷ xs) b t e = go (eqb b x) refl (λ q. among-every f xs b (both-right (f x) (every f xs) t) q) e
+among-every f (x ∷ xs) b t e = go (eqb b x) refl (λ q. among-every f xs b (and-r (f x) (every f xs) t) q) e
   where
     go : (u : Bool) → eqb b x ≡ u → (among xs b ≡ true → T (f b)) → (u || among xs b) ≡ true → T (f b)
-    go true q ih p = subst (λ (y : ℕ). T (f y)) (sym (eqb-true b x q)) (both-left (f x) (every f xs) t)
+    go true q ih p = subst (λ (y : ℕ). T (f y)) (sym (eqb-true b x q)) (and-l (f x) (every f xs) t)
     go false q ih p = ih p
 
 -- the kind of a mark of one byte is no other token's
 abbrev low : ℕ → Bool
-low x = both (ltb 6 x) (ltb x 130)
+low x = ltb 6 x && ltb x 130
 
 one-low : (b : ℕ) → among oneByteMarks b ≡ true → (6 < b) × (b < 130)
 one-low b e =
     let t = among-every low oneByteMarks b tt e in
-    (ltb→lt 6 b (both-left (ltb 6 b) (ltb b 130) t), ltb→lt b 130 (both-right (ltb 6 b) (ltb b 130) t))
+    (ltb→lt 6 b (and-l (ltb 6 b) (ltb b 130) t), ltb→lt b 130 (and-r (ltb 6 b) (ltb b 130) t))
 
 -- a mark byte with 0 after it, as at the end of a text, is a token of one byte
 and-false : (t : Bool) → (t && false) ≡ false

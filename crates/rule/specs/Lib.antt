@@ -10,3 +10,12 @@ pub mod Machine
 pub mod Judge
 pub mod Memory
 pub mod Does
+pub mod Frames
+pub mod Tree
+pub mod References
+pub mod Order
+pub mod Sizes
+pub mod Stack
+pub mod Build
+pub mod Check
+pub mod Opening

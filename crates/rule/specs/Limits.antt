@@ -1,6 +1,6 @@
 -- The limits of a rule's frames, each named once. From document 01, "From rule text to frames".
 -- Assumes nothing: definitions.
-use Prim.Native.Nat.{ℕ, _*_, _^_}
+use Prim.Native.Nat.{ℕ, _^_}
 
 -- events are numbered from 0, at most 8
 abbrev pub eventLimit : ℕ

@@ -10,6 +10,15 @@ pub mod numerals;
 pub mod parts;
 pub mod sums;
 pub mod tokens;
+mod frames; // frames.rt: a frame's fields
+mod order; // order.rt: refusal 10, and how many references there are
+mod sizes; // sizes.rt: refusal 8
+
+pub use frames::frame_at;
+use order::Ordered;
+pub use order::reference_count;
+ghost use mathlib.Core.Path.{_≡_};
+ghost use Rattle.rule.specs.Check.{wholeFrames, refused, checkedOf};
 
 // A refusal: document 01's number, and its place, 0 where none is named.
 pub struct Refusal {
@@ -22,4 +31,58 @@ pub struct Token {
     pub kind: u8,
     pub start: usize,
     pub end: usize,
+}
+
+// A frame, the document's word for 8 bytes of a rule, by its fields; value is the offset or the literal.
+pub struct Frame {
+    pub kind: u8,
+    pub event: u8,
+    pub note: u8,
+    pub factor: u8,
+    pub value: i32,
+}
+
+// What the check of frames answers.
+pub enum Checked {
+    Accepted,
+    Refused(Refusal),
+}
+
+// At most 64 frames of 8 bytes.
+const LONGEST: usize = 512;
+
+// 8 to 512 bytes in steps of 8.
+fn whole_frames(n: usize) -> bool
+    ensures { λ r. ⌜ r ≡ wholeFrames n ⌝ }
+{
+    ((frames::FRAME_BYTES <= n) & (n <= LONGEST)) & (n % frames::FRAME_BYTES == 0)
+}
+
+fn refuse(number: u8, place: u32) -> Checked
+    ensures { λ r. ⌜ r ≡ refused number place ⌝ }
+{
+    Checked::Refused(Refusal { number, place })
+}
+
+// What opening checks of frames, whatever the bytes are: 9, 10, 7 and 8, in this order.
+pub fn check(frames: &[u8]) -> Checked
+    ensures { λ r. ⌜ r ≡ checkedOf (now (frames .entry)) ⌝ }
+{
+    if whole_frames(frames.len()) {
+        let found = order::order(frames);
+        match found {
+            Ordered::At(p) => refuse(10, p as u32),
+            Ordered::Fine(count) => {
+                if count == 0 {
+                    refuse(7, 0)
+                } else if sizes::sizes_fit(frames) {
+                    Checked::Accepted
+                } else {
+                    refuse(8, 0)
+                }
+            }
+        }
+    } else {
+        refuse(9, 0)
+    }
 }

@@ -1,0 +1,184 @@
+-- All thirteen marked examples (M) of document 01 in one table, computed: the answers of opening, of the plain machine and of
+-- the checker's definitions. Assumes nothing.
+use mathlib.Core.Path.{_≡_, refl}
+use mathlib.Core.Bool.{cond}
+use mathlib.Core.List.{List, [], _∷_, _++_, map}
+use Prim.Native.Nat.{ℕ, zero, suc, _+_, _/_, _%_}
+use lib.Dec.{ltb}
+use lib.IntN.{ℤ, pos, negsuc}
+use lib.ListN.{replicate}
+use Rattle.rule.specs.Frames.{add, subtract, multiply, equal, less, atMost, more, or, kindOf}
+use Rattle.rule.specs.Tree.{Sum, literal, reference, arithmetic, abs, Cond, relation, connective, postfix, bytesOf}
+use Rattle.rule.specs.References.{referenceCount}
+use Rattle.rule.specs.Order.{orderOf}
+use Rattle.rule.specs.Sizes.{sizesFit}
+use Rattle.rule.specs.Build.{treeOf}
+use Rattle.rule.specs.Check.{checkedOf}
+use Rattle.log.specs.Digit.{digitValue}
+use Rattle.log.specs.Line.{digitsAtFront, badPlace, lineOf}
+use Rattle.verdict.specs.declared.Truth.the-variants.{True, False, Unknown}
+use Rattle.checker.specs.Limits.{windowWords, reportLeast}
+use Rattle.checker.specs.Answer.{Answer, opened, accepted, waiting, verdict, refused}
+use Rattle.checker.specs.Base.{ofEvent, referenced, smallest, base}
+use Rattle.checker.specs.State.{freshState, withCount, withPulled}
+use Rattle.checker.specs.Ring.{stored, kept}
+use Rattle.checker.specs.Open.{OpenResult, openDef}
+use Rattle.checker.specs.Good.{goodRule, goodCount, allTo, goodTally, goodState}
+use Rattle.checker.specs.Feed.{feedEvent, feedDef}
+use Rattle.checker.specs.Report.{reportBytes}
+use Rattle.checker.specs.Pull.{pullRead, pullDef}
+use Rattle.checker.specs.Calls.{Call, feed, pull, Out, fed, pulled, outs, freshFrom, checker}
+use Rattle.checker.specs.Machine.{atFirst, tabulated, joined, moved, machineFor}
+
+-- ---- rules; t is note 0
+abbrev t : ℕ → ℤ → Sum
+t e o = reference (record { event = e; note = 0; factor = 1; offset = o })
+
+-- events in out; notes t; t(out[i]) - t(in[i]) <= 25
+abbrev latency : Cond
+latency = relation atMost (arithmetic subtract (t 1 (pos 0)) (t 0 (pos 0))) (literal 25)
+
+-- events a b; notes t; t(a[i+10]) > 100 || t(b[i-5]) < 300
+abbrev after003 : Cond
+after003 = connective or (relation more (t 0 (pos 10)) (literal 100)) (relation less (t 1 (negsuc 4)) (literal 300))
+
+-- t(a[i-2]) > 0
+abbrev twoBefore : Cond
+twoBefore = relation more (t 0 (negsuc 1)) (literal 0)
+
+-- t(a[i]) > 0 || 0 = 0
+abbrev orTrue : Cond
+orTrue = connective or (relation more (t 0 (pos 0)) (literal 0)) (relation equal (literal 0) (literal 0))
+
+-- abs(t(a[i])) > 2147483647
+abbrev greatest : Cond
+greatest = relation more (abs (t 0 (pos 0))) (literal 2147483647)
+
+-- a product of two notes, in a relation with 0, and the same plus 1
+abbrev product : Sum
+product = arithmetic multiply (t 0 (pos 0)) (t 1 (pos 0))
+
+-- ---- lines
+abbrev digit : ℕ → ℕ
+digit d = cond (ltb d 10) (48 + d) (55 + d)
+
+-- the last n digits of a number, before others
+abbrev digits : ℕ → ℕ → List ℕ → List ℕ
+digits zero x rest = rest
+digits (suc n) x rest = digits n (x / 16) (digit (x % 16) ∷ rest)
+
+-- a line of event e whose first note has these bits, the others 0
+abbrev line : ℕ → ℕ → Call
+line e bits = feed (digits 2 e (digits 8 bits (replicate 24 48)))
+
+abbrev next : Call
+next = pull (replicate reportLeast 7)
+
+-- ---- the table
+pub record Example : Type 0 where
+  pub rule : Cond
+  pub width : ℕ
+  pub calls : List Call
+  pub opening : Answer
+  pub answers : List Answer
+
+abbrev table : List Example
+table =
+    -- M1
+    record {
+      rule = latency; width = 4; opening = opened;
+      calls = line 0 10 ∷ line 1 35 ∷ next ∷ [];
+      answers = accepted ∷ accepted ∷ verdict True ∷ [];
+    }
+    -- M2
+    ∷ record {
+      rule = latency; width = 4; opening = opened;
+      calls = line 0 10 ∷ line 1 36 ∷ next ∷ [];
+      answers = accepted ∷ accepted ∷ verdict False ∷ [];
+    }
+    -- M3
+    ∷ record {
+      rule = latency; width = 4; opening = opened;
+      calls = line 0 10 ∷ next ∷ [];
+      answers = accepted ∷ waiting ∷ [];
+    }
+    -- M4: a[10] to a[19] settle instances 0 to 9
+    ∷ record {
+      rule = after003; width = 16; opening = opened;
+      calls = replicate 10 (line 0 0) ++ (replicate 10 (line 0 200) ++ (replicate 10 next ++ (line 0 200 ∷ next ∷ [])));
+      answers = replicate 20 accepted ++ (replicate 10 (verdict True) ++ (accepted ∷ verdict True ∷ []));
+    }
+    -- M5: a[10] to a[13] settle instances 0 to 3
+    ∷ record {
+      rule = after003; width = 16; opening = opened;
+      calls = replicate 10 (line 0 0) ++ (replicate 4 (line 0 200) ++ (replicate 4 next ++ (line 0 200 ∷ next ∷ [])));
+      answers = replicate 14 accepted ++ (replicate 4 (verdict True) ++ (accepted ∷ verdict True ∷ []));
+    }
+    -- M6
+    ∷ record {
+      rule = after003; width = 16; opening = opened;
+      calls = replicate 10 (line 0 0) ++ (replicate 4 (line 0 200) ++ (replicate 4 next ++ (line 0 100 ∷ next ∷ [])));
+      answers = replicate 14 accepted ++ (replicate 4 (verdict True) ++ (accepted ∷ verdict Unknown ∷ []));
+    }
+    -- M7
+    ∷ record {
+      rule = after003; width = 16; opening = opened;
+      calls = replicate 10 (line 0 0) ++ (replicate 4 (line 0 200) ++ (replicate 4 next ++ (next ∷ [])));
+      answers = replicate 14 accepted ++ (replicate 4 (verdict True) ++ (waiting ∷ []));
+    }
+    -- M8
+    ∷ record {
+      rule = twoBefore; width = 4; opening = opened;
+      calls = next ∷ next ∷ next ∷ [];
+      answers = verdict Unknown ∷ verdict Unknown ∷ waiting ∷ [];
+    }
+    -- M9
+    ∷ record {
+      rule = orTrue; width = 4; opening = opened;
+      calls = next ∷ [];
+      answers = waiting ∷ [];
+    }
+    -- M10: −2,147,483,648
+    ∷ record {
+      rule = greatest; width = 4; opening = opened;
+      calls = line 0 0x80000000 ∷ next ∷ [];
+      answers = accepted ∷ verdict True ∷ [];
+    }
+    -- M11
+    ∷ record { rule = relation more product (literal 0); width = 4; opening = opened; calls = []; answers = [] }
+    ∷ record { rule = relation more (arithmetic add product (literal 1)) (literal 0); width = 4; opening = refused 8 0; calls = []; answers = [] }
+    -- M12 and M13: W 1
+    ∷ record {
+      rule = latency; width = 1; opening = opened;
+      calls = line 0 10 ∷ line 0 20 ∷ line 1 30 ∷ next ∷ line 0 20 ∷ [];
+      answers = accepted ∷ refused 17 0 ∷ accepted ∷ verdict True ∷ accepted ∷ [];
+    }
+    ∷ []
+
+-- ---- what the definitions answer
+abbrev framesOf : Example → List ℕ
+framesOf x = bytesOf (postfix (x .rule))
+
+-- opened with a window that held 7 throughout
+abbrev openedBy : Example → OpenResult
+openedBy x = openDef (framesOf x) (x .width) (replicate (windowWords (x .width)) (pos 7))
+
+abbrev answerOf : Out → Answer
+answerOf (fed a) = a
+answerOf (pulled a report) = a
+
+abbrev byMachine : Example → List Answer
+byMachine x = map answerOf (outs (machineFor (framesOf x) (x .width)) (x .calls) atFirst)
+
+abbrev byChecker : Example → List Answer
+byChecker x = map answerOf (outs checker (x .calls) (freshFrom (openedBy x)))
+
+-- opening, the plain machine and the checker, example by example
+pub record Shown (xs : List Example) : Type 0 where
+  pub opening : map (λ x. openedBy x .answer) xs ≡ map (λ x. x .opening) xs
+  pub machine : map byMachine xs ≡ map (λ x. x .answers) xs
+  pub checker : map byChecker xs ≡ map (λ x. x .answers) xs
+
+pub marked : Shown table
+unfolding kindOf referenceCount orderOf sizesFit treeOf checkedOf digitValue digitsAtFront badPlace lineOf ofEvent referenced smallest base freshState withCount withPulled stored kept openDef goodRule goodCount allTo goodTally goodState feedEvent feedDef reportBytes pullRead pullDef outs tabulated joined moved
+marked = record { opening = refl; machine = refl; checker = refl }

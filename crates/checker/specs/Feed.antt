@@ -1,0 +1,74 @@
+-- Feeding: 12, 13, 15, ignored, 16, 17. From document 01, "Feeding, pulling and the window" and "What is turned down".
+-- Assumes nothing: definitions.
+use mathlib.Core.Bool.{cond}
+use mathlib.Core.List.{List, [], _∷_}
+use Prim.Native.Nat.{ℕ, _+_}
+use lib.Dec.{leb}
+use lib.IntN.{ℤ}
+use Rattle.rule.specs.Tree.{Reference}
+use Rattle.log.specs.Line.{Told, lineOf}
+use Rattle.log.specs.Line as log
+use Rattle.checker.specs.Limits.{lineLimit}
+use Rattle.checker.specs.Answer.{Answer, accepted, ignored, refused}
+use Rattle.checker.specs.Base.{referenced, base}
+use Rattle.checker.specs.State.{Tally, countOf, tallyIn, refsIn, withCount}
+use Rattle.checker.specs.Ring.{kept}
+use Rattle.checker.specs.Open.{windowFits}
+use Rattle.checker.specs.Good.{goodState}
+use Rattle.checker.specs.declared.State.{State}
+
+-- ---- the decision, which the plain machine and the checker share
+-- a line is turned down with a number and a place, ignored, or taken as four notes of an event
+pub data FeedRead : Type 0 where
+  turned : (number place : ℕ) → FeedRead
+  skipped : FeedRead
+  taken : (event : ℕ) (notes : List ℤ) → FeedRead
+
+-- "An event that isn't referenced is 'ignored'. A count of 1,000,000 is refused with 16, one that has reached base plus W with
+-- 17. Any other line is accepted"
+unfoldable pub feedEvent : List Reference → ℕ → Tally → ℕ → List ℤ → FeedRead
+feedEvent refs w t e notes =
+    cond (referenced refs e)
+    (cond (leb lineLimit (countOf t e)) (turned 16 0)
+    (cond (leb (base refs e (t .next) + w) (countOf t e)) (turned 17 0) (taken e notes)))
+    skipped
+
+-- "a line that 15 names is refused with 15 and its place"
+abbrev pub feedRead : List Reference → ℕ → Tally → Told → FeedRead
+feedRead refs w t (log.refused number place) = turned number place
+feedRead refs w t (log.line e a b c d) = feedEvent refs w t e (a ∷ b ∷ c ∷ d ∷ [])
+
+abbrev pub feedAnswer : FeedRead → Answer
+feedAnswer (turned number place) = refused number place
+feedAnswer skipped = ignored
+feedAnswer (taken e notes) = accepted
+
+-- ---- the checker
+-- the answer, the state that is handed on, and the window's words after the call
+pub record FeedResult : Type 0 where
+  pub answer : Answer
+  pub state : State
+  pub words : List ℤ
+
+-- "A refused line .., an ignored line .. change nothing"
+abbrev pub notFed : State → List ℤ → Answer → FeedResult
+notFed s win a = record { answer = a; state = s; words = win }
+
+abbrev pub fedBy : State → List ℤ → FeedRead → FeedResult
+fedBy s win (turned number place) = notFed s win (refused number place)
+fedBy s win skipped = notFed s win ignored
+fedBy s win (taken e notes) =
+    record {
+      answer = accepted;
+      state = withCount s e;
+      words = kept win (s .width) e (base (refsIn s) e (s .next .0)) (countOf (tallyIn s) e) notes;
+    }
+
+-- for every state, every window and every line
+unfoldable pub feedDef : State → List ℤ → List ℕ → FeedResult
+feedDef s win line =
+    cond (goodState s)
+    (cond (windowFits (s .width) win)
+    (fedBy s win (feedRead (refsIn s) (s .width) (tallyIn s) (lineOf line)))
+    (notFed s win (refused 13 0)))
+    (notFed s win (refused 12 0))

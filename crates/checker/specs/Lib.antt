@@ -1,0 +1,13 @@
+pub mod Limits
+pub mod Answer
+pub mod Base
+pub mod State
+pub mod Ring
+pub mod Found
+pub mod Open
+pub mod Good
+pub mod Feed
+pub mod Report
+pub mod Pull
+pub mod Calls
+pub mod Machine

@@ -1,0 +1,86 @@
+-- The plain machine. From document 01, "Feeding, pulling and the window". Assumes nothing: definitions.
+use mathlib.Core.Bool.{cond}
+use mathlib.Core.List.{List, [], _∷_, _++_}
+use Prim.Native.Nat.{ℕ, zero, suc, _+_}
+use lib.Dec.{eqb}
+use lib.IntN.{ℤ}
+use lib.ListN.{length}
+use Rattle.rule.specs.Limits.{eventLimit}
+use Rattle.rule.specs.Tree.{Reference, Cond, references}
+use Rattle.rule.specs.Build.{treeOf}
+use Rattle.log.specs.Line.{lineOf}
+use Rattle.verdict.specs.Found.{Found, foundIn}
+use Rattle.verdict.specs.declared.Truth.{Truth}
+use Rattle.checker.specs.Base.{firstInstance}
+use Rattle.checker.specs.State.{noTotals, counted, Tally}
+use Rattle.checker.specs.Feed.{FeedRead, turned, skipped, taken, feedRead, feedAnswer}
+use Rattle.checker.specs.Pull.{PullRead, short, waits, gave, pullRead, pullAnswer, pullReport}
+use Rattle.checker.specs.Calls.{Call, feed, pull, fed, pulled, Step}
+use Rattle.checker.specs.declared.Totals.{Totals}
+
+-- plain machine is the document's term. "per event the list of its accepted lines, each as its four notes, empty at first; the
+-- number p of verdicts pulled and a total for each of the verdicts, 0 at first"; next is p
+pub record Machine : Type 0 where
+  pub lists : ℕ → List (List ℤ)
+  pub next : ℕ
+  pub totals : Totals
+
+abbrev pub atFirst : Machine
+atFirst = record { lists = λ e. []; next = firstInstance; totals = noTotals }
+
+-- f at 0, 1, .., n - 1
+unfoldable pub tabulated : {A : Type 0} → ℕ → (ℕ → A) → List A
+tabulated zero f = []
+tabulated (suc n) f = f zero ∷ tabulated n (λ k. f (suc k))
+
+-- "An event's count is the length of its list"
+abbrev pub tallyOf : Machine → Tally
+tallyOf m = record { counts = tabulated eventLimit (λ (e : ℕ). length (m .lists e)); next = m .next; totals = m .totals }
+
+-- "its four notes join the end of its event's list as one entry"
+unfoldable pub joined : Machine → ℕ → List ℤ → Machine
+joined m e notes =
+    record {
+      lists = λ (f : ℕ). cond (eqb f e) (m .lists f ++ (notes ∷ [])) (m .lists f);
+      next = m .next;
+      totals = m .totals;
+    }
+
+-- "p and that verdict's total go up by 1"
+unfoldable pub moved : Machine → Truth → Machine
+moved m v = record { lists = m .lists; next = m .next + 1; totals = counted (m .totals) v }
+
+-- "A refused line or pull, an ignored line and 'waiting' change nothing"
+abbrev pub afterFeed : Machine → FeedRead → Machine
+afterFeed m (turned number place) = m
+afterFeed m skipped = m
+afterFeed m (taken e notes) = joined m e notes
+
+abbrev pub afterPull : Machine → PullRead → Machine
+afterPull m short = m
+afterPull m waits = m
+afterPull m (gave v) = moved m v
+
+-- "It has the rule and W that opening was given", and is fed the line of each feed and the report buffer of each pull
+module _ (rule : Cond) (w : ℕ) where
+  abbrev pub machineFeed : Machine → List ℕ → FeedRead
+  machineFeed m line = feedRead (references rule) w (tallyOf m) (lineOf line)
+
+  -- what each reference of instance p is by the lists
+  abbrev pub foundNow : Machine → Reference → Found
+  foundNow m = foundIn (m .lists) (m .next)
+
+  abbrev pub machinePull : Machine → List ℕ → PullRead
+  machinePull m buffer = pullRead rule (m .next) (foundNow m) (length buffer)
+
+  abbrev pub machine : Machine → Call → Step Machine
+  machine m (feed line) = record { out = fed (feedAnswer (machineFeed m line)); next = afterFeed m (machineFeed m line) }
+  machine m (pull buffer) =
+      record {
+        out = pulled (pullAnswer (machinePull m buffer)) (pullReport (m .next) (references rule) (foundNow m) buffer (machinePull m buffer));
+        next = afterPull m (machinePull m buffer);
+      }
+
+-- with the frames that opening was given
+abbrev pub machineFor : List ℕ → ℕ → Machine → Call → Step Machine
+machineFor frames w = machine (treeOf frames) w

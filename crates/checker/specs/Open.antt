@@ -1,0 +1,45 @@
+-- Opening: 9, 10, 7, 8, then 11. From document 01, "What is turned down" and "Feeding, pulling and the window".
+-- Assumes nothing: definitions.
+use mathlib.Core.Bool.{Bool, _&&_, cond}
+use mathlib.Core.List.{List}
+use Prim.Native.Nat.{ℕ}
+use lib.Dec.{leb, eqb}
+use lib.IntN.{ℤ, pos}
+use lib.ListN.{length, replicate}
+use Rattle.rule.specs.Check.{checkedOf}
+use Rattle.rule.specs.declared.Checked.{Checked}
+use Rattle.rule.specs.declared.Checked.the-variants.{Accepted, Refused}
+use Rattle.checker.specs.Limits.{widthLimit, windowWords}
+use Rattle.checker.specs.Answer.{Answer, opened, refused}
+use Rattle.checker.specs.State.{zeroState, freshState}
+use Rattle.checker.specs.declared.State.{State}
+
+-- the answer, the state that is given back, and the window's words after the call
+pub record OpenResult : Type 0 where
+  pub answer : Answer
+  pub state : State
+  pub words : List ℤ
+
+-- not "W outside 1 to 256"
+abbrev pub widthFits : ℕ → Bool
+widthFits w = leb 1 w && leb w widthLimit
+
+-- not "a window not 32 × W words"
+abbrev pub windowFits : ℕ → List ℤ → Bool
+windowFits w win = eqb (length win) (windowWords w)
+
+-- "A refused opening hands back the state that is zero throughout"; a refusal "changes nothing"
+abbrev pub notOpened : List ℤ → ℕ → ℕ → OpenResult
+notOpened win number place = record { answer = refused number place; state = zeroState; words = win }
+
+-- "opening sets all to 0"
+abbrev pub openedAs : List ℕ → ℕ → OpenResult
+openedAs frames w = record { answer = opened; state = freshState frames w; words = replicate (windowWords w) (pos 0) }
+
+abbrev pub afterFrames : List ℕ → ℕ → List ℤ → Checked → OpenResult
+afterFrames frames w win (Refused r) = notOpened win (r .number) (r .place)
+afterFrames frames w win Accepted = cond (widthFits w && windowFits w win) (openedAs frames w) (notOpened win 11 0)
+
+-- for every slice of frames, every W and every window
+unfoldable pub openDef : List ℕ → ℕ → List ℤ → OpenResult
+openDef frames w win = afterFrames frames w win (checkedOf frames)

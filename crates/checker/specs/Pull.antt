@@ -1,0 +1,88 @@
+-- Pulling: 12, 13, 14, then the verdict of the next instance or 'waiting'. From document 01, "Feeding, pulling and the window"
+-- and "What is turned down". Assumes nothing: definitions.
+use mathlib.Core.Bool.{cond}
+use mathlib.Core.List.{List}
+use Prim.Native.Nat.{ℕ}
+use lib.Dec.{ltb}
+use lib.IntN.{ℤ}
+use lib.ListN.{length}
+use Rattle.rule.specs.Tree.{Reference, Cond, references}
+use Rattle.verdict.specs.Found.{Found}
+use Rattle.verdict.specs.Settled.{judgement}
+use Rattle.verdict.specs.declared.Truth.{Truth}
+use Rattle.verdict.specs.declared.Truth.the-variants as truths
+use Rattle.verdict.specs.declared.Judgement.{Judgement}
+use Rattle.verdict.specs.declared.Judgement.the-variants.{Unsettled, True, False, Unknown}
+use Rattle.checker.specs.Limits.{reportLeast}
+use Rattle.checker.specs.Answer.{Answer, waiting, verdict, refused}
+use Rattle.checker.specs.State.{tallyIn, ruleIn, refsIn, withPulled}
+use Rattle.checker.specs.Found.{foundInWindow}
+use Rattle.checker.specs.Open.{windowFits}
+use Rattle.checker.specs.Good.{goodState}
+use Rattle.checker.specs.Report.{reportAfter}
+use Rattle.checker.specs.declared.State.{State}
+
+-- ---- the decision, which the plain machine and the checker share
+-- the buffer is too short, the instance is not settled, or its verdict is given
+pub data PullRead : Type 0 where
+  short waits : PullRead
+  gave : Truth → PullRead
+
+-- "If instance p is settled by the lists, the answer is its verdict .. Else the answer is 'waiting'"
+abbrev pub offered : Judgement → PullRead
+offered Unsettled = waits
+offered True = gave truths.True
+offered False = gave truths.False
+offered Unknown = gave truths.Unknown
+
+-- "a buffer that 14 names is refused with 14": n is the buffer's length; found says what each reference of instance i is
+unfoldable pub pullRead : Cond → ℕ → (Reference → Found) → ℕ → PullRead
+pullRead rule i found n = cond (ltb n reportLeast) short (offered (judgement i found rule))
+
+abbrev pub pullAnswer : PullRead → Answer
+pullAnswer short = refused 14 0
+pullAnswer waits = waiting
+pullAnswer (gave v) = verdict v
+
+-- the report buffer after the pull
+abbrev pub pullReport : ℕ → List Reference → (Reference → Found) → List ℕ → PullRead → List ℕ
+pullReport i refs found buffer short = buffer
+pullReport i refs found buffer waits = buffer
+pullReport i refs found buffer (gave v) = reportAfter i refs found buffer v
+
+-- ---- the checker
+-- the answer, the state that is handed on, and the report buffer after the call; the window is only read
+pub record PullResult : Type 0 where
+  pub answer : Answer
+  pub state : State
+  pub report : List ℕ
+
+abbrev pub notPulled : State → List ℕ → Answer → PullResult
+notPulled s buffer a = record { answer = a; state = s; report = buffer }
+
+-- what each reference of the next instance is
+abbrev pub foundHere : State → List ℤ → Reference → Found
+foundHere s win = foundInWindow (s .width) (tallyIn s) win (s .next .0)
+
+-- "A refused .. pull .. and 'waiting' change nothing"
+abbrev pub stateAfter : State → PullRead → State
+stateAfter s short = s
+stateAfter s waits = s
+stateAfter s (gave v) = withPulled s v
+
+abbrev pub pulledBy : State → List ℤ → List ℕ → PullRead → PullResult
+pulledBy s win buffer x =
+    record {
+      answer = pullAnswer x;
+      state = stateAfter s x;
+      report = pullReport (s .next .0) (refsIn s) (foundHere s win) buffer x;
+    }
+
+-- for every state, every window and every report buffer
+unfoldable pub pullDef : State → List ℤ → List ℕ → PullResult
+pullDef s win buffer =
+    cond (goodState s)
+    (cond (windowFits (s .width) win)
+    (pulledBy s win buffer (pullRead (ruleIn s) (s .next .0) (foundHere s win) (length buffer)))
+    (notPulled s buffer (refused 13 0)))
+    (notPulled s buffer (refused 12 0))

@@ -1,0 +1,57 @@
+// Opening, feeding and pulling over a state by value and a lent window.
+use rule::Refusal;
+use verdict::Instance;
+
+// A total for each of the verdicts true, false and unknown.
+#[repr(C)]
+pub struct Totals {
+    pub held: u32,
+    pub failed: u32,
+    pub unknown: u32,
+}
+
+// The state, the document's term for what a checker carries from call to call. Its rule is the first `len` frames, of 8 bytes
+// each; the bytes after them are carried and not looked at. `width` is the document's W, `next` its p.
+#[repr(C)]
+pub struct State {
+    pub frames: [u8; 512],
+    pub len: u32,
+    pub width: u32,
+    pub counts: [u32; 8],
+    pub next: Instance,
+    pub totals: Totals,
+}
+
+pub enum OpenAnswer {
+    Opened,
+    Refused(Refusal),
+}
+
+pub struct Opened {
+    pub answer: OpenAnswer,
+    pub state: State,
+}
+
+pub enum FeedAnswer {
+    Accepted,
+    Ignored,
+    Refused(Refusal),
+}
+
+pub struct Fed {
+    pub answer: FeedAnswer,
+    pub state: State,
+}
+
+pub enum PullAnswer {
+    True,
+    False,
+    Unknown,
+    Waiting,
+    Refused(Refusal),
+}
+
+pub struct Pulled {
+    pub answer: PullAnswer,
+    pub state: State,
+}

@@ -1,0 +1,55 @@
+-- Laws of `lineOf`: which answer each line has. Assumes nothing.
+use mathlib.Core.Path.{_≡_, refl, _∙_}
+use mathlib.Core.Bool.{Bool, true, false}
+use mathlib.Core.List.{List}
+use Prim.Native.Nat.{ℕ, _+_, _≤_, _<_}
+use native.Mathlib.Omega.{arith}
+use borrow.Author.Tests.{eqb-true, eq-eqb}
+use lib.Dec.{eqb}
+use lib.IntN.{ℤ}
+use lib.ListN.{length}
+use Rattle.log.specs.Line.{digitsAtFront, badPlace, pairFrom, byteAt, noteAt, noted, line, refused, lineOf}
+use Rattle.log.specs.declared.digit.Pair.the-variants as pairs
+use Rattle.log.specs.declared.line.Noted.the-variants as noteds
+use Rattle.log.proofs.Digits.{reach, reach-later, front-within}
+use Rattle.log.proofs.Pairs.{pair-byte, pair-bad, note-word, note-bad}
+
+-- 34 digits
+pub line-of-digits : (s : List ℕ) → length s ≡ 34 → 34 ≤ digitsAtFront s
+    → lineOf s ≡ line (byteAt s 0) (noteAt s 0) (noteAt s 1) (noteAt s 2) (noteAt s 3)
+unfolding lineOf
+line-of-digits s h k = rw (eq-eqb (length s) 34 h, eq-eqb (digitsAtFront s) 34 (omega (arith, front-within s)))
+
+other : (s : List ℕ) (x y : Bool) → eqb (length s) 34 ≡ x → eqb (digitsAtFront s) 34 ≡ y
+    → (length s ≡ 34 → 34 ≤ digitsAtFront s → ⊥) → lineOf s ≡ refused 15 (badPlace s)
+unfolding lineOf
+other s true true p q h = absurd (h (eqb-true _ _ p) (omega (arith, eqb-true (digitsAtFront s) 34 q)))
+other s true false p q h = rw (p, q)
+other s false y p q h = rw p
+
+-- anything else
+pub line-of-other : (s : List ℕ) → (length s ≡ 34 → 34 ≤ digitsAtFront s → ⊥) → lineOf s ≡ refused 15 (badPlace s)
+line-of-other s h = other s (eqb (length s) 34) (eqb (digitsAtFront s) 34) refl refl h
+
+-- a pair and four notes
+pub line-of-notes : (s : List ℕ) {e : ℕ} {a b c d : ℤ} → length s ≡ 34 → pairFrom s 0 ≡ pairs.Byte e
+    → noted s 2 ≡ noteds.Note a → noted s 10 ≡ noteds.Note b → noted s 18 ≡ noteds.Note c → noted s 26 ≡ noteds.Note d
+    → lineOf s ≡ line e a b c d
+line-of-notes s h p q r t u =
+    let e = pair-byte s 0 2 refl p in
+    let a = note-word s 2 10 refl q in
+    let b = note-word s 10 18 refl r in
+    let c = note-word s 18 26 refl t in
+    let d = note-word s 26 34 refl u in
+    line-of-digits s h (omega arith) ∙ cc
+
+few : (s : List ℕ) (k : ℕ) → reach s k < 34 → lineOf s ≡ refused 15 (badPlace s)
+few s k h = let l = reach-later s 0 k (omega arith) in line-of-other s (λ n f. omega arith)
+
+-- a pair that is no byte
+pub line-of-bad-pair : (s : List ℕ) → pairFrom s 0 ≡ pairs.Bad → lineOf s ≡ refused 15 (badPlace s)
+line-of-bad-pair s e = let b = pair-bad s 0 e in few s 0 (omega arith)
+
+-- eight bytes that are no note
+pub line-of-bad-note : (s : List ℕ) (k : ℕ) → k + 8 ≤ 34 → noted s k ≡ noteds.Bad → lineOf s ≡ refused 15 (badPlace s)
+line-of-bad-note s k h e = let b = note-bad s k e in few s k (omega arith)

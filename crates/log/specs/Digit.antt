@@ -1,0 +1,16 @@
+-- Digits 0-9 A-F. Assumes nothing: definitions.
+use Prim.Native.Nat.{ℕ, _+_, _-_}
+use mathlib.Core.Bool.{Bool, cond, _&&_}
+use lib.Dec.{leb, ltb}
+
+-- b is one of lo to hi
+abbrev pub between : ℕ → ℕ → ℕ → Bool
+between lo hi b = leb lo b && leb b hi
+
+-- "digits 0-9 A-F": the value of a digit, 16 for a byte that is no digit
+unfoldable pub digitValue : ℕ → ℕ
+digitValue b = cond (between 0x30 0x39 b) (b - 0x30) (cond (between 0x41 0x46 b) (b - 0x41 + 10) 16)
+
+-- 15's "non-digit" is a byte of which this is false
+abbrev pub isDigit : ℕ → Bool
+isDigit b = ltb (digitValue b) 16

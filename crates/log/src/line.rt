@@ -1,0 +1,93 @@
+// The line of 34 digits.
+use crate::digit::Pair;
+use crate::digit::digit;
+use crate::digit::read_pair;
+ghost use mathlib.Core.Path.{_≡_};
+ghost use Prim.Native.Nat.{_+_, _≤_};
+ghost use lib.ListN.{length};
+ghost use Rattle.log.specs.Line.{pairFrom, noted, badPlace, told, lineOf};
+
+// The four notes of a line. 'Note' is document 01's term for an event's annotation.
+pub struct Notes(pub i32, pub i32, pub i32, pub i32);
+
+// What a log line holds ('log line' is document 01's term): an event with its notes, or the place of refusal 15.
+pub enum Line {
+    Event(u8, Notes),
+    Bad(u32),
+}
+
+// The pair of digits from a place on.
+fn pair_at(bytes: &[u8], at: usize) -> Pair
+    requires { ⌜ at + 2 ≤ length (now bytes) ⌝ }
+    ensures { λ r. ⌜ r ≡ pairFrom (now (bytes .entry)) at ⌝ }
+{
+    read_pair(bytes[at], bytes[at + 1])
+}
+
+// What eight bytes are as a note.
+enum Noted {
+    Note(i32),
+    Bad,
+}
+
+// The note from a place on.
+fn note_at(bytes: &[u8], at: usize) -> Noted
+    requires { ⌜ at + 8 ≤ length (now bytes) ⌝ }
+    ensures { λ r. ⌜ r ≡ noted (now (bytes .entry)) at ⌝ }
+{
+    let Pair::Byte(a) = pair_at(bytes, at) else {
+        return Noted::Bad;
+    };
+    let Pair::Byte(b) = pair_at(bytes, at + 2) else {
+        return Noted::Bad;
+    };
+    let Pair::Byte(c) = pair_at(bytes, at + 4) else {
+        return Noted::Bad;
+    };
+    let Pair::Byte(d) = pair_at(bytes, at + 6) else {
+        return Noted::Bad;
+    };
+    Noted::Note(numbers::word(a, b, c, d))
+}
+
+// The place of refusal 15, read only once a line is refused.
+fn bad_place(bytes: &[u8]) -> u32
+    ensures { λ r. ⌜ r ≡ badPlace (now (bytes .entry)) ⌝ }
+{
+    let mut i = 0;
+    while i < 34 {
+        if i == bytes.len() {
+            return i as u32;
+        }
+        if digit(bytes[i]) >= 16 {
+            return i as u32;
+        }
+        i += 1;
+    }
+    34
+}
+
+// Reads one line, without its LF.
+pub fn read_line(bytes: &[u8]) -> Line
+    ensures { λ r. ⌜ told r ≡ lineOf (now (bytes .entry)) ⌝ }
+{
+    if bytes.len() != 34 {
+        return Line::Bad(bad_place(bytes));
+    }
+    let Pair::Byte(event) = pair_at(bytes, 0) else {
+        return Line::Bad(bad_place(bytes));
+    };
+    let Noted::Note(a) = note_at(bytes, 2) else {
+        return Line::Bad(bad_place(bytes));
+    };
+    let Noted::Note(b) = note_at(bytes, 10) else {
+        return Line::Bad(bad_place(bytes));
+    };
+    let Noted::Note(c) = note_at(bytes, 18) else {
+        return Line::Bad(bad_place(bytes));
+    };
+    let Noted::Note(d) = note_at(bytes, 26) else {
+        return Line::Bad(bad_place(bytes));
+    };
+    Line::Event(event, Notes(a, b, c, d))
+}

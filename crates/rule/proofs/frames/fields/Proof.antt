@@ -1,0 +1,38 @@
+-- `rule::frames::fields` meets its contract. Assumes nothing.
+use mathlib.Core.Path.{sym, _∙_}
+use borrow.Author.Needs.{needs}
+use Rattle.rule.specs.Frames.{literal, reference, operand}
+use Rattle.rule.proofs.KindBytes.{kind-at, bare-kind}
+use Rattle.rule.proofs.frames.fields.Statement.{statement}
+use Rattle.rule.proofs.frames.fields.Tie as tie
+
+of-literal-requires : tie.Need-of-literal-requires
+of-literal-requires c κs = search needs
+
+of-reference-requires : tie.Need-of-reference-requires
+of-reference-requires c κs = search needs
+
+of-bare-requires : tie.Need-of-bare-requires
+of-bare-requires c κs = search needs
+
+returns : tie.Need-returns
+returns c = c .of-literal .ensures ∙ rw (kind-at (operand literal) (c .before .before .args .x .kind) (c .before .match .keys1))
+
+returns-2 : tie.Need-returns-2
+returns-2 c = c .of-reference .ensures ∙ rw (kind-at (operand reference) (c .before .before .args .x .kind) (c .before .match .keys2))
+
+returns-3 : tie.Need-returns-3
+returns-3 c =
+    let r = c .before .match .rest in
+    c .of-bare .ensures ∙ sym (bare-kind (c .before .before .args .x .kind) (c .before .before .args .x) (r .0 .1) (r .1))
+
+pub fields-spec : {M : Type 1} → statement M
+fields-spec =
+    tie.close
+    (tie.spec
+    of-literal-requires
+    of-reference-requires
+    of-bare-requires
+    returns
+    returns-2
+    returns-3)

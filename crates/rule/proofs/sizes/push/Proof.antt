@@ -1,0 +1,34 @@
+-- `rule::sizes::push` meets its contract. Assumes nothing.
+use mathlib.Core.Path.{ap, _∙_}
+use Prim.Native.Nat.{_-_}
+use native.Mathlib.Omega.{arith}
+use lib.ListN.{length-set}
+use borrow.Author.Needs.{needs}
+use borrow.Author.Tests.{le-leb, lt-leb}
+use Rattle.rule.specs.Limits.{magnitudeLimit}
+use Rattle.rule.specs.Sizes.{fits}
+use Rattle.rule.proofs.Stack.{stack-push}
+use Rattle.rule.proofs.sizes.push.Statement.{statement}
+use Rattle.rule.proofs.sizes.push.Tie as tie
+
+mul-cells : tie.Need-mul-cells
+mul-cells c = search needs
+
+element-write-cells : tie.Need-element-write-cells
+element-write-cells c = search needs
+
+add-t6 : tie.Need-add-t6
+add-t6 c = search needs
+
+returns : tie.Need-returns
+returns c =
+    let a = c .before .args in (
+      length-set (a .cells .now) (a .k) (a .m) ∙ c .before .pre .0,
+      rw (le-leb (a .m) magnitudeLimit (c .if1 .taken)) (ap fits (stack-push 0 (a .cells .now) (a .k) (a .m) (omega arith))),
+    )
+
+returns-2 : tie.Need-returns-2
+returns-2 c = (c .before .pre .0, rw (lt-leb (c .before .args .m) magnitudeLimit (c .if1 .left)))
+
+pub push-spec : {M : Type 1} → statement M
+push-spec = tie.close (tie.spec mul-cells element-write-cells add-t6 returns returns-2)

@@ -1,0 +1,38 @@
+-- What opening checks of frames: 9, 10, 7 and 8, in this order.
+-- From document 01, "What is turned down". Assumes nothing: definitions.
+use mathlib.Core.Bool.{Bool, _&&_, cond}
+use mathlib.Core.List.{List}
+use Prim.Native.Nat.{ℕ, _*_, _%_}
+use lib.Dec.{leb, eqb}
+use lib.ListN.{length}
+use Rattle.rule.specs.Limits.{frameLimit, frameBytes}
+use Rattle.rule.specs.Order.{orderOf}
+use Rattle.rule.specs.Sizes.{sizesFit}
+use Rattle.rule.specs.declared.Checked.{Checked}
+use Rattle.rule.specs.declared.Checked.the-variants.{Accepted, Refused}
+use Rattle.rule.specs.declared.order.Ordered.{Ordered}
+use Rattle.rule.specs.declared.order.Ordered.the-variants.{Fine, At}
+
+abbrev pub refused : ℕ → ℕ → Checked
+refused n p = Refused (record { number = n; place = p })
+
+-- the document's number of an answer, 0 for none, and its place
+abbrev pub numberOf : Checked → ℕ
+numberOf Accepted = 0
+numberOf (Refused r) = r .number
+
+abbrev pub placeOf : Checked → ℕ
+placeOf Accepted = 0
+placeOf (Refused r) = r .place
+
+-- 9: "the frames' length isn't 8 to 512 in steps of 8"
+abbrev pub wholeFrames : ℕ → Bool
+wholeFrames n = (leb frameBytes n && leb n (frameLimit * frameBytes)) && eqb (n % frameBytes) 0
+
+-- 10 with its place, then 7: "no reference", then 8: "a magnitude over 2^62"
+abbrev pub afterOrder : List ℕ → Ordered → Checked
+afterOrder s (At p) = refused 10 p
+afterOrder s (Fine m) = cond (eqb m 0) (refused 7 0) (cond (sizesFit s) Accepted (refused 8 0))
+
+unfoldable pub checkedOf : List ℕ → Checked
+checkedOf s = cond (wholeFrames (length s)) (afterOrder s (orderOf s)) (refused 9 0)

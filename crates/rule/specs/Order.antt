@@ -1,0 +1,60 @@
+-- Refusal 10: which frames begin a rule, and the place of the first that does not.
+-- Of the sums and conditions that the frames so far have made, c conditions stand below k sums; no others begin a rule.
+-- From document 01, "What is turned down", 10. Assumes nothing: definitions.
+use mathlib.Core.Path.{_≡_}
+use mathlib.Core.Bool.{_&&_, cond}
+use mathlib.Core.List.{List}
+use Prim.Native.Nat.{ℕ, zero, suc, _+_, _-_}
+use lib.Dec.{leb, eqb}
+use Rattle.rule.specs.Frames.{Kind, operand, arithmetic, absolute, relation, negation, connective, none, kindOf, frameAt, frameCount, fieldsOf}
+use Rattle.rule.specs.References.{referenceCount}
+use Rattle.rule.specs.declared.Frame.{Frame}
+use Rattle.rule.specs.declared.order.Ordered.{Ordered}
+use Rattle.rule.specs.declared.order.Ordered.the-variants.{Fine, At}
+use Rattle.rule.specs.declared.order.Shape.{Shape}
+use Rattle.rule.specs.declared.order.Shape.the-variants.{Good, Bad}
+
+-- the counts with a frame of a kind more: "each operand a sum or a condition as the grammar has it"
+abbrev pub stepBy : Kind → ℕ → ℕ → Shape
+stepBy (operand s) c k = Good c (k + 1)
+stepBy (arithmetic o) c k = cond (leb 2 k) (Good c (k - 1)) Bad
+stepBy absolute c k = cond (leb 1 k) (Good c k) Bad
+stepBy (relation r) c k = cond (eqb k 2) (Good (c + 1) 0) Bad
+stepBy negation c k = cond (leb 1 c && eqb k 0) (Good c 0) Bad
+stepBy (connective j) c k = cond (leb 2 c && eqb k 0) (Good (c - 1) 0) Bad
+stepBy none c k = Bad
+
+abbrev pub stepIn : Kind → Frame → ℕ → ℕ → Shape
+stepIn o x c k = cond (fieldsOf o x) (stepBy o c k) Bad
+
+abbrev pub frameStep : Frame → ℕ → ℕ → Shape
+frameStep x c k = stepIn (kindOf (x .kind)) x c k
+
+-- the counts after the first frames; or the place of the first frame that with those before it begins no rule
+pub data Prefix : Type 0 where
+  viable : ℕ → ℕ → Prefix
+  stuck : ℕ → Prefix
+
+abbrev pub placed : ℕ → Shape → Prefix
+placed i (Good c k) = viable c k
+placed i Bad = stuck i
+
+abbrev pub next : ℕ → Frame → Prefix → Prefix
+next i x (viable c k) = placed i (frameStep x c k)
+next i x (stuck p) = stuck p
+
+abbrev pub prefixAt : List ℕ → ℕ → Prefix
+prefixAt s zero = viable 0 0
+prefixAt s (suc i) = next i (frameAt s i) (prefixAt s i)
+
+-- a rule with so many references, or the place: "their count if only the end is wrong"
+abbrev pub ended : ℕ → ℕ → Prefix → Ordered
+ended n m (viable c k) = cond (eqb c 1 && eqb k 0) (Fine m) (At n)
+ended n m (stuck p) = At p
+
+unfoldable pub orderOf : List ℕ → Ordered
+orderOf s = ended (frameCount s) (referenceCount s) (prefixAt s (frameCount s))
+
+-- 10 does not hold
+abbrev pub InOrder : List ℕ → Type 0
+InOrder s = orderOf s ≡ Fine (referenceCount s)

@@ -1,0 +1,57 @@
+-- Refusal 8: the magnitudes of the sums, by one pass over the frames.
+-- From document 01, "From rule text to frames". Assumes nothing: definitions.
+use mathlib.Core.Bool.{Bool, true, false, cond}
+use mathlib.Core.List.{List, [], _∷_}
+use Prim.Native.Nat.{ℕ, zero, suc}
+use lib.Dec.{leb}
+use lib.IntN.{ℤ, natAbs}
+use Rattle.rule.specs.Limits.{instanceMagnitude, referenceMagnitude, magnitudeLimit}
+use Rattle.rule.specs.Frames.{Source, literal, instance, reference, Kind, operand, arithmetic, absolute, relation, negation, connective, none, kindOf, frameAt, frameCount}
+use Rattle.rule.specs.Tree.{grown}
+use Rattle.rule.specs.declared.Frame.{Frame}
+
+-- the magnitudes of the sums so far, the last first; or that one was over the limit
+pub data Sizes : Type 0 where
+  fits : List ℕ → Sizes
+  over : Sizes
+
+abbrev pub pushed : ℕ → List ℕ → Sizes
+pushed m ms = cond (leb m magnitudeLimit) (fits (m ∷ ms)) over
+
+-- two sums become one
+abbrev pub topped : (ℕ → ℕ → ℕ) → List ℕ → Sizes
+topped f [] = fits []
+topped f (b ∷ []) = fits (b ∷ [])
+topped f (b ∷ (a ∷ ms)) = pushed (f a b) ms
+
+abbrev pub operandSize : Source → ℤ → ℕ
+operandSize literal v = natAbs v
+operandSize instance v = instanceMagnitude
+operandSize reference v = referenceMagnitude
+
+-- a frame of a kind more; a relation takes the two sums that are there
+abbrev pub sized : Kind → ℤ → List ℕ → Sizes
+sized (operand s) v ms = pushed (operandSize s v) ms
+sized (arithmetic o) v ms = topped (grown o) ms
+sized absolute v ms = fits ms
+sized (relation r) v ms = fits []
+sized negation v ms = fits ms
+sized (connective j) v ms = fits ms
+sized none v ms = fits ms
+
+abbrev pub sizeNext : Frame → Sizes → Sizes
+sizeNext x (fits ms) = sized (kindOf (x .kind)) (x .value) ms
+sizeNext x over = over
+
+-- after the first i frames
+abbrev pub sizeAt : List ℕ → ℕ → Sizes
+sizeAt s zero = fits []
+sizeAt s (suc i) = sizeNext (frameAt s i) (sizeAt s i)
+
+abbrev pub isFits : Sizes → Bool
+isFits (fits ms) = true
+isFits over = false
+
+-- no magnitude is over the limit
+unfoldable pub sizesFit : List ℕ → Bool
+sizesFit s = isFits (sizeAt s (frameCount s))

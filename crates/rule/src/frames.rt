@@ -1,0 +1,101 @@
+// A frame's fields: decoding, and which a kind may have.
+use crate::Frame;
+ghost use mathlib.Core.Path.{_≡_};
+ghost use Prim.Native.Nat.{_+_, _*_, _≤_};
+ghost use lib.Dec.{leb, eqb};
+ghost use lib.IntN.{natAbs};
+ghost use lib.ListN.{length};
+ghost use Rattle.rule.specs.Limits.{frameBytes, offsetLimit};
+ghost use Rattle.rule.specs.Frames.{kindOf, frameAt, unused, literalFields, referenceFields, bareFields, fieldsOf};
+
+// A frame has 8 bytes.
+pub const FRAME_BYTES: usize = 8;
+
+// At most 8 events, numbered from 0.
+const EVENTS: u8 = 8;
+
+// At most 4 notes, numbered from 0.
+const NOTES: u8 = 4;
+
+// The factor of i is 1 to 9.
+const FACTOR: u8 = 9;
+
+// The offset is −9,999 to 9,999.
+const OFFSET: i32 = 9999;
+
+// Literals are not negative.
+const LEAST_LITERAL: i32 = 0;
+
+// The k-th frame. Called where it lies within the slice: by the passes of order.rt and sizes.rt, and by crates above.
+pub fn frame_at(frames: &[u8], k: usize) -> Frame
+    requires { ⌜ k * frameBytes + frameBytes ≤ length (now frames) ⌝ }
+    ensures { λ r. ⌜ r ≡ frameAt (now (frames .entry)) k ⌝ }
+{
+    let at = k * FRAME_BYTES;
+    let value = numbers::word(
+        frames[at + 4],
+        frames[at + 5],
+        frames[at + 6],
+        frames[at + 7],
+    );
+    Frame {
+        kind: frames[at],
+        event: frames[at + 1],
+        note: frames[at + 2],
+        factor: frames[at + 3],
+        value,
+    }
+}
+
+// Event, note and factor are 0.
+fn no_operand(x: Frame) -> bool
+    ensures { λ r. ⌜ r ≡ unused x ⌝ }
+{
+    (x.event == 0) & (x.note == 0) & (x.factor == 0)
+}
+
+fn zero(v: i32) -> bool
+    ensures { λ r. ⌜ r ≡ eqb (natAbs v) 0 ⌝ }
+{
+    v == 0
+}
+
+// An offset within its limit.
+fn near(v: i32) -> bool
+    ensures { λ r. ⌜ r ≡ leb (natAbs v) offsetLimit ⌝ }
+{
+    (-OFFSET <= v) & (v <= OFFSET)
+}
+
+// The fields of a literal, of a reference, and of any other kind.
+fn of_literal(x: Frame) -> bool
+    ensures { λ r. ⌜ r ≡ literalFields x ⌝ }
+{
+    no_operand(x) & (LEAST_LITERAL <= x.value)
+}
+
+fn of_reference(x: Frame) -> bool
+    ensures { λ r. ⌜ r ≡ referenceFields x ⌝ }
+{
+    ((x.event < EVENTS) & (x.note < NOTES))
+        & ((1 <= x.factor) & (x.factor <= FACTOR))
+        & near(x.value)
+}
+
+fn of_bare(x: Frame) -> bool
+    ensures { λ r. ⌜ r ≡ bareFields x ⌝ }
+{
+    no_operand(x) & zero(x.value)
+}
+
+// Whether a frame's fields are those of its kind.
+pub fn fields(x: Frame) -> bool
+    ensures { λ r. ⌜ r ≡ fieldsOf (kindOf (x .kind)) x ⌝ }
+{
+    let kind = x.kind;
+    match kind {
+        0x01 => of_literal(x),
+        0x03 => of_reference(x),
+        _ => of_bare(x),
+    }
+}

@@ -1,0 +1,127 @@
+// Refusal 8: magnitudes over 2^62, in one pass over frames that are a rule.
+use crate::frames;
+ghost use mathlib.Core.Path.{_≡_};
+ghost use Prim.Native.Nat.{_+_, _*_, _≤_, _<_};
+ghost use lib.IntN.{natAbs};
+ghost use lib.ListN.{length};
+ghost use Rattle.rule.specs.Limits.{frameBytes, frameLimit};
+ghost use Rattle.rule.specs.Frames.{kindOf};
+ghost use Rattle.rule.specs.Order.{InOrder};
+ghost use Rattle.rule.specs.Sizes.{pushed, topped, sized, sizesFit};
+ghost use Rattle.rule.specs.Stack.{stackOf, loaded, capped, Ready, Bounded};
+
+// No magnitude exceeds 2^62.
+const LIMIT: u64 = 0x4000_0000_0000_0000;
+
+// The magnitude of i, 2^20.
+const INSTANCE: u64 = 0x10_0000;
+
+// The magnitude of a reference, 2^31.
+const REFERENCE: u64 = 0x8000_0000;
+
+// How many magnitudes the array holds, or that one is over the limit.
+pub enum Size {
+    Fits(usize),
+    Over,
+}
+
+// The product, or one above the limit where it is over.
+fn times(a: u64, b: u64) -> u64
+    ensures { λ r. ⌜ r ≡ capped (a * b) ⌝ }
+{
+    if b == 0 {
+        0
+    } else if a <= LIMIT / b {
+        a * b
+    } else {
+        LIMIT + 1
+    }
+}
+
+// A literal's own value.
+fn own(v: i32) -> u64
+    ensures { λ r. ⌜ r ≡ natAbs v ⌝ }
+{
+    if v < 0 {
+        (0 - v as i64) as u64
+    } else {
+        v as u64
+    }
+}
+
+// A magnitude onto the k that are below it. Called by the steps below.
+fn push(cells: &mut [u64; 64], k: usize, m: u64) -> Size
+    requires { ⌜ (length (now cells) ≡ frameLimit) × (k < frameLimit) ⌝ }
+    ensures kept { λ r. ⌜ length (now (cells .exit)) ≡ frameLimit ⌝ }
+    ensures { λ r. ⌜ loaded (now (cells .exit)) r ≡ pushed m (stackOf 0 (now (cells .entry)) k) ⌝ }
+{
+    if m <= LIMIT {
+        cells[k] = m;
+        Size::Fits(k + 1)
+    } else {
+        Size::Over
+    }
+}
+
+// The two on top become one: their sum, their product. Called by size_step.
+fn sum_top(cells: &mut [u64; 64], k: usize) -> Size
+    requires { ⌜ (length (now cells) ≡ frameLimit) × ((k < frameLimit) × ((2 ≤ k) × Bounded (stackOf 0 (now cells) k))) ⌝ }
+    ensures kept { λ r. ⌜ length (now (cells .exit)) ≡ frameLimit ⌝ }
+    ensures { λ r. ⌜ loaded (now (cells .exit)) r ≡ topped _+_ (stackOf 0 (now (cells .entry)) k) ⌝ }
+{
+    let a = cells[k - 2];
+    let b = cells[k - 1];
+    push(cells, k - 2, a + b)
+}
+
+fn product_top(cells: &mut [u64; 64], k: usize) -> Size
+    requires { ⌜ (length (now cells) ≡ frameLimit) × ((k < frameLimit) × (2 ≤ k)) ⌝ }
+    ensures kept { λ r. ⌜ length (now (cells .exit)) ≡ frameLimit ⌝ }
+    ensures { λ r. ⌜ loaded (now (cells .exit)) r ≡ topped _*_ (stackOf 0 (now (cells .entry)) k) ⌝ }
+{
+    let a = cells[k - 2];
+    let b = cells[k - 1];
+    push(cells, k - 2, times(a, b))
+}
+
+// One frame more. Called by sizes_fit, on frames that are a rule.
+fn size_step(kind: u8, value: i32, cells: &mut [u64; 64], k: usize) -> Size
+    requires { ⌜ (length (now cells) ≡ frameLimit) × ((k < frameLimit) × (Ready (kindOf kind) k × Bounded (stackOf 0 (now cells) k))) ⌝ }
+    ensures kept { λ r. ⌜ length (now (cells .exit)) ≡ frameLimit ⌝ }
+    ensures { λ r. ⌜ loaded (now (cells .exit)) r ≡ sized (kindOf kind) value (stackOf 0 (now (cells .entry)) k) ⌝ }
+{
+    match kind {
+        0x01 => push(cells, k, own(value)),
+        0x02 => push(cells, k, INSTANCE),
+        0x03 => push(cells, k, REFERENCE),
+        0x11 | 0x12 => sum_top(cells, k),
+        0x13 => product_top(cells, k),
+        0x21..=0x26 => Size::Fits(0),
+        _ => Size::Fits(k),
+    }
+}
+
+// Whether every magnitude is within the limit. Called by check, on frames that are a rule.
+pub fn sizes_fit(frames: &[u8]) -> bool
+    requires { ⌜ InOrder (now frames) × (length (now frames) ≤ frameLimit * frameBytes) ⌝ }
+    ensures { λ r. ⌜ r ≡ sizesFit (now (frames .entry)) ⌝ }
+{
+    let n = frames.len() / frames::FRAME_BYTES;
+    let mut cells = [0u64; 64];
+    let mut k = 0;
+    let mut i = 0;
+    while i < n {
+        let x = frames::frame_at(frames, i);
+        let size = size_step(x.kind, x.value, &mut cells, k);
+        match size {
+            Size::Fits(k2) => {
+                k = k2;
+            }
+            Size::Over => {
+                return false;
+            }
+        }
+        i += 1;
+    }
+    true
+}

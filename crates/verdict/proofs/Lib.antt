@@ -1,0 +1,11 @@
+pub mod Tables
+pub mod Own
+pub mod Stays
+pub mod Marked
+pub mod Numbers
+pub mod Meanings
+pub mod Verdicts
+pub mod ByKind
+pub mod Bounds
+pub mod Accepted
+pub mod Loop

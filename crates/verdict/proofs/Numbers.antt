@@ -1,0 +1,59 @@
+-- Laws of the integers: the size of a sum and of a product, what fits 64 bits, what the machine compares. Assumes nothing.
+use mathlib.Core.Path.{_≡_, refl, sym, _∙_}
+use mathlib.Core.Bool.{Bool, true, false, cond}
+use Prim.Native.Nat.{ℕ, suc, _+_, _-_, _*_, _^_, _≤_, _<_}
+use native.Mathlib.Nat.{le-refl, mul-le-mul}
+use native.Mathlib.Omega.{arith}
+use native.Mathlib.Decide.{ℕ-discrete}
+use lib.Dec.{ltb, eqb}
+use borrow.Author.Tests.{eq-eqb, ne-eqb}
+use lib.IntN.{ℤ, pos, negsuc, negℤ, natAbs, subℕ, _+ℤ_, _-ℤ_, _*ℤ_}
+use mir.Syntax.{w64}
+use mir.Val.{SFits, ofZ}
+use Rattle.numbers.proofs.Ints.{mag-natAbs, natAbs-neg}
+use Rattle.rule.specs.Limits.{magnitudeLimit}
+use Rattle.verdict.specs.Value.{eqZ}
+
+natAbs-mul : (a b : ℤ) → natAbs (a *ℤ b) ≡ natAbs a * natAbs b
+natAbs-mul (pos a) (pos b) = refl
+natAbs-mul (pos a) (negsuc b) = natAbs-neg (pos (a * suc b))
+natAbs-mul (negsuc a) (pos b) = natAbs-neg (pos (suc a * b))
+natAbs-mul (negsuc a) (negsuc b) = refl
+
+natAbs-cond : (t : Bool) (x y m : ℕ) → suc x ≤ m → y ≤ m → natAbs (cond t (negsuc x) (pos y)) ≤ m
+natAbs-cond true x y m h k = h
+natAbs-cond false x y m h k = k
+
+natAbs-sub : (a b : ℕ) → natAbs (subℕ a (suc b)) ≤ a + suc b
+natAbs-sub a b = natAbs-cond (ltb a (suc b)) (suc b - suc a) (a - suc b) (a + suc b) (omega arith) (omega arith)
+
+pub natAbs-add : (a b : ℤ) → natAbs (a +ℤ b) ≤ natAbs a + natAbs b
+natAbs-add (pos a) (pos b) = le-refl (a + b)
+natAbs-add (pos a) (negsuc b) = natAbs-sub a b
+natAbs-add (negsuc a) (pos b) = let h : natAbs (subℕ b (suc a)) ≤ b + suc a = natAbs-sub b a in omega arith
+natAbs-add (negsuc a) (negsuc b) = omega arith
+
+-- ---- results within bounds of their operands
+module _ (a b : ℤ) (m n : ℕ) (h : natAbs a ≤ m) (k : natAbs b ≤ n) where
+  pub add-within : natAbs (a +ℤ b) ≤ m + n
+  add-within = omega (arith, natAbs-add a b)
+
+  pub sub-within : natAbs (a -ℤ b) ≤ m + n
+  sub-within = omega (arith, natAbs-add a (negℤ b), natAbs-neg b)
+
+  pub mul-within : natAbs (a *ℤ b) ≤ m * n
+  mul-within = rw (natAbs-mul a b) (mul-le-mul h k)
+
+pub small-fits : (z : ℤ) → natAbs z ≤ magnitudeLimit → SFits w64 z
+small-fits z h = record { sfits = omega (arith, mag-natAbs z) }
+
+-- ---- equal numbers have equal bits
+same-test : (m n p q : ℕ) → (m ≡ n → p ≡ q) → (p ≡ q → m ≡ n) → eqb m n ≡ eqb p q
+same-test m n p q f g = elim (ℕ-discrete m n) [ yes e ↦ eq-eqb m n e ∙ sym (eq-eqb p q (f e)) | no k ↦ ne-eqb m n k ∙ sym (ne-eqb p q (λ e. k (g e))) ]
+
+pub equal-bits : (a b : ℤ) → SFits w64 a → SFits w64 b → eqb (ofZ w64 a) (ofZ w64 b) ≡ eqZ a b
+equal-bits (pos a) (pos b) f g = refl
+equal-bits (pos a) (negsuc b) f g = ne-eqb a (2 ^ 64 - suc b) (λ e. omega (arith, f .sfits, g .sfits))
+equal-bits (negsuc a) (pos b) f g = ne-eqb (2 ^ 64 - suc a) b (λ e. omega (arith, f .sfits, g .sfits))
+equal-bits (negsuc a) (negsuc b) f g =
+    same-test (2 ^ 64 - suc a) (2 ^ 64 - suc b) a b (λ e. omega (arith, f .sfits, g .sfits)) (λ e. omega arith)

@@ -1,0 +1,75 @@
+-- A rule's value goes by its own references alone. Assumes nothing.
+use mathlib.Core.Path.{_≡_, refl, ap, ap₂, _∙_, sym}
+use mathlib.Core.Bool.{Bool, true, false, cond, _||_}
+use mathlib.Core.Logic.{⊎-elim}
+use mathlib.Core.List.{List, [], _∷_, _++_, List·Memᴰ, List·Memᴰ·head, List·Memᴰ·tail, List·Memᴰ·cases-cons, Memᴰ·append-left, Memᴰ·append-right}
+use Prim.Native.Nat.{ℕ}
+use lib.IntN.{ℤ}
+use Rattle.rule.specs.Tree.{Reference, Sum, literal, instance, reference, arithmetic, abs, Cond, relation, connective, referencesS, references}
+use Rattle.numbers.proofs.Bools.{true-false}
+use Rattle.verdict.specs.Found.{Found, isMissing, isPending, isPresent, someOf}
+use Rattle.verdict.specs.Kleene.{notK, joined, truth}
+use Rattle.verdict.specs.Value.{computed, sizeOf, noteOf, holds, valueS, value}
+use Rattle.verdict.specs.Settled.{settledBy, verdict, settled, judgement}
+use Rattle.verdict.specs.declared.Truth.{Truth}
+use Rattle.verdict.specs.declared.Truth.the-variants.{Unknown}
+use Rattle.verdict.specs.declared.Judgement.{Judgement}
+use Rattle.verdict.specs.declared.Judgement.the-variants.{Unsettled}
+
+-- both say the same of each of the references
+abbrev pub SameOn : List Reference → (Reference → Found) → (Reference → Found) → Type 0
+SameOn rs found found′ = (r : Reference) → List·Memᴰ r rs → found r ≡ found′ r
+
+module _ (found found′ : Reference → Found) where
+  pub same-left : (ps qs : List Reference) → SameOn (ps ++ qs) found found′ → SameOn ps found found′
+  same-left ps qs h r m = h r (Memᴰ·append-left qs m)
+
+  pub same-right : (ps qs : List Reference) → SameOn (ps ++ qs) found found′ → SameOn qs found found′
+  same-right ps qs h r m = h r (Memᴰ·append-right ps m)
+
+  pub some-own : (is : Found → Bool) (rs : List Reference) → SameOn rs found found′ → someOf is found rs ≡ someOf is found′ rs
+  some-own is [] h = refl
+  some-own is (r ∷ rs) h = ap₂ _||_ (ap is (h r (List·Memᴰ·head refl))) (some-own is rs (λ x m. h x (List·Memᴰ·tail m)))
+
+  module _ (i : ℕ) where
+    pub sum-own : (a : Sum) → SameOn (referencesS a) found found′ → valueS i found a ≡ valueS i found′ a
+    sum-own (literal n) h = refl
+    sum-own instance h = refl
+    sum-own (reference r) h = ap noteOf (h r (List·Memᴰ·head refl))
+    sum-own (arithmetic o a b) h =
+        ap₂ (computed o) (sum-own a (same-left (referencesS a) (referencesS b) h)) (sum-own b (same-right (referencesS a) (referencesS b) h))
+    sum-own (abs a) h = ap sizeOf (sum-own a h)
+
+    pub value-own : (t : Cond) → SameOn (references t) found found′ → value i found t ≡ value i found′ t
+    value-own (relation r a b) h =
+        ap₂ (λ (t : Bool) (u : Bool). cond t Unknown (truth u)) (some-own isMissing (referencesS a ++ referencesS b) h)
+        (ap₂ (holds r) (sum-own a (same-left (referencesS a) (referencesS b) h)) (sum-own b (same-right (referencesS a) (referencesS b) h)))
+    value-own (Cond.not p) h = ap notK (value-own p h)
+    value-own (connective j p q) h =
+        ap₂ (joined j) (value-own p (same-left (references p) (references q) h)) (value-own q (same-right (references p) (references q) h))
+
+    pub settled-own : (t : Cond) → SameOn (references t) found found′ → settled i found t ≡ settled i found′ t
+    settled-own t h =
+        ap₂ (λ (a b : Bool). settledBy a b (value i found t)) (some-own isPending (references t) h) (some-own isPresent (references t) h)
+        ∙ ap (settledBy (someOf isPending found′ (references t)) (someOf isPresent found′ (references t))) (value-own t h)
+
+    pub judgement-own : (t : Cond) → SameOn (references t) found found′ → judgement i found t ≡ judgement i found′ t
+    judgement-own t h =
+        ap₂ (λ (b : Bool) (v : Truth). cond b (verdict v) Unsettled) (settled-own t h) (value-own t h)
+
+-- where none is so, each is not
+or-left : (a b : Bool) → (a || b) ≡ false → a ≡ false
+or-left true b e = e
+or-left false b e = refl
+
+or-right : (a b : Bool) → (a || b) ≡ false → b ≡ false
+or-right true b e = absurd (true-false e)
+or-right false b e = e
+
+pub none-so : (is : Found → Bool) (found : Reference → Found) (rs : List Reference) → someOf is found rs ≡ false → (r : Reference) → List·Memᴰ r rs → is (found r) ≡ false
+none-so is found [] e r m = elim m [ ]
+none-so is found (x ∷ rs) e r m =
+    ⊎-elim
+    (λ (q : r ≡ x). ap (λ (y : Reference). is (found y)) q ∙ or-left (is (found x)) (someOf is found rs) e)
+    (λ (n : List·Memᴰ r rs). none-so is found rs (or-right (is (found x)) (someOf is found rs) e) r n)
+    (List·Memᴰ·cases-cons m)

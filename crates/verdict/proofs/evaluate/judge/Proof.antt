@@ -1,0 +1,118 @@
+use mathlib.Core.Path.{_≡_, refl, sym, ap, _∙_}
+use Prim.Native.Nat.{_≤_, _-_}
+use borrow.Author.Needs.{sfits-of}
+use lib.IntN.{pos}
+use lib.ListN.{getD}
+use lib.Signed.{natAbs-le}
+use mir.ValLaws.{toZ-ofZ}
+use mir.Syntax.{w32}
+use Rattle.verdict.specs.Pass.{judgedBy}
+use Rattle.verdict.proofs.Loop.{Held, begun, again, last}
+use borrow.Author.Needs.{needs}
+use native.Mathlib.Omega.{arith}
+use Rattle.verdict.proofs.evaluate.judge.Statement.{statement}
+use Rattle.verdict.proofs.evaluate.judge.Tie as tie
+use Rattle.verdict.proofs.evaluate.judge.Reads as reads
+use Rattle.verdict.proofs.evaluate.judge.Lts as lts
+use Rattle.rule.proofs.frame_at.Reads as frame-at-reads
+use Rattle.verdict.proofs.evaluate.step.Reads as step-reads
+use Rattle.verdict.proofs.kleene.decoded.Reads as decoded-reads
+use Rattle.verdict.proofs.kleene.judged.Reads as judged-reads
+
+abbrev Inv-loop : tie.InvT-loop
+Inv-loop frames i marks notes n sums₀ conds₀ top₀ k₀ sums conds top k = (k ≤ n) × Held frames (i .0) marks notes sums conds top k
+
+abbrev μ-loop : tie.MeasureT-loop
+μ-loop frames i marks notes n sums₀ conds₀ top₀ k₀ sums conds top k = n - k
+
+-- src/evaluate.rt:134:5
+loop-holds : tie.Need-loop-holds Inv-loop μ-loop
+loop-holds c = (search needs, record { long = refl; long-c = refl; within = tt; pass = refl })
+
+-- src/evaluate.rt:135:13
+frame-at-requires : tie.Need-frame-at-requires Inv-loop μ-loop
+frame-at-requires c κs = omega arith
+
+-- src/evaluate.rt:136:26
+shared-slice-read-step : tie.Need-shared-slice-read-step Inv-loop μ-loop
+shared-slice-read-step c = omega (arith, c .before .before .before .before .before .before .pre .marked)
+
+-- src/evaluate.rt:136:36
+mul-step : tie.Need-mul-step Inv-loop μ-loop
+mul-step c = omega (arith, c .before .before .before .before .before .before .pre .noted)
+
+-- src/evaluate.rt:136:36
+shared-slice-copy-out-step : tie.Need-shared-slice-copy-out-step Inv-loop μ-loop
+shared-slice-copy-out-step c = omega (arith, c .before .before .before .before .before .before .pre .noted)
+
+-- src/evaluate.rt:136:9
+step-requires : tie.Need-step-requires Inv-loop μ-loop
+step-requires c κs = 
+    let s = c .before .before .before .before .before .before .before .before .before in
+    let a = s .args in
+    let l = c .before .before .before .before .before .before .loop in
+    let z = getD (a .notes .now) (l .k) (pos 0) in
+    rw (toZ-ofZ w32 z (sfits-of (c .before .before .step-arg .given)))
+    (begun (a .frames .now) (a .i .0) (a .marks .now) (a .notes .now) (s .pre) (l .sums) (l .conds) (l .top) (l .k) (l .inv .1) (c .before .before .before .before .frame-at .result) (c .before .before .before .before .frame-at .ensures) (natAbs-le z (c .before .before .step-arg .given)) (omega arith))
+
+-- src/evaluate.rt:137:9
+add-k : tie.Need-add-k Inv-loop μ-loop
+add-k c = omega arith
+
+-- src/evaluate.rt:134:5
+loop-less : tie.Need-loop-less Inv-loop μ-loop
+loop-less c = omega arith
+
+-- src/evaluate.rt:134:5
+loop-again : tie.Need-loop-again Inv-loop μ-loop
+loop-again c = 
+    let s = c .before .before .before .before .before .before .before .before .before .before in
+    let a = s .args in
+    let l = c .before .before .before .before .before .before .before .loop in
+    let g = c .step in
+    let z = getD (a .notes .now) (l .k) (pos 0) in (
+      omega arith,
+      again (a .frames .now) (a .i .0) (a .marks .now) (a .notes .now) (s .pre) (l .sums) (l .conds) (l .top) (l .k) (l .inv .1) (c .before .before .before .before .before .frame-at .result) (c .before .before .before .before .before .frame-at .ensures) (natAbs-le z (c .before .before .before .step-arg .given)) _ _ _ (g .ensures .0 .0) (g .ensures .0 .1)
+          (rw (toZ-ofZ w32 z (sfits-of (c .before .before .before .step-arg .given))) at (g .ensures .1)),
+    )
+
+-- src/evaluate.rt:139:62
+array-read-decoded : tie.Need-array-read-decoded Inv-loop μ-loop
+array-read-decoded c = search needs
+
+-- src/evaluate.rt:139:46
+decoded-requires : tie.Need-decoded-requires Inv-loop μ-loop
+decoded-requires c κs = search needs
+
+-- src/evaluate.rt:139:5
+judged-requires : tie.Need-judged-requires Inv-loop μ-loop
+judged-requires c κs = search needs
+
+-- src/evaluate.rt:119:1
+returns : tie.Need-returns Inv-loop μ-loop
+returns c = 
+    let s = c .before .before .before .before .before .before in
+    let a = s .args in
+    let l = c .before .before .before .loop in
+    c .judged .ensures ∙ ap (judgedBy (l .top .pending) (l .top .present)) (c .before .decoded .ensures)
+    ∙ last (a .frames .now) (a .i .0) (a .marks .now) (a .notes .now) (s .pre) (l .sums) (l .conds) (l .top) (l .k) (l .inv .1) (omega arith)
+
+pub judge-spec : {M : Type 1} → statement M
+judge-spec =
+    tie.close
+    (tie.spec
+    Inv-loop
+    μ-loop
+    loop-holds
+    frame-at-requires
+    shared-slice-read-step
+    mul-step
+    shared-slice-copy-out-step
+    step-requires
+    add-k
+    loop-less
+    loop-again
+    array-read-decoded
+    decoded-requires
+    judged-requires
+    returns)

@@ -1,0 +1,53 @@
+use mathlib.Core.Path.{_≡_, refl, sym, ap, _∙_}
+use mathlib.Core.Bool.{Bool, cond}
+use mathlib.Core.List.{_∷_}
+use lib.IntN.{pos}
+use lib.ListN.{getD}
+use Rattle.rule.specs.Stack.{stackOf}
+use Rattle.verdict.specs.Kleene.{truth}
+use Rattle.verdict.specs.Pass.{withConds, withRelation}
+use Rattle.verdict.specs.Stacks.{passOf, truthsOf}
+use Rattle.verdict.specs.declared.Truth.{Truth}
+use Rattle.verdict.specs.declared.Truth.the-variants.{Unknown}
+use Rattle.verdict.proofs.ByKind.{relation-step}
+use native.Mathlib.Omega.{arith}
+use borrow.Author.Needs.{needs}
+use Rattle.verdict.proofs.evaluate.put_relation.Statement.{statement}
+use Rattle.verdict.proofs.evaluate.put_relation.Tie as tie
+use Rattle.verdict.proofs.evaluate.put_relation.Reads as reads
+use Rattle.verdict.proofs.evaluate.put_relation.Lts as lts
+use Rattle.verdict.proofs.kleene.of_relation.Reads as of-relation-reads
+use Rattle.verdict.proofs.stacks.put_cond.Reads as put-cond-reads
+use Rattle.verdict.proofs.stacks.relate.Reads as relate-reads
+
+-- src/evaluate.rt:56:46
+relate-requires : tie.Need-relate-requires
+relate-requires c κs = search needs
+
+-- src/evaluate.rt:56:9
+of-relation-requires : tie.Need-of-relation-requires
+of-relation-requires c κs = search needs
+
+-- src/evaluate.rt:57:9
+put-cond-requires : tie.Need-put-cond-requires
+put-cond-requires c κs = search needs
+
+-- src/evaluate.rt:50:1
+returns : tie.Need-returns
+returns c = 
+    let s = c .before .before .before .before .before in
+    let a = s .args in
+    let v = a .sums .now in
+    let p = passOf v (a .conds .now) (a .top) in
+    let rel = c .before .before .before .relate in
+    let t = c .before .before .of-relation in
+    let e = c .put-cond .ensures .1
+    ∙ ap (λ (x : Truth). x ∷ truthsOf (a .conds .now) (a .top .conds)) (t .ensures ∙ ap (λ (h : Bool). cond (a .top .missing) Unknown (truth h)) (rel .ensures .1)) in (
+      (rel .ensures .0, c .put-cond .ensures .0),
+      λ w i mark note. relation-step (a .kind) w i mark note p (s .pre .0 .0) (s .pre .0 .1) (getD v 0 (pos 0)) (getD v 1 (pos 0))
+          (ap (stackOf (pos 0) v) (s .pre .1 .1 .1)) _ e _ (λ r d. ap (withConds (withRelation p r)) d),
+    )
+
+pub put-relation-spec : {M : Type 1} → statement M
+put-relation-spec =
+    tie.close (tie.spec relate-requires of-relation-requires put-cond-requires returns)

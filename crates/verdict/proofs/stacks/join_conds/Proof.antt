@@ -1,0 +1,97 @@
+use mathlib.Core.Path.{_≡_, refl, sym, ap, _∙_}
+use mathlib.Core.List.{List, _∷_, map}
+use Prim.Native.Nat.{ℕ, _-_}
+use lib.ListN.{getD, length-set}
+use Rattle.verdict.specs.Stacks.{truthOf, truthsOf, joinedBy}
+use Rattle.verdict.specs.declared.Truth.{Truth}
+use Rattle.rule.specs.Frames.{kindOf}
+use Rattle.rule.specs.Build.{top2}
+use Rattle.rule.proofs.Stack.{stack-two, stack-fold}
+use native.Mathlib.Omega.{arith}
+use borrow.Author.Needs.{needs}
+use Rattle.verdict.proofs.stacks.join_conds.Statement.{statement}
+use Rattle.verdict.proofs.stacks.join_conds.Tie as tie
+use Rattle.verdict.proofs.stacks.join_conds.Reads as reads
+use Rattle.verdict.proofs.stacks.join_conds.Lts as lts
+use Rattle.verdict.proofs.kleene.code.Reads as code-reads
+use Rattle.verdict.proofs.kleene.connect.Reads as connect-reads
+use Rattle.verdict.proofs.kleene.decoded.Reads as decoded-reads
+
+-- src/stacks.rt:84:35
+sub-decoded : tie.Need-sub-decoded
+sub-decoded c = search needs
+
+-- src/stacks.rt:84:29
+element-copy-out-decoded : tie.Need-element-copy-out-decoded
+element-copy-out-decoded c = search needs
+
+-- src/stacks.rt:84:9
+decoded-requires : tie.Need-decoded-requires
+decoded-requires c κs = search needs
+
+-- src/stacks.rt:85:35
+sub-decoded-2 : tie.Need-sub-decoded-2
+sub-decoded-2 c = search needs
+
+-- src/stacks.rt:85:29
+element-copy-out-decoded-2 : tie.Need-element-copy-out-decoded-2
+element-copy-out-decoded-2 c = search needs
+
+-- src/stacks.rt:85:9
+decoded-requires-2 : tie.Need-decoded-requires-2
+decoded-requires-2 c κs = search needs
+
+-- src/stacks.rt:86:33
+connect-requires : tie.Need-connect-requires
+connect-requires c κs = search needs
+
+-- src/stacks.rt:86:20
+code-requires : tie.Need-code-requires
+code-requires c κs = search needs
+
+-- src/stacks.rt:86:11
+sub-conds : tie.Need-sub-conds
+sub-conds c = search needs
+
+-- src/stacks.rt:86:5
+element-write-conds : tie.Need-element-write-conds
+element-write-conds c = search needs
+
+-- src/stacks.rt:87:5
+sub-result : tie.Need-sub-result
+sub-result c = search needs
+
+-- src/stacks.rt:79:1
+returns : tie.Need-returns
+returns c = 
+    let st = c .before .before .before .before .before .before in
+    let s = st .args .conds .now in
+    let k = st .args .c in
+    let f = joinedBy (kindOf (st .args .kind)) in
+    let x = truthOf (getD s (k - 2) 0) in
+    let y = truthOf (getD s (k - 1) 0) in
+    let e : truthOf (c .code .result) ≡ f x y =
+    c .code .ensures ∙ c .before .connect .ensures
+    ∙ ap (λ (t : Truth). f t (c .before .before .decoded2 .result)) (c .before .before .before .before .decoded .ensures) ∙ ap (f x) (c .before .before .decoded2 .ensures) in (
+      length-set s (k - 2) (c .code .result) ∙ st .pre .0,
+      ap (map truthOf) (stack-fold 0 s k (c .code .result) (omega arith) (omega arith))
+          ∙ ap (λ (t : Truth). t ∷ truthsOf s (k - 2)) e
+          ∙ ap (λ (l : List ℕ). top2 f (map truthOf l)) (sym (stack-two 0 s k (omega arith))),
+    )
+
+pub join-conds-spec : {M : Type 1} → statement M
+join-conds-spec =
+    tie.close
+    (tie.spec
+    sub-decoded
+    element-copy-out-decoded
+    decoded-requires
+    sub-decoded-2
+    element-copy-out-decoded-2
+    decoded-requires-2
+    connect-requires
+    code-requires
+    sub-conds
+    element-write-conds
+    sub-result
+    returns)

@@ -1,0 +1,111 @@
+use mir.ValLaws.{toZ-ofZ}
+use mir.Syntax.{w64}
+use mathlib.Core.Path.{_≡_, refl, sym, ap, _∙_}
+use borrow.Author.Needs.{sfits-of}
+use Prim.Native.Nat.{_-_}
+use mir.Val.{toZ, ofZ}
+use lib.IntN.{ℤ, pos}
+use lib.ListN.{getD, set, length-set}
+use Rattle.rule.specs.Frames.{kindOf}
+use Rattle.rule.specs.Build.{top2}
+use Rattle.rule.specs.Stack.{stackOf}
+use Rattle.rule.proofs.Stack.{stack-two, stack-fold}
+use Rattle.verdict.specs.Stacks.{computedBy}
+use Rattle.verdict.proofs.Numbers.{small-fits}
+use native.Mathlib.Omega.{arith}
+use borrow.Author.Needs.{needs}
+use Rattle.verdict.proofs.stacks.join_sums.Statement.{statement}
+use Rattle.verdict.proofs.stacks.join_sums.Tie as tie
+use Rattle.verdict.proofs.stacks.join_sums.Reads as reads
+use Rattle.verdict.proofs.stacks.join_sums.Lts as lts
+use Rattle.verdict.proofs.arithmetic.compute.Reads as compute-reads
+
+-- src/stacks.rt:31:18
+sub-a : tie.Need-sub-a
+sub-a c = search needs
+
+-- src/stacks.rt:31:13
+mul-a : tie.Need-mul-a
+mul-a c = search needs
+
+-- src/stacks.rt:31:13
+element-copy-out-a : tie.Need-element-copy-out-a
+element-copy-out-a c = search needs
+
+-- src/stacks.rt:32:18
+sub-b : tie.Need-sub-b
+sub-b c = search needs
+
+-- src/stacks.rt:32:13
+mul-b : tie.Need-mul-b
+mul-b c = search needs
+
+-- src/stacks.rt:32:13
+element-copy-out-b : tie.Need-element-copy-out-b
+element-copy-out-b c = search needs
+
+-- src/stacks.rt:33:9
+compute-requires : tie.Need-compute-requires
+compute-requires c κs = 
+    let st = c .before .before in
+    let s = st .args .sums .now in
+    let k = st .args .k in
+    let b = rw (stack-two (pos 0) s k (omega arith)) at (st .pre .1 .1 .1 .1 .1) in (
+      st .pre .1 .1 .1 .0,
+      (
+        st .pre .1 .1 .1 .1 .0,
+        rw (toZ-ofZ w64 (getD s (k - 2) (pos 0)) (sfits-of (c .before .a .given)), toZ-ofZ w64 (getD s (k - 1) (pos 0)) (sfits-of (c .b .given)))
+            (small-fits _ (b .0)),
+      ),
+    )
+
+-- src/stacks.rt:34:10
+sub-v : tie.Need-sub-v
+sub-v c = search needs
+
+-- src/stacks.rt:34:5
+mul-v : tie.Need-mul-v
+mul-v c = search needs
+
+-- src/stacks.rt:34:5
+element-set-from-v : tie.Need-element-set-from-v
+element-set-from-v c = search needs
+
+-- src/stacks.rt:35:5
+sub-result : tie.Need-sub-result
+sub-result c = search needs
+
+-- src/stacks.rt:26:1
+returns : tie.Need-returns
+returns c = 
+    let st = c .before .before .before in
+    let s = st .args .sums .now in
+    let k = st .args .k in
+    let f = computedBy (kindOf (st .args .kind)) in
+    let x = getD s (k - 2) (pos 0) in
+    let y = getD s (k - 1) (pos 0) in
+    let e : toZ w64 (ofZ w64 (c .compute .result)) ≡ f x y =
+    toZ-ofZ w64 (c .compute .result) (sfits-of (c .compute .ok)) ∙ c .compute .ensures
+    ∙ rw (toZ-ofZ w64 x (sfits-of (c .before .before .a .given)), toZ-ofZ w64 y (sfits-of (c .before .b .given))) in (
+      length-set s (k - 2) (toZ w64 (ofZ w64 (c .compute .result))) ∙ st .pre .0,
+      ap (λ (v : ℤ). stackOf (pos 0) (set s (k - 2) v) (k - 1)) e
+          ∙ stack-fold (pos 0) s k (f x y) (omega arith) (omega arith)
+          ∙ ap (top2 f) (sym (stack-two (pos 0) s k (omega arith))),
+    )
+
+pub join-sums-spec : {M : Type 1} → statement M
+join-sums-spec =
+    tie.close
+    (tie.spec
+    sub-a
+    mul-a
+    element-copy-out-a
+    sub-b
+    mul-b
+    element-copy-out-b
+    compute-requires
+    sub-v
+    mul-v
+    element-set-from-v
+    sub-result
+    returns)

@@ -1,0 +1,37 @@
+use mir.ValLaws.{toZ-ofZ}
+use mir.Syntax.{w64}
+use mathlib.Core.Path.{_≡_, refl, sym, ap, _∙_}
+use borrow.Author.Needs.{sfits-of}
+use lib.IntN.{pos}
+use lib.ListN.{getD}
+use native.Mathlib.Omega.{arith}
+use borrow.Author.Needs.{needs}
+use Rattle.verdict.proofs.stacks.relate.Statement.{statement}
+use Rattle.verdict.proofs.stacks.relate.Tie as tie
+use Rattle.verdict.proofs.stacks.relate.Reads as reads
+use Rattle.verdict.proofs.stacks.relate.Lts as lts
+use Rattle.verdict.proofs.arithmetic.compare.Reads as compare-reads
+
+-- src/stacks.rt:55:13
+element-copy-out-a : tie.Need-element-copy-out-a
+element-copy-out-a c = search needs
+
+-- src/stacks.rt:56:13
+element-copy-out-b : tie.Need-element-copy-out-b
+element-copy-out-b c = search needs
+
+-- src/stacks.rt:57:5
+compare-requires : tie.Need-compare-requires
+compare-requires c κs = search needs
+
+-- src/stacks.rt:50:1
+returns : tie.Need-returns
+returns c = 
+    let s = c .before .before .before .args .sums .now in (
+      refl,
+      c .compare .ensures
+          ∙ rw (toZ-ofZ w64 (getD s 0 (pos 0)) (sfits-of (c .before .before .a .given)), toZ-ofZ w64 (getD s 1 (pos 0)) (sfits-of (c .before .b .given))),
+    )
+
+pub relate-spec : {M : Type 1} → statement M
+relate-spec = tie.close (tie.spec element-copy-out-a element-copy-out-b compare-requires returns)

@@ -1,0 +1,27 @@
+-- What later lines may change of a reference and of a truth value. From document 01, "Verdicts" and "Feeding, pulling and the
+-- window". Assumes nothing: definitions.
+use mathlib.Core.Path.{_≡_}
+use mathlib.Core.Logic.{_⊎_}
+use mathlib.Core.List.{List, _++_, List·Memᴰ}
+use Prim.Native.Nat.{ℕ}
+use lib.IntN.{ℤ}
+use Rattle.rule.specs.Tree.{Reference, Cond, references}
+use Rattle.verdict.specs.Found.{Found, pending}
+use Rattle.verdict.specs.declared.Truth.{Truth}
+use Rattle.verdict.specs.declared.Truth.the-variants.{Unknown}
+
+-- a reference stays as it is, or was pending
+abbrev pub Gains : Found → Found → Type 0
+Gains a b = (a ≡ b) ⊎ (a ≡ pending)
+
+-- each reference of a rule does
+abbrev pub GainsIn : Cond → (Reference → Found) → (Reference → Found) → Type 0
+GainsIn t found found′ = (r : Reference) → List·Memᴰ r (references t) → Gains (found r) (found′ r)
+
+-- a truth value stays as it is, or was unknown
+abbrev pub Sharpens : Truth → Truth → Type 0
+Sharpens a b = (a ≡ Unknown) ⊎ (a ≡ b)
+
+-- of each event, the same accepted lines and perhaps more after them
+abbrev pub MoreLines : (ℕ → List (List ℤ)) → (ℕ → List (List ℤ)) → Type 0
+MoreLines lines lines′ = (e : ℕ) → (more : List (List ℤ)) × (lines e ++ more ≡ lines′ e)

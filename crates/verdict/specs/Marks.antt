@@ -1,0 +1,41 @@
+-- What is handed to the evaluator: for each frame that is a reference, its mark and its note's value.
+-- From document 01, "Feeding, pulling and the window", the report's marks. Assumes nothing: definitions.
+use mathlib.Core.Path.{_≡_}
+use mathlib.Core.List.{List}
+use Prim.Native.Nat.{ℕ, _≤_, _<_}
+use lib.IntN.{ℤ, pos}
+use lib.ListN.{length, getD}
+use Rattle.rule.specs.Frames.{frameAt, frameCount}
+use Rattle.rule.specs.Tree.{Reference}
+use Rattle.rule.specs.References.{referenceByte, referenceOf}
+use Rattle.rule.specs.Check.{checkedOf}
+use Rattle.rule.specs.declared.Checked.the-variants.{Accepted}
+use Rattle.verdict.specs.Found.{instanceLimit, Found, present, pending, void}
+
+-- "00 present, 01 pending, 02 void"
+abbrev pub presentMark : ℕ
+presentMark = 0
+
+abbrev pub pendingMark : ℕ
+pendingMark = 1
+
+abbrev pub voidMark : ℕ
+voidMark = 2
+
+-- a mark and a number say what a reference is; the number counts only where it is present
+abbrev pub Tells : Found → ℕ → ℤ → Type 0
+Tells (present z) mark note = (mark ≡ presentMark) × (note ≡ z)
+Tells pending mark note = mark ≡ pendingMark
+Tells void mark note = mark ≡ voidMark
+
+-- the arrays, with an entry for each frame, say it of the reference at each frame that is one
+abbrev pub Told : List ℕ → (Reference → Found) → List ℕ → List ℤ → Type 0
+Told s found marks notes =
+    (k : ℕ) → k < frameCount s → frameAt s k .kind ≡ referenceByte → Tells (found (referenceOf (frameAt s k))) (getD marks k 0) (getD notes k (pos 0))
+
+-- what judge requires: accepted frames, an instance number that refusal 12 lets through, an entry for each frame
+pub record Judgeable (s : List ℕ) (i : ℕ) (marks : List ℕ) (notes : List ℤ) : Type 0 where
+  pub accepted : checkedOf s ≡ Accepted
+  pub instance-in : i ≤ instanceLimit
+  pub marked : frameCount s ≤ length marks
+  pub noted : frameCount s ≤ length notes

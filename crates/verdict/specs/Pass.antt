@@ -1,0 +1,88 @@
+-- The evaluator's pass over the frames: what its contract says for every array of marks and of notes.
+-- That it is the value of the rule's tree is proved (Main, judge-tree). Assumes nothing: definitions.
+use mathlib.Core.Bool.{Bool, true, false, cond, not, _||_}
+use mathlib.Core.List.{List, [], _∷_}
+use Prim.Native.Nat.{ℕ, zero, suc}
+use lib.Dec.{eqb}
+use lib.IntN.{ℤ, pos}
+use lib.ListN.{getD}
+use Rattle.rule.specs.Frames.{Source, literal, instance, reference, Relation, Kind, operand, arithmetic, absolute, relation, negation, connective, none, kindOf, frameAt, frameCount}
+use Rattle.rule.specs.Build.{top1, top2}
+use Rattle.verdict.specs.Kleene.{notK, joined, truth}
+use Rattle.verdict.specs.Value.{computed, sizeOf, holds}
+use Rattle.verdict.specs.Settled.{settledBy, verdict}
+use Rattle.verdict.specs.Marks.{presentMark, pendingMark}
+use Rattle.verdict.specs.declared.Truth.{Truth}
+use Rattle.verdict.specs.declared.Truth.the-variants.{Unknown}
+use Rattle.verdict.specs.declared.Judgement.{Judgement}
+use Rattle.verdict.specs.declared.Judgement.the-variants.{Unsettled}
+
+-- after some frames: the sums' values and the conditions' truth values, the last first; whether a reference since the last
+-- relation is missing; whether a reference is pending, and whether one is present
+pub record Pass : Type 0 where
+  pub sums : List ℤ
+  pub missing : Bool
+  pub conds : List Truth
+  pub pending : Bool
+  pub present : Bool
+
+abbrev pub atStart : Pass
+atStart = record { sums = []; missing = false; conds = []; pending = false; present = false }
+
+abbrev pub withSums : Pass → List ℤ → Pass
+withSums p vs = record { sums = vs; missing = p .missing; conds = p .conds; pending = p .pending; present = p .present }
+
+abbrev pub withConds : Pass → List Truth → Pass
+withConds p cs = record { sums = p .sums; missing = p .missing; conds = cs; pending = p .pending; present = p .present }
+
+-- a reference with its mark and its note
+abbrev pub withReference : Pass → ℕ → ℤ → Pass
+withReference p mark note =
+    record {
+      sums = note ∷ p .sums;
+      missing = p .missing || not (eqb mark presentMark);
+      conds = p .conds;
+      pending = p .pending || eqb mark pendingMark;
+      present = p .present || eqb mark presentMark;
+    }
+
+-- a relation of the two sums that are there
+abbrev pub related : Relation → Bool → List ℤ → Truth
+related r missing [] = Unknown
+related r missing (y ∷ []) = Unknown
+related r missing (y ∷ (x ∷ vs)) = cond missing Unknown (truth (holds r x y))
+
+abbrev pub withRelation : Pass → Relation → Pass
+withRelation p r = record { sums = []; missing = false; conds = related r (p .missing) (p .sums) ∷ p .conds; pending = p .pending; present = p .present }
+
+abbrev pub operandBy : Source → ℤ → ℕ → ℕ → ℤ → Pass → Pass
+operandBy literal v i mark note p = withSums p (v ∷ p .sums)
+operandBy instance v i mark note p = withSums p (pos i ∷ p .sums)
+operandBy reference v i mark note p = withReference p mark note
+
+-- one frame more, by its kind: v is the frame's literal, i the instance number
+abbrev pub passBy : Kind → ℤ → ℕ → ℕ → ℤ → Pass → Pass
+passBy (operand s) v i mark note p = operandBy s v i mark note p
+passBy (arithmetic o) v i mark note p = withSums p (top2 (computed o) (p .sums))
+passBy absolute v i mark note p = withSums p (top1 sizeOf (p .sums))
+passBy (relation r) v i mark note p = withRelation p r
+passBy negation v i mark note p = withConds p (top1 notK (p .conds))
+passBy (connective j) v i mark note p = withConds p (top2 (joined j) (p .conds))
+passBy none v i mark note p = p
+
+abbrev pub firstT : List Truth → Truth
+firstT [] = Unknown
+firstT (t ∷ cs) = t
+
+abbrev pub judgedBy : Bool → Bool → Truth → Judgement
+judgedBy somePending somePresent t = cond (settledBy somePending somePresent t) (verdict t) Unsettled
+
+module _ (s : List ℕ) (i : ℕ) (marks : List ℕ) (notes : List ℤ) where
+  -- after the first k frames
+  abbrev pub passAt : ℕ → Pass
+  passAt zero = atStart
+  passAt (suc k) = passBy (kindOf (frameAt s k .kind)) (frameAt s k .value) i (getD marks k 0) (getD notes k (pos 0)) (passAt k)
+
+  unfoldable pub judgementOf : Judgement
+  judgementOf =
+      judgedBy (passAt (frameCount s) .pending) (passAt (frameCount s) .present) (firstT (passAt (frameCount s) .conds))

@@ -1,0 +1,29 @@
+-- Settled instances and their verdicts. From document 01, "Verdicts". Assumes nothing: definitions.
+use mathlib.Core.Bool.{Bool, cond, not, _&&_, _||_}
+use Prim.Native.Nat.{ℕ}
+use Rattle.rule.specs.Tree.{Reference, Cond, references}
+use Rattle.verdict.specs.Found.{Found, isPresent, isPending, someOf}
+use Rattle.verdict.specs.Kleene.{isKnown}
+use Rattle.verdict.specs.Value.{value}
+use Rattle.verdict.specs.declared.Truth.{Truth}
+use Rattle.verdict.specs.declared.Truth.the-variants as truths
+use Rattle.verdict.specs.declared.Judgement.{Judgement}
+use Rattle.verdict.specs.declared.Judgement.the-variants.{Unsettled, True, False, Unknown}
+
+-- settled is the document's term: "if no reference is pending, or if at least one is present and the rule is true or false"
+abbrev pub settledBy : Bool → Bool → Truth → Bool
+settledBy somePending somePresent t = not somePending || (somePresent && isKnown t)
+
+-- "The verdict of a settled instance is the rule's value": the code's answer for a truth value
+abbrev pub verdict : Truth → Judgement
+verdict truths.True = True
+verdict truths.False = False
+verdict truths.Unknown = Unknown
+
+module _ (i : ℕ) (found : Reference → Found) (t : Cond) where
+  abbrev pub settled : Bool
+  settled = settledBy (someOf isPending found (references t)) (someOf isPresent found (references t)) (value i found t)
+
+  -- what is said of an instance: its verdict where it is settled
+  abbrev pub judgement : Judgement
+  judgement = cond settled (verdict (value i found t)) Unsettled

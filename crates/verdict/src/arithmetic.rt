@@ -1,0 +1,51 @@
+// Sums and relations of 64-bit numbers.
+ghost use mathlib.Core.Path.{_≡_};
+ghost use Prim.Native.Nat.{_≤_, _<_};
+ghost use lib.IntN.{natAbs};
+ghost use mir.Syntax.{w64};
+ghost use mir.Val.{SFits};
+ghost use Rattle.rule.specs.Limits.{magnitudeLimit};
+ghost use Rattle.rule.specs.Frames.{kindOf};
+ghost use Rattle.verdict.specs.Value.{sizeOf};
+ghost use Rattle.verdict.specs.Stacks.{computedBy, holdsBy};
+
+// A 32-bit number as one of 64 bits.
+pub fn widen(a: i32) -> i64
+    ensures { λ r. ⌜ r ≡ a ⌝ }
+{
+    a as i64
+}
+
+pub fn size(a: i64) -> i64
+    requires { ⌜ natAbs a ≤ magnitudeLimit ⌝ }
+    ensures { λ r. ⌜ r ≡ sizeOf a ⌝ }
+{
+    if a < 0 { 0 - a } else { a }
+}
+
+// Add, subtract, multiply, by the kind byte. Called where the result is known to fit.
+pub fn compute(kind: u8, a: i64, b: i64) -> i64
+    requires { ⌜ (0x11 ≤ kind) × ((kind < 0x14) × SFits w64 (computedBy (kindOf kind) a b)) ⌝ }
+    ensures { λ r. ⌜ r ≡ computedBy (kindOf kind) a b ⌝ }
+{
+    match kind {
+        0x11 => a + b,
+        0x12 => a - b,
+        _ => a * b,
+    }
+}
+
+// Whether a relation holds, by the kind byte.
+pub fn compare(kind: u8, a: i64, b: i64) -> bool
+    requires { ⌜ (0x21 ≤ kind) × (kind < 0x27) ⌝ }
+    ensures { λ r. ⌜ r ≡ holdsBy (kindOf kind) a b ⌝ }
+{
+    match kind {
+        0x21 => a == b,
+        0x22 => a != b,
+        0x23 => a < b,
+        0x24 => a <= b,
+        0x25 => a > b,
+        _ => a >= b,
+    }
+}

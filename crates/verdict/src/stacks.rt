@@ -1,0 +1,88 @@
+// Sums and conditions as stacks, each an array with a count. Called by the step of the evaluator.
+use crate::Truth;
+use crate::arithmetic;
+use crate::kleene;
+ghost use mathlib.Core.Path.{_≡_};
+ghost use mathlib.Core.List.{_∷_};
+ghost use Prim.Native.Nat.{_≤_, _<_};
+ghost use lib.IntN.{pos};
+ghost use lib.ListN.{length, getD};
+ghost use Rattle.rule.specs.Frames.{kindOf};
+ghost use Rattle.rule.specs.Build.{top1, top2};
+ghost use Rattle.rule.specs.Stack.{stackOf};
+ghost use Rattle.verdict.specs.Kleene.{notK};
+ghost use Rattle.verdict.specs.Value.{sizeOf};
+ghost use Rattle.verdict.specs.Stacks.{computedBy, holdsBy, joinedBy, truthsOf, Small};
+
+pub fn put_sum(sums: &mut [i64; 64], k: usize, v: i64) -> usize
+    requires { ⌜ (length (now sums) ≡ 64) × (k < 64) ⌝ }
+    ensures kept { λ r. ⌜ length (now (sums .exit)) ≡ 64 ⌝ }
+    ensures { λ r. ⌜ stackOf (pos 0) (now (sums .exit)) r ≡ v ∷ stackOf (pos 0) (now (sums .entry)) k ⌝ }
+{
+    sums[k] = v;
+    k + 1
+}
+
+pub fn join_sums(kind: u8, sums: &mut [i64; 64], k: usize) -> usize
+    requires { ⌜ (length (now sums) ≡ 64) × ((k < 64) × ((2 ≤ k) × ((0x11 ≤ kind) × ((kind < 0x14) × Small (top2 (computedBy (kindOf kind)) (stackOf (pos 0) (now sums) k)))))) ⌝ }
+    ensures kept { λ r. ⌜ length (now (sums .exit)) ≡ 64 ⌝ }
+    ensures { λ r. ⌜ stackOf (pos 0) (now (sums .exit)) r ≡ top2 (computedBy (kindOf kind)) (stackOf (pos 0) (now (sums .entry)) k) ⌝ }
+{
+    let a = sums[k - 2];
+    let b = sums[k - 1];
+    let v = arithmetic::compute(kind, a, b);
+    sums[k - 2] = v;
+    k - 1
+}
+
+pub fn size_sum(sums: &mut [i64; 64], k: usize) -> usize
+    requires { ⌜ (length (now sums) ≡ 64) × ((k < 64) × ((1 ≤ k) × Small (top1 sizeOf (stackOf (pos 0) (now sums) k)))) ⌝ }
+    ensures kept { λ r. ⌜ length (now (sums .exit)) ≡ 64 ⌝ }
+    ensures { λ r. ⌜ stackOf (pos 0) (now (sums .exit)) r ≡ top1 sizeOf (stackOf (pos 0) (now (sums .entry)) k) ⌝ }
+{
+    let a = sums[k - 1];
+    let v = arithmetic::size(a);
+    sums[k - 1] = v;
+    k
+}
+
+// Whether the relation of the two sums that are there holds.
+pub fn relate(kind: u8, sums: &mut [i64; 64]) -> bool
+    requires { ⌜ (0x21 ≤ kind) × (kind < 0x27) ⌝ }
+    ensures kept { λ r. ⌜ now (sums .exit) ≡ now (sums .entry) ⌝ }
+    ensures { λ r. ⌜ r ≡ holdsBy (kindOf kind) (getD (now (sums .entry)) 0 (pos 0)) (getD (now (sums .entry)) 1 (pos 0)) ⌝ }
+{
+    let a = sums[0];
+    let b = sums[1];
+    arithmetic::compare(kind, a, b)
+}
+
+pub fn put_cond(conds: &mut [u8; 64], c: usize, t: Truth) -> usize
+    requires { ⌜ (length (now conds) ≡ 64) × (c < 64) ⌝ }
+    ensures kept { λ r. ⌜ length (now (conds .exit)) ≡ 64 ⌝ }
+    ensures { λ r. ⌜ truthsOf (now (conds .exit)) r ≡ t ∷ truthsOf (now (conds .entry)) c ⌝ }
+{
+    conds[c] = kleene::code(t);
+    c + 1
+}
+
+pub fn not_cond(conds: &mut [u8; 64], c: usize) -> usize
+    requires { ⌜ (length (now conds) ≡ 64) × ((c < 64) × (1 ≤ c)) ⌝ }
+    ensures kept { λ r. ⌜ length (now (conds .exit)) ≡ 64 ⌝ }
+    ensures { λ r. ⌜ truthsOf (now (conds .exit)) r ≡ top1 notK (truthsOf (now (conds .entry)) c) ⌝ }
+{
+    let t = kleene::decoded(conds[c - 1]);
+    conds[c - 1] = kleene::code(kleene::negated(t));
+    c
+}
+
+pub fn join_conds(kind: u8, conds: &mut [u8; 64], c: usize) -> usize
+    requires { ⌜ (length (now conds) ≡ 64) × ((c < 64) × ((2 ≤ c) × ((0x32 ≤ kind) × (kind < 0x35)))) ⌝ }
+    ensures kept { λ r. ⌜ length (now (conds .exit)) ≡ 64 ⌝ }
+    ensures { λ r. ⌜ truthsOf (now (conds .exit)) r ≡ top2 (joinedBy (kindOf kind)) (truthsOf (now (conds .entry)) c) ⌝ }
+{
+    let p = kleene::decoded(conds[c - 2]);
+    let q = kleene::decoded(conds[c - 1]);
+    conds[c - 2] = kleene::code(kleene::connect(kind, p, q));
+    c - 1
+}
