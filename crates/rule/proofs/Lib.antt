@@ -19,6 +19,8 @@ pub mod Answer
 pub mod Laws
 pub mod Tables
 pub mod Marked
+pub mod Close
+pub mod Settle
 pub mod KindBytes
 pub mod Stack
 pub mod Prefix

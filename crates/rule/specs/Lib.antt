@@ -19,3 +19,4 @@ pub mod Stack
 pub mod Build
 pub mod Check
 pub mod Opening
+pub mod Reading
