@@ -3,6 +3,13 @@ pub mod Token
 pub mod Name
 pub mod Number
 pub mod Limits
+pub mod ReadLimits
+pub mod Grammar
+pub mod Measure
+pub mod Machine
+pub mod Judge
+pub mod Memory
+pub mod Does
 pub mod Frames
 pub mod Tree
 pub mod References
@@ -12,3 +19,4 @@ pub mod Stack
 pub mod Build
 pub mod Check
 pub mod Opening
+pub mod Reading

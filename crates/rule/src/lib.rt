@@ -1,7 +1,15 @@
 // Rules: text, tokens, frames and their checks. Nothing here knows of logs.
 pub mod classes;
+pub mod conditions;
+pub mod emit;
+pub mod header;
+pub mod lookup;
+pub mod memory;
 pub mod names;
 pub mod numerals;
+pub mod parts;
+pub mod reader;
+pub mod sums;
 pub mod tokens;
 mod frames; // frames.rt: a frame's fields
 mod order; // order.rt: refusal 10, and how many references there are
@@ -10,6 +18,7 @@ mod sizes; // sizes.rt: refusal 8
 pub use frames::frame_at;
 use order::Ordered;
 pub use order::reference_count;
+pub use reader::read;
 ghost use mathlib.Core.Path.{_≡_};
 ghost use Rattle.rule.specs.Check.{wholeFrames, refused, checkedOf};
 
@@ -33,6 +42,12 @@ pub struct Frame {
     pub note: u8,
     pub factor: u8,
     pub value: i32,
+}
+
+// What `read` answers: the number of frames, or a refusal.
+pub enum Reading {
+    Frames(u32),
+    Refused(Refusal),
 }
 
 // What the check of frames answers.

@@ -1,0 +1,338 @@
+-- Leftmost derivations: what a stack may spell, and what its reading does. The machine takes exactly those. Assumes nothing.
+use mathlib.Core.Path.{_≡_, refl, ap, sym, _∙_, subst}
+use mathlib.Core.Bool.{Bool, true, false, cond}
+use mathlib.Core.List.{List, [], _∷_, _++_}
+use Prim.Native.Nat.{ℕ, zero, suc, _+_}
+use native.Mathlib.Omega.{arith}
+use borrow.Author.Tests.{eqb-true, eqb-false, eq-eqb, ne-eqb}
+use lib.Dec.{eqb}
+use Rattle.rule.specs.declared.Token.{Token}
+use Rattle.rule.specs.declared.parts.Place.{Place}
+use Rattle.rule.specs.declared.parts.Role.{Role}
+use Rattle.rule.specs.declared.parts.Role.the-variants.{Event, Note}
+use Rattle.rule.specs.declared.parts.Limit.{Limit}
+use Rattle.rule.specs.declared.parts.Limit.the-variants.{OfLiteral, OfFactor, OfOffset}
+use Rattle.rule.specs.declared.parts.Sign.{Sign}
+use Rattle.rule.specs.declared.parts.Sign.the-variants.{Plus, Minus}
+use Rattle.rule.specs.declared.parts.Scale.{Scale}
+use Rattle.rule.specs.declared.parts.Scale.the-variants.{Once, Times}
+use Rattle.rule.specs.declared.parts.Shift.{Shift}
+use Rattle.rule.specs.declared.parts.Shift.the-variants.{Unshifted, By}
+use Rattle.rule.specs.Grammar.{Word, mark, name, number, Rel, equal, unequal, less, at-most, more, at-least, relMark, signMark, place, wordOf, words}
+use Rattle.rule.specs.Measure.{Draft, lit, index-var, ref, plain, signKind, relKind}
+use Rattle.rule.specs.Machine.{Act, declare, uses, sized, enter, out, deeper, Sym, unit, ands, ors, arrow, factor, muls, adds, rel, want, name-of, names-of, ref-event, ref-index, ref-shift, ref-by, doing, prod, sum, conj, condition, start, Next, stuck, on, Answer, accepted, refused, resume, startFactor, step, finish, run}
+
+abbrev pub isLeaf : ℕ → Bool
+isLeaf k = cond (eqb k 1) true (eqb k 2)
+
+-- ---- words and kinds
+abbrev Marks : Word → ℕ → Type 0
+Marks (mark j) k = k ≡ j
+Marks (name q) k = ⊥
+Marks (number q) k = ⊥
+
+abbrev Matches : Word → ℕ → Place → Type 0
+Matches (mark j) k p = k ≡ j
+Matches (name q) k p = (k ≡ 1) × (p ≡ q)
+Matches (number q) k p = (k ≡ 2) × (p ≡ q)
+
+matches-own : (k : ℕ) (p : Place) → Matches (wordOf k p) k p
+matches-own k p = go (eqb k 1) (eqb k 2) refl refl
+  where
+    go : (x y : Bool) → eqb k 1 ≡ x → eqb k 2 ≡ y → Matches (cond x (name p) (cond y (number p) (mark k))) k p
+    go true y e f = (eqb-true _ _ e, refl)
+    go false true e f = (eqb-true _ _ f, refl)
+    go false false e f = refl
+
+matches : (k : ℕ) (p : Place) {w : Word} → wordOf k p ≡ w → Matches w k p
+matches k p e = subst (λ (x : Word). Matches x k p) e (matches-own k p)
+
+plain-word : (k : ℕ) (p : Place) → isLeaf k ≡ false → wordOf k p ≡ mark k
+plain-word k p e = go (eqb k 1) (eqb k 2) e
+  where
+    go : (x y : Bool) → cond x true y ≡ false → cond x (name p) (cond y (number p) (mark k)) ≡ mark k
+    go true y e = absurd (no-way e)
+      where
+        Is : Bool → Type 0
+        Is true = Unit {0}
+        Is false = ⊥
+
+        no-way : true ≡ false → ⊥
+        no-way e = subst Is e tt
+    go false true e = absurd (no-way e)
+      where
+        Is : Bool → Type 0
+        Is true = Unit {0}
+        Is false = ⊥
+
+        no-way : true ≡ false → ⊥
+        no-way e = subst Is e tt
+    go false false e = refl
+
+-- a choice by a test on the kind
+choose : {N : Type 0} (P : N → Type 0) (k j : ℕ) {a b : N} → (k ≡ j → P a) → P b → P (cond (eqb k j) a b)
+choose P k j {a} {b} f g = go (eqb k j) refl
+  where
+    go : (x : Bool) → eqb k j ≡ x → P (cond x a b)
+    go true e = f (eqb-true _ _ e)
+    go false e = g
+
+module _ (M : Type 0) (act : Act → M → M) where
+  -- The stack s may spell the words ws, and their reading takes the memory m to m′.
+  pub data Gen : List Sym → M → List Word → M → Type 0 where
+    done : {m : M} → Gen [] m [] m
+    token : {k : ℕ} {s : List Sym} {m m′ : M} {ws : List Word} → Gen s m ws m′ → Gen (want k ∷ s) m (mark k ∷ ws) m′
+    does : {a : Act} {s : List Sym} {m m′ : M} {ws : List Word} → Gen s (act a m) ws m′ → Gen (doing a ∷ s) m ws m′
+    not : {d : ℕ} {s : List Sym} {m m′ : M} {ws : List Word} → Gen (unit (deeper d) ∷ doing (out (plain 0x31)) ∷ s) (act (enter (deeper d)) m) ws m′ → Gen (unit d ∷ s) m (mark 33 ∷ ws) m′
+    group : {d : ℕ} {s : List Sym} {m m′ : M} {ws : List Word} → Gen (condition (deeper d) (want 125 ∷ s)) (act (enter (deeper d)) m) ws m′ → Gen (unit d ∷ s) m (mark 123 ∷ ws) m′
+    relation : {d : ℕ} {s : List Sym} {m m′ : M} {ws : List Word} → Gen (sum d (rel d ∷ s)) m ws m′ → Gen (unit d ∷ s) m ws m′
+    compare : {d : ℕ} {s : List Sym} {m m′ : M} {ws : List Word} (c : Rel) → Gen (sum d (doing (out (plain (relKind c))) ∷ s)) m ws m′ → Gen (rel d ∷ s) m (mark (relMark c) ∷ ws) m′
+    and-more : {d : ℕ} {s : List Sym} {m m′ : M} {ws : List Word} → Gen (unit d ∷ doing (out (plain 0x32)) ∷ ands d ∷ s) m ws m′ → Gen (ands d ∷ s) m (mark 132 ∷ ws) m′
+    and-none : {d : ℕ} {s : List Sym} {m m′ : M} {ws : List Word} → Gen s m ws m′ → Gen (ands d ∷ s) m ws m′
+    or-more : {d : ℕ} {s : List Sym} {m m′ : M} {ws : List Word} → Gen (conj d (doing (out (plain 0x33)) ∷ ors d ∷ s)) m ws m′ → Gen (ors d ∷ s) m (mark 131 ∷ ws) m′
+    or-none : {d : ℕ} {s : List Sym} {m m′ : M} {ws : List Word} → Gen s m ws m′ → Gen (ors d ∷ s) m ws m′
+    implies : {d : ℕ} {s : List Sym} {m m′ : M} {ws : List Word} → Gen (condition (deeper d) (doing (out (plain 0x34)) ∷ s)) (act (enter (deeper d)) m) ws m′ → Gen (arrow d ∷ s) m (mark 130 ∷ ws) m′
+    implies-none : {d : ℕ} {s : List Sym} {m m′ : M} {ws : List Word} → Gen s m ws m′ → Gen (arrow d ∷ s) m ws m′
+    add-more : {d : ℕ} {s : List Sym} {m m′ : M} {ws : List Word} (g : Sign) → Gen (prod d (doing (out (plain (signKind g))) ∷ adds d ∷ s)) m ws m′ → Gen (adds d ∷ s) m (mark (signMark g) ∷ ws) m′
+    add-none : {d : ℕ} {s : List Sym} {m m′ : M} {ws : List Word} → Gen s m ws m′ → Gen (adds d ∷ s) m ws m′
+    mul-more : {d : ℕ} {s : List Sym} {m m′ : M} {ws : List Word} → Gen (factor d ∷ doing (out (plain 0x13)) ∷ muls d ∷ s) m ws m′ → Gen (muls d ∷ s) m (mark 42 ∷ ws) m′
+    mul-none : {d : ℕ} {s : List Sym} {m m′ : M} {ws : List Word} → Gen s m ws m′ → Gen (muls d ∷ s) m ws m′
+    literal : {d : ℕ} {s : List Sym} {m m′ : M} {ws : List Word} (p : Place) → Gen s (act (out (lit p)) (act (sized OfLiteral p) m)) ws m′ → Gen (factor d ∷ s) m (number p ∷ ws) m′
+    var : {d : ℕ} {s : List Sym} {m m′ : M} {ws : List Word} → Gen s (act (out index-var) m) ws m′ → Gen (factor d ∷ s) m (mark 5 ∷ ws) m′
+    parens : {d : ℕ} {s : List Sym} {m m′ : M} {ws : List Word} → Gen (sum (deeper d) (want 41 ∷ s)) (act (enter (deeper d)) m) ws m′ → Gen (factor d ∷ s) m (mark 40 ∷ ws) m′
+    absolute : {d : ℕ} {s : List Sym} {m m′ : M} {ws : List Word} → Gen (want 40 ∷ sum (deeper d) (want 41 ∷ doing (out (plain 0x14)) ∷ s)) (act (enter (deeper d)) m) ws m′ → Gen (factor d ∷ s) m (mark 6 ∷ ws) m′
+    reference : {d : ℕ} {s : List Sym} {m m′ : M} {ws : List Word} (p : Place) → Gen (want 40 ∷ ref-event p ∷ s) (act (uses Note p) m) ws m′ → Gen (factor d ∷ s) m (name p ∷ ws) m′
+    event : {n : Place} {s : List Sym} {m m′ : M} {ws : List Word} (p : Place) → Gen (want 91 ∷ ref-index n p ∷ want 93 ∷ want 41 ∷ s) (act (uses Event p) m) ws m′ → Gen (ref-event n ∷ s) m (name p ∷ ws) m′
+    scaled : {n e : Place} {s : List Sym} {m m′ : M} {ws : List Word} (p : Place) → Gen (want 42 ∷ want 5 ∷ ref-shift n e (Times p) ∷ s) (act (sized OfFactor p) m) ws m′ → Gen (ref-index n e ∷ s) m (number p ∷ ws) m′
+    unscaled : {n e : Place} {s : List Sym} {m m′ : M} {ws : List Word} → Gen (ref-shift n e Once ∷ s) m ws m′ → Gen (ref-index n e ∷ s) m (mark 5 ∷ ws) m′
+    shifted : {n e : Place} {f : Scale} {s : List Sym} {m m′ : M} {ws : List Word} (g : Sign) → Gen (ref-by n e f g ∷ s) m ws m′ → Gen (ref-shift n e f ∷ s) m (mark (signMark g) ∷ ws) m′
+    shift-none : {n e : Place} {f : Scale} {s : List Sym} {m m′ : M} {ws : List Word} → Gen s (act (out (ref n e f Unshifted)) m) ws m′ → Gen (ref-shift n e f ∷ s) m ws m′
+    by-number : {n e : Place} {f : Scale} {g : Sign} {s : List Sym} {m m′ : M} {ws : List Word} (p : Place) → Gen s (act (out (ref n e f (By g p))) (act (sized OfOffset p) m)) ws m′ → Gen (ref-by n e f g ∷ s) m (number p ∷ ws) m′
+    named : {r : Role} {s : List Sym} {m m′ : M} {ws : List Word} (p : Place) → Gen s (act (declare r p) m) ws m′ → Gen (name-of r ∷ s) m (name p ∷ ws) m′
+    name-more : {r : Role} {s : List Sym} {m m′ : M} {ws : List Word} (p : Place) → Gen (names-of r ∷ s) (act (declare r p) m) ws m′ → Gen (names-of r ∷ s) m (name p ∷ ws) m′
+    name-none : {r : Role} {s : List Sym} {m m′ : M} {ws : List Word} → Gen s m ws m′ → Gen (names-of r ∷ s) m ws m′
+
+  -- ---- each stack derives something
+  nowhere : Place
+  nowhere = record { start = 0; end = 0 }
+
+  Some : List Sym → M → Type 0
+  Some s m = (ws : List Word) × (m′ : M) × Gen s m ws m′
+
+  pub some : (s : List Sym) (m : M) → (ws : List Word) × (m′ : M) × Gen s m ws m′
+  some [] m = ([], m, done)
+  some (unit d ∷ s) m = let (ws, m′, g) = some s _ in (_, m′, relation (var (mul-none (add-none (compare equal (var (mul-none (add-none (does g)))))))))
+  some (ands d ∷ s) m = let (ws, m′, g) = some s m in (_, m′, and-none g)
+  some (ors d ∷ s) m = let (ws, m′, g) = some s m in (_, m′, or-none g)
+  some (arrow d ∷ s) m = let (ws, m′, g) = some s m in (_, m′, implies-none g)
+  some (factor d ∷ s) m = let (ws, m′, g) = some s _ in (_, m′, var g)
+  some (muls d ∷ s) m = let (ws, m′, g) = some s m in (_, m′, mul-none g)
+  some (adds d ∷ s) m = let (ws, m′, g) = some s m in (_, m′, add-none g)
+  some (rel d ∷ s) m = let (ws, m′, g) = some s _ in (_, m′, compare equal (var (mul-none (add-none (does g)))))
+  some (want k ∷ s) m = let (ws, m′, g) = some s m in (_, m′, token g)
+  some (name-of r ∷ s) m = let (ws, m′, g) = some s _ in (_, m′, named nowhere g)
+  some (names-of r ∷ s) m = let (ws, m′, g) = some s m in (_, m′, name-none g)
+  some (ref-event n ∷ s) m = let (ws, m′, g) = some s _ in (_, m′, event nowhere (token (unscaled (shift-none (token (token g))))))
+  some (ref-index n e ∷ s) m = let (ws, m′, g) = some s _ in (_, m′, unscaled (shift-none g))
+  some (ref-shift n e f ∷ s) m = let (ws, m′, g) = some s _ in (_, m′, shift-none g)
+  some (ref-by n e f g ∷ s) m = let (ws, m′, h) = some s _ in (_, m′, by-number nowhere h)
+  some (doing a ∷ s) m = let (ws, m′, g) = some s _ in (_, m′, does g)
+
+  -- ---- stacks on which the machine's choice is the only one
+  abbrev pub Clear : ℕ → List Sym → Type 0
+  Clear k s = (m : M) (p : Place) → step M act s m k p ≡ stuck
+
+  abbrev pub Arith : List Sym → Type 0
+  Arith s = Clear 42 s × Clear 43 s × Clear 45 s
+
+  abbrev pub Good : List Sym → Type 0
+  Good [] = Unit
+  Good (unit d ∷ s) = Arith s × Good s
+  Good (ands d ∷ s) = Arith s × Clear 132 s × Good s
+  Good (ors d ∷ s) = Arith s × Clear 132 s × Clear 131 s × Good s
+  Good (arrow d ∷ s) = Arith s × Clear 132 s × Clear 131 s × Clear 130 s × Good s
+  Good (factor d ∷ s) = Good s
+  Good (muls d ∷ s) = Clear 42 s × Good s
+  Good (adds d ∷ s) = Arith s × Good s
+  Good (rel d ∷ s) = Arith s × Good s
+  Good (want k ∷ s) = (isLeaf k ≡ false) × Good s
+  Good (name-of r ∷ s) = Good s
+  Good (names-of r ∷ s) = Clear 1 s × Good s
+  Good (ref-event n ∷ s) = Good s
+  Good (ref-index n e ∷ s) = Clear 43 s × Clear 45 s × Good s
+  Good (ref-shift n e f ∷ s) = Clear 43 s × Clear 45 s × Good s
+  Good (ref-by n e f g ∷ s) = Good s
+  Good (doing a ∷ s) = Good s
+
+  -- the same after a symbol that is passed over
+  good-sum : (d : ℕ) (s : List Sym) → Arith s → Good s → Good (sum d s)
+  unfolding step
+  good-sum d s a g = ((λ m p. a .0 m p), (a, g))
+
+  good-prod : (d : ℕ) (s : List Sym) → Clear 42 s → Good s → Good (prod d s)
+  good-prod d s a g = (a, g)
+
+  good-cond : (d : ℕ) (s : List Sym) → Arith s → Clear 132 s → Clear 131 s → Clear 130 s → Good s → Good (condition d s)
+  unfolding step
+  good-cond d s a x y z g = (
+    ((λ m p. a .0 m p), (λ m p. a .1 m p), (λ m p. a .2 m p)),
+    (
+      ((λ m p. a .0 m p), (λ m p. a .1 m p), (λ m p. a .2 m p)),
+      (λ m p. x m p),
+      (((λ m p. a .0 m p), (λ m p. a .1 m p), (λ m p. a .2 m p)), (λ m p. x m p), (λ m p. y m p), (a, x, y, z, g)),
+    ),
+  )
+
+  -- after an act
+  acted : (a : Act) (s : List Sym) → Arith s → Arith (doing a ∷ s)
+  unfolding step
+  acted a s x = ((λ m p. x .0 _ p), (λ m p. x .1 _ p), (λ m p. x .2 _ p))
+
+  acted₁ : (a : Act) (k : ℕ) (s : List Sym) → Clear k s → Clear k (doing a ∷ s)
+  unfolding step
+  acted₁ a k s x = λ m p. x _ p
+
+  -- ---- soundness of a step: what follows it, the grammar allows; and the stack that it leads to is good again
+  abbrev pub Fine : List Sym → M → ℕ → Place → Next M → Type 0
+  Fine s m k p stuck = Unit
+  Fine s m k p (on s₁ m₁) = Good s → Good s₁ × ((ws : List Word) (m′ : M) → Gen s₁ m₁ ws m′ → Gen s m (wordOf k p ∷ ws) m′)
+
+  -- from a stack below
+  pass : (s s₀ : List Sym) (m m₀ : M) (k : ℕ) (p : Place) (x : Next M) → (Good s → Good s₀) → ((ws : List Word) (m′ : M) → Gen s₀ m₀ ws m′ → Gen s m ws m′) → Fine s₀ m₀ k p x → Fine s m k p x
+  pass s s₀ m m₀ k p stuck f h i = tt
+  pass s s₀ m m₀ k p (on s₁ m₁) f h i = λ g. let r = i (f g) in (r .0, λ ws m′ y. h _ m′ (r .1 ws m′ y))
+
+  fine-factor : (d : ℕ) (s : List Sym) (m : M) (k : ℕ) (p : Place) → Fine (factor d ∷ s) m k p (startFactor M act d m k p s)
+  unfolding startFactor step
+  fine-factor d s m k p =
+      choose F k 2 (λ e g. (g, λ ws m′ h. rw e (literal p h)))
+      (choose F k 5 (λ e g. (g, λ ws m′ h. rw e (var h)))
+      (choose F k 40 (λ e g. (good-sum (deeper d) (want 41 ∷ s) ((λ m p. refl), (λ m p. refl), (λ m p. refl)) (refl, g), λ ws m′ h. rw e (parens h)))
+      (choose F k 6 (λ e g. ((refl, good-sum (deeper d) (want 41 ∷ doing (out (plain 0x14)) ∷ s) ((λ m p. refl), (λ m p. refl), (λ m p. refl)) (refl, g)), λ ws m′ h. rw e (absolute h)))
+      (choose F k 1 (λ e g. ((refl, g), λ ws m′ h. rw e (reference p h))) tt))))
+    where
+      F : Next M → Type 0
+      F = Fine (factor d ∷ s) m k p
+
+  pub fine : (s : List Sym) (m : M) (k : ℕ) (p : Place) → Fine s m k p (step M act s m k p)
+  unfolding step
+  fine [] m k p = tt
+  fine (unit d ∷ s) m k p =
+      choose (Fine (unit d ∷ s) m k p) k 33 (λ e g. ((acted (out (plain 0x31)) s (g .0), g .1), λ ws m′ h. rw e (not h)))
+      (choose (Fine (unit d ∷ s) m k p) k 123 (λ e g. (good-cond (deeper d) (want 125 ∷ s) ((λ m p. refl), (λ m p. refl), (λ m p. refl)) (λ m p. refl) (λ m p. refl) (λ m p. refl) (refl, g .1), λ ws m′ h. rw e (group h)))
+      (pass (unit d ∷ s) (sum d (rel d ∷ s)) m m k p (startFactor M act d m k p (muls d ∷ adds d ∷ rel d ∷ s)) (λ g. good-sum d (rel d ∷ s) ((λ m p. refl), (λ m p. refl), (λ m p. refl)) g) (λ ws m′ h. relation h) (fine-factor d (muls d ∷ adds d ∷ rel d ∷ s) m k p)))
+  fine (ands d ∷ s) m k p =
+      choose (Fine (ands d ∷ s) m k p) k 132 (λ e g. ((acted (out (plain 0x32)) (ands d ∷ s) ((λ m p. g .0 .0 m p), (λ m p. g .0 .1 m p), (λ m p. g .0 .2 m p)), g), λ ws m′ h. rw e (and-more h)))
+      (pass (ands d ∷ s) s m m k p (step M act s m k p) (λ g. g .2) (λ ws m′ h. and-none h) (fine s m k p))
+  fine (ors d ∷ s) m k p =
+      choose (Fine (ors d ∷ s) m k p) k 131
+      (λ e g. let a : Arith (doing (out (plain 0x33)) ∷ ors d ∷ s) = ((λ m p. g .0 .0 _ p), (λ m p. g .0 .1 _ p), (λ m p. g .0 .2 _ p)) in
+      ((((λ m p. a .0 m p), (λ m p. a .1 m p), (λ m p. a .2 m p)), (a, (λ m p. g .1 _ p), g)), λ ws m′ h. rw e (or-more h)))
+      (pass (ors d ∷ s) s m m k p (step M act s m k p) (λ g. g .3) (λ ws m′ h. or-none h) (fine s m k p))
+  fine (arrow d ∷ s) m k p =
+      choose (Fine (arrow d ∷ s) m k p) k 130
+      (λ e g. (good-cond (deeper d) (doing (out (plain 0x34)) ∷ s) ((λ m p. g .0 .0 _ p), (λ m p. g .0 .1 _ p), (λ m p. g .0 .2 _ p)) (λ m p. g .1 _ p) (λ m p. g .2 _ p) (λ m p. g .3 _ p) (g .4), λ ws m′ h. rw e (implies h)))
+      (pass (arrow d ∷ s) s m m k p (step M act s m k p) (λ g. g .4) (λ ws m′ h. implies-none h) (fine s m k p))
+  fine (factor d ∷ s) m k p = fine-factor d s m k p
+  fine (muls d ∷ s) m k p =
+      choose (Fine (muls d ∷ s) m k p) k 42 (λ e g. (g, λ ws m′ h. rw e (mul-more h)))
+      (pass (muls d ∷ s) s m m k p (step M act s m k p) (λ g. g .1) (λ ws m′ h. mul-none h) (fine s m k p))
+  fine (adds d ∷ s) m k p =
+      choose (Fine (adds d ∷ s) m k p) k 43 (λ e g. (((λ m p. g .0 .0 _ p), g), λ ws m′ h. rw e (add-more Plus h)))
+      (choose (Fine (adds d ∷ s) m k p) k 45 (λ e g. (((λ m p. g .0 .0 _ p), g), λ ws m′ h. rw e (add-more Minus h)))
+      (pass (adds d ∷ s) s m m k p (step M act s m k p) (λ g. g .1) (λ ws m′ h. add-none h) (fine s m k p)))
+  fine (rel d ∷ s) m k p =
+      choose F k 61 (λ e g. (after _ g, λ ws m′ h. rw e (compare equal h)))
+      (choose F k 133 (λ e g. (after _ g, λ ws m′ h. rw e (compare unequal h)))
+      (choose F k 60 (λ e g. (after _ g, λ ws m′ h. rw e (compare less h)))
+      (choose F k 134 (λ e g. (after _ g, λ ws m′ h. rw e (compare at-most h)))
+      (choose F k 62 (λ e g. (after _ g, λ ws m′ h. rw e (compare more h)))
+      (choose F k 135 (λ e g. (after _ g, λ ws m′ h. rw e (compare at-least h))) tt)))))
+    where
+      F : Next M → Type 0
+      F = Fine (rel d ∷ s) m k p
+
+      after : (a : Act) → Arith s × Good s → Good (sum d (doing a ∷ s))
+      after a g = good-sum d (doing a ∷ s) (acted a s (g .0)) (g .1)
+  fine (want x ∷ s) m k p = choose (Fine (want x ∷ s) m k p) k x (λ e g. (g .1, λ ws m′ h. rw (e, plain-word x p (g .0)) (token h))) tt
+  fine (name-of r ∷ s) m k p = choose (Fine (name-of r ∷ s) m k p) k 1 (λ e g. (g, λ ws m′ h. rw e (named p h))) tt
+  fine (names-of r ∷ s) m k p =
+      choose (Fine (names-of r ∷ s) m k p) k 1 (λ e g. (g, λ ws m′ h. rw e (name-more p h)))
+      (pass (names-of r ∷ s) s m m k p (step M act s m k p) (λ g. g .1) (λ ws m′ h. name-none h) (fine s m k p))
+  fine (ref-event n ∷ s) m k p = choose (Fine (ref-event n ∷ s) m k p) k 1 (λ e g. ((refl, ((λ m p. refl), (λ m p. refl), (refl, (refl, g)))), λ ws m′ h. rw e (event p h))) tt
+  fine (ref-index n x ∷ s) m k p =
+      choose (Fine (ref-index n x ∷ s) m k p) k 2 (λ e g. ((refl, (refl, g)), λ ws m′ h. rw e (scaled p h)))
+      (choose (Fine (ref-index n x ∷ s) m k p) k 5 (λ e g. (g, λ ws m′ h. rw e (unscaled h))) tt)
+  fine (ref-shift n x f ∷ s) m k p =
+      choose (Fine (ref-shift n x f ∷ s) m k p) k 43 (λ e g. (g .2, λ ws m′ h. rw e (shifted Plus h)))
+      (choose (Fine (ref-shift n x f ∷ s) m k p) k 45 (λ e g. (g .2, λ ws m′ h. rw e (shifted Minus h)))
+      (pass (ref-shift n x f ∷ s) s m (act (out (ref n x f Unshifted)) m) k p (step M act s (act (out (ref n x f Unshifted)) m) k p) (λ g. g .2) (λ ws m′ h. shift-none h) (fine s (act (out (ref n x f Unshifted)) m) k p)))
+  fine (ref-by n x f q ∷ s) m k p = choose (Fine (ref-by n x f q ∷ s) m k p) k 2 (λ e g. (g, λ ws m′ h. rw e (by-number p h))) tt
+  fine (doing a ∷ s) m k p = pass (doing a ∷ s) s m (act a m) k p (step M act s (act a m) k p) (λ g. g) (λ ws m′ h. does h) (fine s (act a m) k p)
+
+  -- ---- completeness of a step: what the grammar allows, the machine takes
+  abbrev pub Takes : Next M → List Word → M → Type 0
+  Takes stuck ws m′ = ⊥
+  Takes (on s m) ws m′ = Gen s m ws m′
+
+  abbrev taking : List Word → M → Next M → Type 0
+  taking ws m′ x = Takes x ws m′
+
+  over : (P : Next M → Type 0) → (P stuck → ⊥) → (k j : ℕ) (a : Next M) {b : Next M} → (k ≡ j → b ≡ stuck) → P b → P (cond (eqb k j) a b)
+  over P no-stuck k j a f t = choose P k j (λ e. absurd (no-stuck (subst P (f e) t))) t
+
+  -- what is clear of a kind is stuck on a token of that kind
+  clear : (k j : ℕ) (s : List Sym) (m : M) (p : Place) → Clear j s → k ≡ j → step M act s m k p ≡ stuck
+  clear k j s m p c e = rw e (c m p)
+
+  pub complete : {s : List Sym} {m m′ : M} {w : Word} {ws : List Word} → Gen s m (w ∷ ws) m′ → Good s → (k : ℕ) (p : Place) → wordOf k p ≡ w → Takes (step M act s m k p) ws m′
+  unfolding step startFactor
+  complete (token g) gd k p e = rw (matches k p e, eq-eqb _ _ refl) g
+  complete (does g) gd k p e = complete g gd k p e
+  complete (not g) gd k p e = rw (matches k p e) g
+  complete (group g) gd k p e = rw (matches k p e) g
+  complete {m′ = m′} {ws = ws} (relation {d} {s} g) gd k p e =
+      over (taking ws m′) (λ x. x) k 33 _ (λ e. rw e) (over (taking ws m′) (λ x. x) k 123 _ (λ e. rw e) (complete g (good-sum d (rel d ∷ s) ((λ m p. refl), (λ m p. refl), (λ m p. refl)) gd) k p e))
+  complete (compare equal g) gd k p e = rw (matches k p e) g
+  complete (compare unequal g) gd k p e = rw (matches k p e) g
+  complete (compare less g) gd k p e = rw (matches k p e) g
+  complete (compare at-most g) gd k p e = rw (matches k p e) g
+  complete (compare more g) gd k p e = rw (matches k p e) g
+  complete (compare at-least g) gd k p e = rw (matches k p e) g
+  complete (and-more g) gd k p e = rw (matches k p e) g
+  complete {m = m} {m′ = m′} {ws = ws} (and-none {s = s} g) gd k p e = over (taking ws m′) (λ x. x) k 132 _ (clear k 132 s m p (gd .1)) (complete g (gd .2) k p e)
+  complete (or-more g) gd k p e = rw (matches k p e) g
+  complete {m = m} {m′ = m′} {ws = ws} (or-none {s = s} g) gd k p e = over (taking ws m′) (λ x. x) k 131 _ (clear k 131 s m p (gd .2)) (complete g (gd .3) k p e)
+  complete (implies g) gd k p e = rw (matches k p e) g
+  complete {m = m} {m′ = m′} {ws = ws} (implies-none {s = s} g) gd k p e = over (taking ws m′) (λ x. x) k 130 _ (clear k 130 s m p (gd .3)) (complete g (gd .4) k p e)
+  complete (add-more Plus g) gd k p e = rw (matches k p e) g
+  complete (add-more Minus g) gd k p e = rw (matches k p e) g
+  complete {m = m} {m′ = m′} {ws = ws} (add-none {s = s} g) gd k p e =
+      over (taking ws m′) (λ x. x) k 43 _ (λ q. rw q (gd .0 .1 m p)) (over (taking ws m′) (λ x. x) k 45 _ (clear k 45 s m p (gd .0 .2)) (complete g (gd .1) k p e))
+  complete (mul-more g) gd k p e = rw (matches k p e) g
+  complete {m = m} {m′ = m′} {ws = ws} (mul-none {s = s} g) gd k p e = over (taking ws m′) (λ x. x) k 42 _ (clear k 42 s m p (gd .0)) (complete g (gd .1) k p e)
+  complete (literal q g) gd k p e = let (a, b) = matches k p e in rw (a, b) g
+  complete (var g) gd k p e = rw (matches k p e) g
+  complete (parens g) gd k p e = rw (matches k p e) g
+  complete (absolute g) gd k p e = rw (matches k p e) g
+  complete (reference q g) gd k p e = let (a, b) = matches k p e in rw (a, b) g
+  complete (event q g) gd k p e = let (a, b) = matches k p e in rw (a, b) g
+  complete (scaled q g) gd k p e = let (a, b) = matches k p e in rw (a, b) g
+  complete (unscaled g) gd k p e = rw (matches k p e) g
+  complete (shifted Plus g) gd k p e = rw (matches k p e) g
+  complete (shifted Minus g) gd k p e = rw (matches k p e) g
+  complete {m = m} {m′ = m′} {ws = ws} (shift-none {s = s} g) gd k p e =
+      over (taking ws m′) (λ x. x) k 43 _ (λ q. rw q (gd .0 _ p)) (over (taking ws m′) (λ x. x) k 45 _ (clear k 45 s _ p (gd .1)) (complete g (gd .2) k p e))
+  complete (by-number q g) gd k p e = let (a, b) = matches k p e in rw (a, b) g
+  complete (named q g) gd k p e = let (a, b) = matches k p e in rw (a, b) g
+  complete (name-more q g) gd k p e = let (a, b) = matches k p e in rw (a, b) g
+  complete {m = m} {m′ = m′} {ws = ws} (name-none {s = s} g) gd k p e = over (taking ws m′) (λ x. x) k 1 _ (clear k 1 s m p (gd .0)) (complete g (gd .1) k p e)
+
+  pub good-start : Good start
+  unfolding step startFactor
+  good-start =
+      (refl, ((λ m p. refl), (refl, (refl, ((λ m p. refl), (refl, good-cond 0 [] ((λ m p. refl), (λ m p. refl), (λ m p. refl)) (λ m p. refl) (λ m p. refl) (λ m p. refl) tt))))))
+
+  pub good-cond-only : (d : ℕ) → Good (condition d [])
+  unfolding step startFactor
+  good-cond-only d = good-cond d [] ((λ m p. refl), (λ m p. refl), (λ m p. refl)) (λ m p. refl) (λ m p. refl) (λ m p. refl) tt

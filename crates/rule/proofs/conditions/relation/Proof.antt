@@ -1,0 +1,47 @@
+use borrow.Author.Tests.{lt-ltb, le-ltb, le-leb, lt-leb, eq-eqb, ne-eqb}
+use mathlib.Core.Path.{_≡_, refl, sym, ap, _∙_}
+use native.Mathlib.Omega.{arith}
+use mathlib.Core.List.{[], _∷_}
+use Prim.Native.Nat.{ℕ, _<_, _+_, _*_, _-_}
+use lib.ListN.{length}
+use denote.Ref.{now}
+use Rattle.rule.specs.Machine.{step, finish, startFactor, out, want, doing}
+use Rattle.rule.specs.Machine as machine
+use Rattle.rule.specs.Measure.{plain}
+use Rattle.rule.proofs.Laws.{then, stop, then-does, idle, as-is, least, same, fail, take, beyond, inside}
+use Rattle.rule.specs.Does.{relByte}
+use Rattle.rule.proofs.Marked.{rel-some, rel-stuck, rel-step}
+use borrow.Author.Needs.{needs}
+use Rattle.rule.proofs.conditions.relation.Statement.{statement}
+use Rattle.rule.proofs.conditions.relation.Tie as tie
+use Rattle.rule.proofs.sums.sum.Reads as sum-reads
+use Rattle.rule.proofs.conditions.compare.Reads as compare-reads
+use Rattle.rule.proofs.conditions.relation.Reads as reads
+use Rattle.rule.proofs.conditions.relation.Lts as lts
+
+sum-requires : tie.Need-sum-requires
+sum-requires c κs = c .before .before .pre
+
+enum-known-q : tie.Need-enum-known-q
+enum-known-q c = search needs
+
+enum-known-a : tie.Need-enum-known-a
+enum-known-a c = search needs
+
+compare-requires : tie.Need-compare-requires
+compare-requires c κs = let d = as-is (c .before .before .before .before .sum .ensures) (c .before .before .a .given .1) in let w = d .within in w .1
+
+returns : tie.Need-returns
+returns c = stop (λ s. machine.rel (c .before .before .before .before .before .before .args .d) ∷ s) _ (as-is (c .before .before .before .sum .ensures) (c .before .q .given .1))
+
+returns-2 : tie.Need-returns-2
+returns-2 c = let d = as-is (c .before .before .before .before .before .sum .ensures) (c .before .before .before .a .given .1) in let w = d .within in then d (c .compare .ensures) (omega arith)
+
+pub relation-spec : {M : Type 1} → statement M
+relation-spec = tie.close (tie.spec
+    sum-requires
+    enum-known-q
+    enum-known-a
+    compare-requires
+    returns
+    returns-2)

@@ -1,0 +1,25 @@
+use denote.Ref.{now}
+use Rattle.rule.proofs.Tables.{position-among, few, one-event, one-note}
+use native.Mathlib.Omega.{arith}
+use borrow.Author.Needs.{needs}
+use Rattle.rule.proofs.lookup.declared.Statement.{statement}
+use Rattle.rule.proofs.lookup.declared.Tie as tie
+use Rattle.rule.proofs.lookup.declared.Reads as reads
+use Rattle.rule.proofs.lookup.declared.Lts as lts
+use Rattle.rule.proofs.lookup.held.Reads as held-reads
+use Rattle.rule.proofs.lookup.lookup.Reads as lookup-reads
+
+-- src/lookup.rt:78:5
+lookup-requires : tie.Need-lookup-requires
+lookup-requires c κs = search needs
+
+-- src/lookup.rt:78:33
+held-requires : tie.Need-held-requires
+held-requires c κs = search needs
+
+-- src/lookup.rt:75:1
+returns : tie.Need-returns
+returns c = λ b. rw (c .before .lookup .ensures b, c .held .ensures (now (c .before .before .args .names)) b) (position-among _ _)
+
+pub declared-spec : {M : Type 1} → statement M
+declared-spec = tie.close (tie.spec lookup-requires held-requires returns)

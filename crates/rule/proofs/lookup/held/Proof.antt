@@ -1,0 +1,39 @@
+use Rattle.rule.specs.Memory.{mem, acts, put, codeAt, valueAt, negated}
+use Rattle.rule.proofs.Tables.{length-listed, position-among, find-start, find-end, find-hit, find-miss, listed-other, listed-more}
+use native.Mathlib.Omega.{arith}
+use borrow.Author.Needs.{needs}
+use Rattle.rule.proofs.lookup.held.Statement.{statement}
+use Rattle.rule.proofs.lookup.held.Tie as tie
+use Rattle.rule.proofs.lookup.held.Reads as reads
+use Rattle.rule.proofs.lookup.held.Lts as lts
+use Rattle.rule.proofs.lookup.least.Reads as least-reads
+
+-- src/lookup.rt:59:24
+enum-told : tie.Need-enum-told
+enum-told c = search needs
+
+-- src/lookup.rt:59:24
+least-requires : tie.Need-least-requires
+least-requires c κs = search needs
+
+-- src/lookup.rt:60:23
+enum-told-2 : tie.Need-enum-told-2
+enum-told-2 c = search needs
+
+-- src/lookup.rt:60:23
+least-requires-2 : tie.Need-least-requires-2
+least-requires-2 c κs = search needs
+
+-- src/lookup.rt:55:1
+returns : tie.Need-returns
+unfolding mem
+returns c = λ tb b. rw (c .before .enum-told .given .1, length-listed) (c .least .ensures)
+
+-- src/lookup.rt:55:1
+returns-2 : tie.Need-returns-2
+unfolding mem
+returns-2 c = λ tb b. rw (c .before .enum-told2 .given .1, length-listed) (c .least2 .ensures)
+
+pub held-spec : {M : Type 1} → statement M
+held-spec =
+    tie.close (tie.spec enum-told least-requires enum-told-2 least-requires-2 returns returns-2)

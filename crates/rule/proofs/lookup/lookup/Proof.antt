@@ -1,0 +1,56 @@
+use Rattle.rule.specs.Memory.{mem, acts, table, codeAt}
+use native.Mathlib.Omega.{arith}
+use borrow.Author.Needs.{needs}
+use Rattle.rule.proofs.lookup.lookup.Statement.{statement}
+use Rattle.rule.proofs.lookup.lookup.Tie as tie
+use Rattle.rule.proofs.lookup.lookup.Reads as reads
+use Rattle.rule.proofs.lookup.lookup.Lts as lts
+use Rattle.rule.proofs.lookup.find.Reads as find-reads
+use Rattle.rule.proofs.lookup.least.Reads as least-reads
+
+-- src/lookup.rt:69:39
+enum-told : tie.Need-enum-told
+enum-told c = search needs
+
+-- src/lookup.rt:69:39
+least-requires : tie.Need-least-requires
+least-requires c κs = search needs
+
+-- src/lookup.rt:69:24
+find-requires : tie.Need-find-requires
+find-requires c κs = search needs
+
+-- src/lookup.rt:70:43
+enum-told-2 : tie.Need-enum-told-2
+enum-told-2 c = search needs
+
+-- src/lookup.rt:70:43
+least-requires-2 : tie.Need-least-requires-2
+least-requires-2 c κs = search needs
+
+-- src/lookup.rt:70:23
+find-requires-2 : tie.Need-find-requires-2
+find-requires-2 c κs = search needs
+
+-- src/lookup.rt:65:1
+returns : tie.Need-returns
+unfolding mem
+returns c = λ b. rw (c .before .before .enum-told .given .1, ← c .before .least .ensures) (c .find .ensures)
+
+-- src/lookup.rt:65:1
+returns-2 : tie.Need-returns-2
+unfolding mem
+returns-2 c = λ b. rw (c .before .before .enum-told2 .given .1, ← c .before .least2 .ensures) (c .find2 .ensures)
+
+pub lookup-spec : {M : Type 1} → statement M
+lookup-spec =
+    tie.close
+    (tie.spec
+    enum-told
+    least-requires
+    find-requires
+    enum-told-2
+    least-requires-2
+    find-requires-2
+    returns
+    returns-2)

@@ -1,0 +1,20 @@
+use Rattle.rule.specs.Memory.{mem, acts, put, codeAt, valueAt, negated}
+use native.Mathlib.Omega.{arith}
+use borrow.Author.Needs.{needs}
+use Rattle.rule.proofs.memory.blamed.Statement.{statement}
+use Rattle.rule.proofs.memory.blamed.Tie as tie
+use Rattle.rule.proofs.memory.blamed.Reads as reads
+use Rattle.rule.proofs.memory.blamed.Lts as lts
+use Rattle.rule.proofs.memory.first.Reads as first-reads
+
+-- src/memory.rt:89:15
+first-requires : tie.Need-first-requires
+first-requires c κs = search needs
+
+-- src/memory.rt:81:1
+returns : tie.Need-returns
+unfolding mem
+returns c = λ tb b. rw (c .first .ensures)
+
+pub blamed-spec : {M : Type 1} → statement M
+blamed-spec = tie.close (tie.spec first-requires returns)

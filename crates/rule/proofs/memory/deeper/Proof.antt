@@ -1,0 +1,25 @@
+use borrow.Author.Tests.{lt-ltb, le-ltb, le-leb, lt-leb, eq-eqb, ne-eqb}
+use Rattle.rule.specs.Machine.{deeper}
+use native.Mathlib.Omega.{arith}
+use borrow.Author.Needs.{needs}
+use Rattle.rule.proofs.memory.deeper.Statement.{statement}
+use Rattle.rule.proofs.memory.deeper.Tie as tie
+use Rattle.rule.proofs.memory.deeper.Reads as reads
+use Rattle.rule.proofs.memory.deeper.Lts as lts
+
+-- src/memory.rt:52:21
+add-result : tie.Need-add-result
+add-result c = search needs
+
+-- src/memory.rt:49:1
+returns : tie.Need-returns
+unfolding deeper
+returns c = rw (le-leb _ _ (c .if1 .taken))
+
+-- src/memory.rt:49:1
+returns-2 : tie.Need-returns-2
+unfolding deeper
+returns-2 c = rw (lt-leb _ _ (c .if1 .left))
+
+pub deeper-spec : {M : Type 1} → statement M
+deeper-spec = tie.close (tie.spec add-result returns returns-2)

@@ -1,0 +1,21 @@
+use borrow.Author.Tests.{lt-ltb, le-ltb, le-leb, lt-leb, eq-eqb, ne-eqb}
+use Rattle.rule.specs.Memory.{mem, acts, put, codeAt, valueAt, negated}
+use borrow.Author.Needs.{needs}
+use native.Mathlib.Omega.{arith}
+use Rattle.rule.proofs.memory.entered.Statement.{statement}
+use Rattle.rule.proofs.memory.entered.Tie as tie
+use Rattle.rule.proofs.memory.entered.Reads as reads
+use Rattle.rule.proofs.memory.entered.Lts as lts
+
+-- src/memory.rt:60:9
+returns : tie.Need-returns
+unfolding mem acts
+returns c = λ text tb b. rw (le-ltb 16 _ (c .if1 .taken))
+
+-- src/memory.rt:56:1
+returns-2 : tie.Need-returns-2
+unfolding mem acts
+returns-2 c = λ text tb b. rw (lt-ltb 16 _ (c .if1 .left))
+
+pub entered-spec : {M : Type 1} → statement M
+entered-spec = tie.close (tie.spec returns returns-2)

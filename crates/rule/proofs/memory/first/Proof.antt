@@ -1,0 +1,22 @@
+use borrow.Author.Tests.{lt-ltb, le-ltb, le-leb, lt-leb, eq-eqb, ne-eqb}
+use native.Mathlib.Omega.{arith}
+use borrow.Author.Needs.{needs}
+use Rattle.rule.proofs.memory.first.Statement.{statement}
+use Rattle.rule.proofs.memory.first.Tie as tie
+use Rattle.rule.proofs.memory.first.Reads as reads
+use Rattle.rule.proofs.memory.first.Lts as lts
+
+-- src/memory.rt:77:17
+add-result : tie.Need-add-result
+add-result c = search needs
+
+-- src/memory.rt:73:1
+returns : tie.Need-returns
+returns c = rw (eq-eqb _ _ (c .before .if1 .taken))
+
+-- src/memory.rt:73:1
+returns-2 : tie.Need-returns-2
+returns-2 c = rw (ne-eqb _ _ (c .if1 .left))
+
+pub first-spec : {M : Type 1} → statement M
+first-spec = tie.close (tie.spec add-result returns returns-2)

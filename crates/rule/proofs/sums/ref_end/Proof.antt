@@ -1,0 +1,46 @@
+use borrow.Author.Tests.{lt-ltb, le-ltb, le-leb, lt-leb, eq-eqb, ne-eqb}
+use mathlib.Core.Path.{_≡_, refl, sym, ap, subst, _∙_}
+use mathlib.Core.List.{[], _∷_}
+use denote.Ref.{now}
+use Rattle.rule.specs.Machine.{step, finish, out, want}
+use Rattle.rule.specs.Machine as machine
+use Rattle.rule.specs.Measure.{ref}
+use Rattle.rule.specs.declared.parts.Scale.the-variants.{Once, Times}
+use Rattle.rule.specs.declared.parts.Shift.the-variants.{Unshifted, By}
+use Rattle.rule.proofs.Laws.{then, stop, then-does, idle, as-is, least, same, fail, take, beyond, inside}
+use native.Mathlib.Omega.{arith}
+use borrow.Author.Needs.{needs}
+use Rattle.rule.proofs.sums.ref_end.Statement.{statement}
+use Rattle.rule.proofs.sums.ref_end.Tie as tie
+use Rattle.rule.proofs.sums.ref_end.Reads as reads
+use Rattle.rule.proofs.sums.ref_end.Lts as lts
+use Rattle.rule.proofs.sums.expect.Reads as expect-reads
+
+-- src/sums.rt:119:11
+expect-requires : tie.Need-expect-requires
+expect-requires c κs = search needs
+
+-- src/sums.rt:120:18
+enum-known-q : tie.Need-enum-known-q
+enum-known-q c = search needs
+
+-- src/sums.rt:121:18
+enum-known-a : tie.Need-enum-known-a
+enum-known-a c = search needs
+
+-- src/sums.rt:121:27
+expect-requires-2 : tie.Need-expect-requires-2
+expect-requires-2 c κs = let d = as-is (c .before .before .before .expect .ensures [] []) (c .before .a .given .1) in let w = d .within in (omega arith, omega arith)
+
+-- src/sums.rt:115:1
+returns : tie.Need-returns
+returns c = λ tb b. stop (λ s. want 41 ∷ s) _ (as-is (c .before .before .before .expect .ensures tb b) (c .before .q .given .1))
+
+-- src/sums.rt:115:1
+returns-2 : tie.Need-returns-2
+returns-2 c = λ tb b. let d = as-is (c .before .before .before .before .expect .ensures tb b) (c .before .before .a .given .1) in let w = d .within in then d (c .expect2 .ensures tb b) (omega arith)
+
+pub ref-end-spec : {M : Type 1} → statement M
+ref-end-spec =
+    tie.close
+    (tie.spec expect-requires enum-known-q enum-known-a expect-requires-2 returns returns-2)

@@ -1,0 +1,47 @@
+use borrow.Author.Tests.{lt-ltb, le-ltb, le-leb, lt-leb, eq-eqb, ne-eqb}
+use mathlib.Core.Path.{_≡_, refl, sym, ap, subst, _∙_}
+use mathlib.Core.List.{[], _∷_}
+use denote.Ref.{now}
+use Rattle.rule.specs.Machine.{step, finish, out, want}
+use Rattle.rule.specs.Machine as machine
+use Rattle.rule.specs.Measure.{ref}
+use Rattle.rule.specs.declared.parts.Scale.the-variants.{Once, Times}
+use Rattle.rule.specs.declared.parts.Shift.the-variants.{Unshifted, By}
+use Rattle.rule.proofs.Laws.{then, stop, then-does, idle, as-is, least, same, fail, take, beyond, inside}
+use native.Mathlib.Omega.{arith}
+use borrow.Author.Needs.{needs}
+use Rattle.rule.proofs.sums.reference.Statement.{statement}
+use Rattle.rule.proofs.sums.reference.Tie as tie
+use Rattle.rule.proofs.sums.reference.Reads as reads
+use Rattle.rule.proofs.sums.reference.Lts as lts
+use Rattle.rule.proofs.sums.expect.Reads as expect-reads
+use Rattle.rule.proofs.sums.ref_event.Reads as ref-event-reads
+
+-- src/sums.rt:161:11
+expect-requires : tie.Need-expect-requires
+expect-requires c κs = search needs
+
+-- src/sums.rt:162:18
+enum-known-q : tie.Need-enum-known-q
+enum-known-q c = search needs
+
+-- src/sums.rt:163:18
+enum-known-a : tie.Need-enum-known-a
+enum-known-a c = search needs
+
+-- src/sums.rt:163:27
+ref-event-requires : tie.Need-ref-event-requires
+ref-event-requires c κs = let d = as-is (c .before .before .before .before .expect .ensures (now (c .before .before .before .before .before .before .args .names)) (now (c .before .before .before .before .before .before .args .buf))) (c .before .before .a .given .1) in let w = d .within in (w .1, c .before .before .before .before .before .before .pre .1)
+
+-- src/sums.rt:157:1
+returns : tie.Need-returns
+returns c = stop (λ s. machine.ref-event (c .before .before .before .before .before .args .n) ∷ s) _ (as-is (c .before .before .before .expect .ensures (now (c .before .before .before .before .before .args .names)) (now (c .before .before .before .before .before .args .buf))) (c .before .q .given .1))
+
+-- src/sums.rt:157:1
+returns-2 : tie.Need-returns-2
+returns-2 c = let d = as-is (c .before .before .before .before .before .expect .ensures (now (c .before .before .before .before .before .before .before .args .names)) (now (c .before .before .before .before .before .before .before .args .buf))) (c .before .before .before .a .given .1) in let w = d .within in then d (c .ref-event .ensures) (omega arith)
+
+pub reference-spec : {M : Type 1} → statement M
+reference-spec =
+    tie.close
+    (tie.spec expect-requires enum-known-q enum-known-a ref-event-requires returns returns-2)

@@ -1,0 +1,63 @@
+-- What a reader of a part does: it takes the part off the machine's stack. Assumes nothing: definitions.
+use mathlib.Core.Path.{_≡_}
+use mathlib.Core.List.{List}
+use Prim.Native.Nat.{ℕ, _≤_, _<_}
+use mathlib.Core.Bool.{cond}
+use lib.Dec.{eqb}
+use lib.ListN.{length}
+use Rattle.rule.specs.Token.{unequalKind, atMostKind, atLeastKind, tokensFrom}
+use Rattle.rule.specs.Grammar.{plusMark, minusMark, equalMark, lessMark, moreMark}
+use Rattle.rule.specs.Machine.{Sym, Answer, refused, run}
+use Rattle.rule.specs.Memory.{Mem, acts, mem}
+use Rattle.rule.specs.declared.parts.Place.{Place}
+use Rattle.rule.specs.declared.parts.Scale.{Scale}
+use Rattle.rule.specs.declared.parts.Scale.the-variants.{Once, Times}
+use Rattle.rule.specs.declared.parts.Shift.{Shift}
+use Rattle.rule.specs.declared.parts.Shift.the-variants.{Unshifted, By}
+use Rattle.rule.specs.declared.memory.Step.{Step}
+use Rattle.rule.specs.declared.memory.Step.the-variants.{Go, No}
+
+-- the machine's answer from the stack s, at the place `at` of the text
+unfoldable pub runFrom : List ℕ → List Sym → Mem → ℕ → Answer Mem
+runFrom text s m at = run Mem (acts text) (length text) s m (tokensFrom text at)
+
+-- the machine's answer from the stack s, after a reader that answered r and left the names tb and the buffer b
+unfoldable pub onward : List ℕ → List Sym → Step → List ℕ → List ℕ → Answer Mem
+onward text s (Go a t) tb b = runFrom text s (mem t tb b) a
+onward text s (No p) tb b = refused p
+
+-- a reader that goes on does so from lo at least, within n
+abbrev pub Within : ℕ → ℕ → Step → Type 0
+Within lo n (Go a t) = (lo ≤ a) × (a ≤ n)
+Within lo n (No p) = Unit
+
+-- from `at`, with the memory m, a reader of the part `top` answered r and left tb and b
+pub record Does (top : List Sym → List Sym) (text : List ℕ) (at lo : ℕ) (m : Mem) (r : Step) (tb b : List ℕ) : Type 0 where
+  pub runs : (s : List Sym) → runFrom text (top s) m at ≡ onward text s r tb b
+  pub within : Within lo (length text) r
+
+-- a place of a token: it has a byte at least, and lies within the text
+pub record Inside (n : ℕ) (p : Place) : Type 0 where
+  pub some : p .start < p .end
+  pub ends : p .end ≤ n
+
+abbrev pub InsideScale : ℕ → Scale → Type 0
+InsideScale n Once = Unit
+InsideScale n (Times p) = Inside n p
+
+abbrev pub InsideShift : ℕ → Shift → Type 0
+InsideShift n Unshifted = Unit
+InsideShift n (By g p) = Inside n p
+
+-- the kind of frame that a token stands for, 0 for none: of "+" and "-", and of the relations
+unfoldable pub signByte : ℕ → ℕ
+signByte k = cond (eqb k plusMark) 0x11 (cond (eqb k minusMark) 0x12 0)
+
+unfoldable pub relByte : ℕ → ℕ
+relByte k =
+    cond (eqb k equalMark) 0x21
+    (cond (eqb k unequalKind) 0x22
+    (cond (eqb k lessMark) 0x23
+    (cond (eqb k atMostKind) 0x24
+    (cond (eqb k moreMark) 0x25
+    (cond (eqb k atLeastKind) 0x26 0)))))

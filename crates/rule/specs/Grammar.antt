@@ -1,0 +1,210 @@
+-- The grammar of rules, from 'From rule text to frames' of document 01: one type for each of its lines, in its order, every
+-- repeat grouped to the left; what a tree spells; and the place of what is outside. Assumes nothing: definitions.
+use Prim.Native.Nat.{ℕ}
+use mathlib.Core.Path.{_≡_}
+use mathlib.Core.Bool.{cond}
+use mathlib.Core.List.{List, [], _∷_, _++_}
+use lib.Dec.{eqb}
+use Rattle.rule.specs.Token.{nameKind, numberKind, eventsKind, notesKind, indexKind, absKind, arrowKind, barsKind, ampersandsKind, unequalKind, atMostKind, atLeastKind}
+use Rattle.rule.specs.declared.Token.{Token}
+use Rattle.rule.specs.declared.parts.Place.{Place}
+use Rattle.rule.specs.declared.parts.Sign.{Sign}
+use Rattle.rule.specs.declared.parts.Sign.the-variants.{Plus, Minus}
+use Rattle.rule.specs.declared.parts.Scale.{Scale}
+use Rattle.rule.specs.declared.parts.Scale.the-variants.{Once, Times}
+use Rattle.rule.specs.declared.parts.Shift.{Shift}
+use Rattle.rule.specs.declared.parts.Shift.the-variants.{Unshifted, By}
+
+-- ---- the quoted marks of one byte, which is their kind: ; ! { } ( ) [ ] * + - = < >
+abbrev pub semicolon : ℕ
+semicolon = 59
+
+abbrev pub bang : ℕ
+bang = 33
+
+abbrev pub openBrace : ℕ
+openBrace = 123
+
+abbrev pub closeBrace : ℕ
+closeBrace = 125
+
+abbrev pub openParen : ℕ
+openParen = 40
+
+abbrev pub closeParen : ℕ
+closeParen = 41
+
+abbrev pub openBracket : ℕ
+openBracket = 91
+
+abbrev pub closeBracket : ℕ
+closeBracket = 93
+
+abbrev pub star : ℕ
+star = 42
+
+abbrev pub plusMark : ℕ
+plusMark = 43
+
+abbrev pub minusMark : ℕ
+minusMark = 45
+
+abbrev pub equalMark : ℕ
+equalMark = 61
+
+abbrev pub lessMark : ℕ
+lessMark = 60
+
+abbrev pub moreMark : ℕ
+moreMark = 62
+
+-- ---- trees
+-- rel: `= != < <= > >=`
+pub data Rel : Type 0 where
+  equal unequal less at-most more at-least : Rel
+
+-- index: [number "*"] "i" [("+" or "-") number]
+pub data Index : Type 0 where
+  index : Scale → Shift → Index
+
+mutual
+  -- cond: disj ["->" cond]
+  pub data Cond : Type 0 where
+    a-disj : Disj → Cond
+    implies : Disj → Cond → Cond
+
+  -- disj: conj {"||" conj}
+  pub data Disj : Type 0 where
+    a-conj : Conj → Disj
+    or : Disj → Conj → Disj
+
+  -- conj: unit {"&&" unit}
+  pub data Conj : Type 0 where
+    a-unit : CUnit → Conj
+    and : Conj → CUnit → Conj
+
+  -- unit: "!" unit, or "{" cond "}", or sum rel sum
+  pub data CUnit : Type 0 where
+    not : CUnit → CUnit
+    group : Cond → CUnit
+    relation : Sum → Rel → Sum → CUnit
+
+  -- sum: prod {("+" or "-") prod}
+  pub data Sum : Type 0 where
+    a-prod : Prod → Sum
+    add : Sum → Sign → Prod → Sum
+
+  -- prod: factor {"*" factor}
+  pub data Prod : Type 0 where
+    a-factor : Factor → Prod
+    multiply : Prod → Factor → Prod
+
+  -- factor: number, "i", "(" sum ")", "abs" "(" sum ")", or reference: name "(" name "[" index "]" ")", the note first, then the event
+  pub data Factor : Type 0 where
+    literal : Place → Factor
+    var : Factor
+    parens : Sum → Factor
+    absolute : Sum → Factor
+    reference : Place → Place → Index → Factor
+
+-- rule: "events" name {name} ";" "notes" name {name} ";" cond
+pub data Rule : Type 0 where
+  rule : Place → List Place → Place → List Place → Cond → Rule
+
+-- ---- what a tree spells
+-- a mark or a reserved word, by its kind; a name or a number, by its place
+pub data Word : Type 0 where
+  mark : ℕ → Word
+  name number : Place → Word
+
+abbrev pub relMark : Rel → ℕ
+relMark equal = equalMark
+relMark unequal = unequalKind
+relMark less = lessMark
+relMark at-most = atMostKind
+relMark more = moreMark
+relMark at-least = atLeastKind
+
+abbrev pub signMark : Sign → ℕ
+signMark Plus = plusMark
+signMark Minus = minusMark
+
+-- each function: the words of the tree, and then r
+abbrev pub spellScale : Scale → List Word → List Word
+spellScale Once r = r
+spellScale (Times p) r = number p ∷ mark star ∷ r
+
+abbrev pub spellShift : Shift → List Word → List Word
+spellShift Unshifted r = r
+spellShift (By g p) r = mark (signMark g) ∷ number p ∷ r
+
+abbrev pub spellIndex : Index → List Word → List Word
+spellIndex (index f o) r = spellScale f (mark indexKind ∷ spellShift o r)
+
+abbrev mutual
+  pub spellCond : Cond → List Word → List Word
+  spellCond (a-disj x) r = spellDisj x r
+  spellCond (implies x y) r = spellDisj x (mark arrowKind ∷ spellCond y r)
+
+  pub spellDisj : Disj → List Word → List Word
+  spellDisj (a-conj x) r = spellConj x r
+  spellDisj (or x y) r = spellDisj x (mark barsKind ∷ spellConj y r)
+
+  pub spellConj : Conj → List Word → List Word
+  spellConj (a-unit x) r = spellUnit x r
+  spellConj (and x y) r = spellConj x (mark ampersandsKind ∷ spellUnit y r)
+
+  pub spellUnit : CUnit → List Word → List Word
+  spellUnit (not x) r = mark bang ∷ spellUnit x r
+  spellUnit (group x) r = mark openBrace ∷ spellCond x (mark closeBrace ∷ r)
+  spellUnit (relation x c y) r = spellSum x (mark (relMark c) ∷ spellSum y r)
+
+  pub spellSum : Sum → List Word → List Word
+  spellSum (a-prod x) r = spellProd x r
+  spellSum (add x g y) r = spellSum x (mark (signMark g) ∷ spellProd y r)
+
+  pub spellProd : Prod → List Word → List Word
+  spellProd (a-factor x) r = spellFactor x r
+  spellProd (multiply x y) r = spellProd x (mark star ∷ spellFactor y r)
+
+  pub spellFactor : Factor → List Word → List Word
+  spellFactor (literal p) r = number p ∷ r
+  spellFactor var r = mark indexKind ∷ r
+  spellFactor (parens x) r = mark openParen ∷ spellSum x (mark closeParen ∷ r)
+  spellFactor (absolute x) r = mark absKind ∷ mark openParen ∷ spellSum x (mark closeParen ∷ r)
+  spellFactor (reference n e x) r = name n ∷ mark openParen ∷ name e ∷ mark openBracket ∷ spellIndex x (mark closeBracket ∷ mark closeParen ∷ r)
+
+abbrev pub spellNames : List Place → List Word → List Word
+spellNames [] r = r
+spellNames (p ∷ ps) r = name p ∷ spellNames ps r
+
+abbrev pub spellRule : Rule → List Word → List Word
+spellRule (rule e es n ns c) r =
+    mark eventsKind ∷ name e ∷ spellNames es (mark semicolon ∷ mark notesKind ∷ name n ∷ spellNames ns (mark semicolon ∷ spellCond c r))
+
+abbrev pub yield : Rule → List Word
+yield x = spellRule x []
+
+-- ---- what tokens spell
+abbrev pub place : Token → Place
+place t = record { start = t .start; end = t .end }
+
+abbrev pub wordOf : ℕ → Place → Word
+wordOf k p = cond (eqb k nameKind) (name p) (cond (eqb k numberKind) (number p) (mark k))
+
+abbrev pub words : List Token → List Word
+words [] = []
+words (t ∷ ts) = wordOf (t .kind) (place t) ∷ words ts
+
+-- ---- in the grammar: a tree spells the tokens
+abbrev pub Is-rule : List Token → Type 0
+Is-rule ts = (x : Rule) × (yield x ≡ words ts)
+
+-- the tokens begin a rule
+abbrev pub Begins-rule : List Token → Type 0
+Begins-rule ts = (x : Rule) × (ws : List Word) × (yield x ≡ words ts ++ ws)
+
+-- "outside the grammar, place the first token that with those before it begins no rule (the length if the text ends early)"
+pub data Wrong-at (n : ℕ) : List Token → ℕ → Type 0 where
+  at-token : (us : List Token) (t : Token) (vs : List Token) → Begins-rule us → (Begins-rule (us ++ t ∷ []) → ⊥) → Wrong-at n (us ++ t ∷ vs) (t .start)
+  at-end : (ts : List Token) → Begins-rule ts → (Is-rule ts → ⊥) → Wrong-at n ts n

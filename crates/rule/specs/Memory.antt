@@ -1,0 +1,137 @@
+-- What the reader remembers, and what each act does to it. A place is kept plus 1, 0 for none. Assumes nothing: definitions.
+use Prim.Native.Nat.{ℕ, zero, suc, _+_, _-_, _*_, _/_, _%_, min}
+use mathlib.Core.Bool.{Bool, true, false, cond}
+use mathlib.Core.List.{List, [], _∷_, _++_}
+use lib.ListN.{length, take, drop, getD, set}
+use lib.Dec.{ltb, leb, eqb}
+use Rattle.rule.specs.Limits.{eventLimit, noteLimit, frameLimit, frameBytes}
+use Rattle.rule.specs.ReadLimits.{depthLimit}
+use Rattle.rule.specs.Name.{longName, nameCode}
+use Rattle.rule.specs.Number.{numberValue}
+use Rattle.rule.specs.Measure.{Draft, lit, index-var, ref, plain, sized-by}
+use Rattle.rule.specs.Judge.{among, room, bad-number}
+use Rattle.rule.specs.Machine.{Act, declare, uses, sized, enter, out}
+use Rattle.rule.specs.declared.parts.Place.{Place}
+use Rattle.rule.specs.declared.parts.Role.{Role}
+use Rattle.rule.specs.declared.parts.Role.the-variants.{Event, Note}
+use Rattle.rule.specs.declared.parts.Sign.the-variants.{Plus, Minus}
+use Rattle.rule.specs.declared.parts.Scale.{Scale}
+use Rattle.rule.specs.declared.parts.Scale.the-variants.{Once, Times}
+use Rattle.rule.specs.declared.parts.Shift.{Shift}
+use Rattle.rule.specs.declared.parts.Shift.the-variants.{Unshifted, By}
+use Rattle.rule.specs.declared.memory.Tally.{Tally}
+use Rattle.rule.specs.declared.memory.Fields.{Fields}
+
+pub record Mem : Type 0 where
+  pub count : ℕ
+  pub deep : Bool
+  pub number : ℕ
+  pub name : ℕ
+  pub events : List ℕ
+  pub notes : List ℕ
+  pub bytes : List ℕ
+
+abbrev pub fresh : List ℕ → Mem
+fresh b = record { count = 0; deep = false; number = 0; name = 0; events = []; notes = []; bytes = b }
+
+abbrev pub table : Role → Mem → List ℕ
+table Event m = m .events
+table Note m = m .notes
+
+abbrev pub enlist : Role → ℕ → Mem → Mem
+enlist Event c m = record { count = m .count; deep = m .deep; number = m .number; name = m .name; events = m .events ++ c ∷ []; notes = m .notes; bytes = m .bytes }
+enlist Note c m = record { count = m .count; deep = m .deep; number = m .number; name = m .name; events = m .events; notes = m .notes ++ c ∷ []; bytes = m .bytes }
+
+abbrev pub first : ℕ → Place → ℕ
+first z p = cond (eqb z 0) (p .start + 1) z
+
+abbrev pub blame : Place → Mem → Mem
+blame p m = record { count = m .count; deep = m .deep; number = m .number; name = first (m .name) p; events = m .events; notes = m .notes; bytes = m .bytes }
+
+-- ---- a frame's bytes
+-- the number of the first name that has the number c, counted from 0; how many there are if none has
+unfoldable pub position : ℕ → List ℕ → ℕ
+position c [] = 0
+position c (x ∷ xs) = cond (eqb c x) 0 (suc (position c xs))
+
+-- v below 0, as a word: 2^32 less v
+unfoldable pub negated : ℕ → ℕ
+negated v = (4294967296 - v) % 4294967296
+
+-- the fields of a frame put at its place among 64 frames: 0 kind, 1 event, 2 note, 3 factor, 4 to 7 the word, big-endian
+unfoldable pub put : List ℕ → ℕ → Fields → List ℕ
+put b k f =
+    cond (ltb k frameLimit)
+    (set (set (set (set (set (set (set (set b
+    (k * frameBytes) (f .kind))
+    (k * frameBytes + 1) (f .event))
+    (k * frameBytes + 2) (f .note))
+    (k * frameBytes + 3) (f .factor))
+    (k * frameBytes + 4) (f .word / 256 / 256 / 256))
+    (k * frameBytes + 5) (f .word / 256 / 256 % 256))
+    (k * frameBytes + 6) (f .word / 256 % 256))
+    (k * frameBytes + 7) (f .word % 256))
+    b
+
+-- a frame is counted, up to 65, and put
+abbrev pub written : Fields → Mem → Mem
+written f m =
+    record { count = cond (ltb (m .count) frameLimit) (m .count + 1) (suc frameLimit); deep = m .deep; number = m .number; name = m .name; events = m .events; notes = m .notes; bytes = put (m .bytes) (m .count) f }
+
+module _ (code value : Place → ℕ) where
+  abbrev pub factorOf : Scale → ℕ
+  factorOf Once = 1
+  factorOf (Times p) = value p % 256
+
+  abbrev pub offsetOf : Shift → ℕ
+  offsetOf Unshifted = 0
+  offsetOf (By Plus p) = value p
+  offsetOf (By Minus p) = negated (value p)
+
+  -- the fields of a frame, with E the declared events and N the notes
+  abbrev pub fields : List ℕ → List ℕ → Draft → Fields
+  fields E N (lit p) = record { kind = 0x01; event = 0; note = 0; factor = 0; word = value p }
+  fields E N index-var = record { kind = 0x02; event = 0; note = 0; factor = 0; word = 0 }
+  fields E N (ref n e f o) = record { kind = 0x03; event = position (code e) E; note = position (code n) N; factor = factorOf f; word = offsetOf o }
+  fields E N (plain k) = record { kind = k; event = 0; note = 0; factor = 0; word = 0 }
+
+  abbrev pub misnamed : Role → Place → Mem → Bool
+  misnamed r p m = cond (leb longName (code p)) true (cond (among (code p) (table r m)) true (leb (room r) (length (table r m))))
+
+  abbrev pub remember : Act → Mem → Mem
+  remember (declare r p) m = cond (misnamed r p m) (blame p m) (enlist r (code p) m)
+  remember (uses r p) m = cond (among (code p) (table r m)) m (blame p m)
+  remember (sized b p) m = record { count = m .count; deep = m .deep; number = cond (bad-number code value (sized-by b p)) (first (m .number) p) (m .number); name = m .name; events = m .events; notes = m .notes; bytes = m .bytes }
+  remember (enter d) m = record { count = m .count; deep = cond (ltb depthLimit d) true (m .deep); number = m .number; name = m .name; events = m .events; notes = m .notes; bytes = m .bytes }
+  remember (out f) m = written (fields (m .events) (m .notes) f) m
+
+-- the answer that the registers give, as two numbers: refusals 4 to 6 with the place, or 0 and the number of frames
+abbrev pub told : Mem → ℕ × ℕ
+told m =
+    cond (eqb (m .name) 0)
+    (cond (eqb (m .number) 0)
+    (cond (m .deep) (6, 0) (cond (ltb frameLimit (m .count)) (6, 0) (0, m .count)))
+    (5, m .number - 1))
+    (4, m .name - 1)
+
+-- ---- over a text
+abbrev pub letters : List ℕ → Place → List ℕ
+letters text p = take (p .end - p .start) (drop (p .start) text)
+
+abbrev pub codeAt : List ℕ → Place → ℕ
+codeAt text p = nameCode (letters text p)
+
+abbrev pub valueAt : List ℕ → Place → ℕ
+valueAt text p = numberValue (letters text p)
+
+unfoldable pub acts : List ℕ → Act → Mem → Mem
+acts text = remember (codeAt text) (valueAt text)
+
+-- ---- the code's registers and tables as a memory: events have the first 8 places of the table, notes the 4 after them
+unfoldable pub listed : List ℕ → ℕ → ℕ → List ℕ
+listed tb from zero = []
+listed tb from (suc n) = getD tb from 0 ∷ listed tb (suc from) n
+
+unfoldable pub mem : Tally → List ℕ → List ℕ → Mem
+mem t tb b =
+    record { count = t .count; deep = t .deep; number = t .number; name = t .name; events = listed tb 0 (min eventLimit (t .events)); notes = listed tb eventLimit (min noteLimit (t .notes)); bytes = b }

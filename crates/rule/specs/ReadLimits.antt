@@ -1,0 +1,10 @@
+-- The limits of a rule's text, each named once; those of its frames stand in Limits, that of a name in Name. Assumes nothing: definitions.
+use Prim.Native.Nat.{ℕ}
+
+-- "The text has 1 to 1,024 bytes"
+abbrev pub textLimit : ℕ
+textLimit = 1024
+
+-- "Depth at a point .. at most 16"
+abbrev pub depthLimit : ℕ
+depthLimit = 16

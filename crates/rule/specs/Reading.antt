@@ -1,0 +1,64 @@
+-- What `read` answers to a text, and what the lent buffer holds then: refusals 1 to 8 in their order.
+-- From document 01, "From rule text to frames" and "What is turned down". Assumes nothing: definitions.
+use Prim.Native.Nat.{ℕ, _*_}
+use mathlib.Core.Bool.{false, cond}
+use mathlib.Core.List.{List}
+use lib.Dec.{ltb, eqb}
+use lib.ListN.{length, take, replicate}
+use Rattle.rule.specs.Limits.{frameLimit, frameBytes}
+use Rattle.rule.specs.ReadLimits.{textLimit}
+use Rattle.rule.specs.Token.{tokens}
+use Rattle.rule.specs.Machine.{start, Answer, accepted, refused, run}
+use Rattle.rule.specs.Memory.{Mem, fresh, told, acts, mem}
+use Rattle.rule.specs.Check.{checkedOf}
+use Rattle.rule.specs.declared.Checked.{Checked}
+use Rattle.rule.specs.declared.Checked.the-variants.{Accepted, Refused}
+use Rattle.rule.specs.declared.Reading.{Reading}
+use Rattle.rule.specs.declared.Reading.the-variants as reading
+use Rattle.rule.specs.declared.memory.Tally.{Tally}
+use Rattle.rule.specs.declared.memory.Step.{Step}
+use Rattle.rule.specs.declared.memory.Step.the-variants.{Go, No}
+
+-- "a lent buffer of exactly 512 bytes"
+abbrev pub bufferBytes : ℕ
+bufferBytes = frameLimit * frameBytes
+
+abbrev pub refusedAs : ℕ → ℕ → Reading
+refusedAs k p = reading.Refused (record { number = k; place = p })
+
+-- the machine's answer to the whole text, with all bytes zero at first
+unfoldable pub judged : List ℕ → Answer Mem
+judged text = run Mem (acts text) (length text) start (fresh (replicate bufferBytes 0)) (tokens text)
+
+-- 7 and 8, which opening checks too: of the frames that were put
+abbrev pub afterCheck : List ℕ → Mem → Checked → Reading × List ℕ
+afterCheck b m Accepted = (reading.Frames (m .count), m .bytes)
+afterCheck b m (Refused r) = (reading.Refused r, b)
+
+-- 4 to 6, then 7 and 8; "on refusal nothing is changed", else the buffer holds the frames, and zero after the last
+abbrev pub settled : List ℕ → Mem → Reading × List ℕ
+settled b m = cond (eqb (told m .0) 0) (afterCheck b m (checkedOf (take (m .count * frameBytes) (m .bytes)))) (refusedAs (told m .0) (told m .1), b)
+
+-- 3, then the rest
+abbrev pub afterGrammar : List ℕ → Answer Mem → Reading × List ℕ
+afterGrammar b (refused p) = (refusedAs 3 p, b)
+afterGrammar b (accepted m) = settled b m
+
+-- 1: "the frame buffer isn't 512 bytes", 2: "the text has 0 or over 1,024 bytes", then the rest: the answer, and the buffer b then
+unfoldable pub readOf : List ℕ → List ℕ → Reading × List ℕ
+readOf text b =
+    cond (eqb (length b) bufferBytes)
+    (cond (eqb (length text) 0) (refusedAs 2 0, b)
+    (cond (ltb textLimit (length text)) (refusedAs 2 0, b)
+    (afterGrammar b (judged text))))
+    (refusedAs 1 0, b)
+
+-- ---- for the code's own contracts
+-- the registers at first
+abbrev pub unread : Tally
+unread = record { count = 0; deep = false; number = 0; name = 0; events = 0; notes = 0 }
+
+-- what the reader of a whole text answered, with the names tb and the buffer b
+abbrev pub answerOf : Step → List ℕ → List ℕ → Answer Mem
+answerOf (Go a t) tb b = accepted (mem t tb b)
+answerOf (No p) tb b = refused p

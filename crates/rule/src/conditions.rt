@@ -1,0 +1,189 @@
+// Readers of conditions: cond, disj, conj and unit. Each takes its part off the machine's stack.
+use crate::emit::emit_kind;
+use crate::memory::Step;
+use crate::memory::Tally;
+use crate::memory::deeper;
+use crate::memory::entered;
+use crate::sums::expect;
+use crate::sums::sum;
+use crate::tokens::AMPERSANDS;
+use crate::tokens::ARROW;
+use crate::tokens::AT_LEAST;
+use crate::tokens::AT_MOST;
+use crate::tokens::BARS;
+use crate::tokens::UNEQUAL;
+use crate::tokens::token_at;
+ghost use mathlib.Core.Path.{_≡_};
+ghost use mathlib.Core.List.{_∷_};
+ghost use Prim.Native.Nat.{_+_, _≤_};
+ghost use lib.ListN.{length};
+ghost use Rattle.rule.specs.Machine.{want, rel, unit, ands, ors, arrow, conj, sum, condition};
+ghost use Rattle.rule.specs.Memory.{mem};
+ghost use Rattle.rule.specs.Does.{relByte, Does};
+
+const EQUAL: u8 = 0x21;
+const OTHER: u8 = 0x22;
+const LESS: u8 = 0x23;
+const NOT_MORE: u8 = 0x24;
+const MORE: u8 = 0x25;
+const NOT_LESS: u8 = 0x26;
+const NOT: u8 = 0x31;
+const AND: u8 = 0x32;
+const OR: u8 = 0x33;
+const IMPLIES: u8 = 0x34;
+
+// The kind of frame of a relation, 0 of any other token.
+fn rel_kind(k: u8) -> u8
+    ensures { λ r. ⌜ r ≡ relByte k ⌝ }
+{
+    if k == b'=' {
+        return EQUAL;
+    }
+    if k == UNEQUAL {
+        return OTHER;
+    }
+    if k == b'<' {
+        return LESS;
+    }
+    if k == AT_MOST {
+        return NOT_MORE;
+    }
+    if k == b'>' {
+        return MORE;
+    }
+    if k == AT_LEAST { NOT_LESS } else { 0 }
+}
+
+// rel sum, and the frame of the relation.
+fn compare(text: &[u8], names: &[u64; 12], at: usize, d: usize, m: Tally, buf: &mut [u8; 512]) -> Step
+    requires { ⌜ at ≤ length (now text) ⌝ }
+    ensures { λ r. ⌜ Does (λ s. rel d ∷ s) (now (text .entry)) at (at + 1) (mem m (now (names .entry)) (now (buf .entry))) r (now (names .entry)) (now (buf .exit)) ⌝ }
+{
+    let t = token_at(text, at);
+    let kind = rel_kind(t.kind);
+    if kind == 0 {
+        return Step::No(t.start);
+    }
+    match sum(text, names, t.end, d, m, buf) {
+        Step::No(q) => Step::No(q),
+        Step::Go(a, n) => Step::Go(a, emit_kind(buf, n, kind)),
+    }
+}
+
+// sum rel sum
+fn relation(text: &[u8], names: &[u64; 12], at: usize, d: usize, m: Tally, buf: &mut [u8; 512]) -> Step
+    requires { ⌜ at ≤ length (now text) ⌝ }
+    ensures { λ r. ⌜ Does (λ s. sum d (rel d ∷ s)) (now (text .entry)) at (at + 1) (mem m (now (names .entry)) (now (buf .entry))) r (now (names .entry)) (now (buf .exit)) ⌝ }
+{
+    match sum(text, names, at, d, m, buf) {
+        Step::No(q) => Step::No(q),
+        Step::Go(a, n) => compare(text, names, a, d, n, buf),
+    }
+}
+
+// cond "}", the rest of a group.
+fn braces(text: &[u8], names: &[u64; 12], at: usize, d: usize, m: Tally, buf: &mut [u8; 512]) -> Step
+    requires { ⌜ at ≤ length (now text) ⌝ }
+    ensures { λ r. ⌜ Does (λ s. condition d (want 125 ∷ s)) (now (text .entry)) at (at + 1) (mem m (now (names .entry)) (now (buf .entry))) r (now (names .entry)) (now (buf .exit)) ⌝ }
+{
+    match condition(text, names, at, d, m, buf) {
+        Step::No(q) => Step::No(q),
+        Step::Go(a, n) => expect(text, a, n, b'}'),
+    }
+}
+
+// cond: disj ["->" cond]; disj: conj {"||" conj}
+pub fn condition(text: &[u8], names: &[u64; 12], at: usize, d: usize, m: Tally, buf: &mut [u8; 512]) -> Step
+    requires { ⌜ at ≤ length (now text) ⌝ }
+    ensures { λ r. ⌜ Does (λ s. condition d s) (now (text .entry)) at (at + 1) (mem m (now (names .entry)) (now (buf .entry))) r (now (names .entry)) (now (buf .exit)) ⌝ }
+{
+    match conj(text, names, at, d, m, buf) {
+        Step::No(q) => Step::No(q),
+        Step::Go(a, n) => match ors(text, names, a, d, n, buf) {
+            Step::No(q) => Step::No(q),
+            Step::Go(z, l) => arrow(text, names, z, d, l, buf),
+        },
+    }
+}
+
+// ["->" cond]
+fn arrow(text: &[u8], names: &[u64; 12], at: usize, d: usize, m: Tally, buf: &mut [u8; 512]) -> Step
+    requires { ⌜ at ≤ length (now text) ⌝ }
+    ensures { λ r. ⌜ Does (λ s. arrow d ∷ s) (now (text .entry)) at at (mem m (now (names .entry)) (now (buf .entry))) r (now (names .entry)) (now (buf .exit)) ⌝ }
+{
+    let t = token_at(text, at);
+    if t.kind != ARROW {
+        return Step::Go(at, m);
+    }
+    let e = deeper(d);
+    match condition(text, names, t.end, e, entered(e, m), buf) {
+        Step::No(q) => Step::No(q),
+        Step::Go(a, n) => Step::Go(a, emit_kind(buf, n, IMPLIES)),
+    }
+}
+
+// {"||" conj}
+fn ors(text: &[u8], names: &[u64; 12], at: usize, d: usize, m: Tally, buf: &mut [u8; 512]) -> Step
+    requires { ⌜ at ≤ length (now text) ⌝ }
+    ensures { λ r. ⌜ Does (λ s. ors d ∷ s) (now (text .entry)) at at (mem m (now (names .entry)) (now (buf .entry))) r (now (names .entry)) (now (buf .exit)) ⌝ }
+{
+    let t = token_at(text, at);
+    if t.kind != BARS {
+        return Step::Go(at, m);
+    }
+    match conj(text, names, t.end, d, m, buf) {
+        Step::No(q) => Step::No(q),
+        Step::Go(a, n) => {
+            let k = emit_kind(buf, n, OR);
+            ors(text, names, a, d, k, buf)
+        }
+    }
+}
+
+// conj: unit {"&&" unit}
+fn conj(text: &[u8], names: &[u64; 12], at: usize, d: usize, m: Tally, buf: &mut [u8; 512]) -> Step
+    requires { ⌜ at ≤ length (now text) ⌝ }
+    ensures { λ r. ⌜ Does (λ s. conj d s) (now (text .entry)) at (at + 1) (mem m (now (names .entry)) (now (buf .entry))) r (now (names .entry)) (now (buf .exit)) ⌝ }
+{
+    match unit(text, names, at, d, m, buf) {
+        Step::No(q) => Step::No(q),
+        Step::Go(a, n) => ands(text, names, a, d, n, buf),
+    }
+}
+
+// {"&&" unit}
+fn ands(text: &[u8], names: &[u64; 12], at: usize, d: usize, m: Tally, buf: &mut [u8; 512]) -> Step
+    requires { ⌜ at ≤ length (now text) ⌝ }
+    ensures { λ r. ⌜ Does (λ s. ands d ∷ s) (now (text .entry)) at at (mem m (now (names .entry)) (now (buf .entry))) r (now (names .entry)) (now (buf .exit)) ⌝ }
+{
+    let t = token_at(text, at);
+    if t.kind != AMPERSANDS {
+        return Step::Go(at, m);
+    }
+    match unit(text, names, t.end, d, m, buf) {
+        Step::No(q) => Step::No(q),
+        Step::Go(a, n) => {
+            let k = emit_kind(buf, n, AND);
+            ands(text, names, a, d, k, buf)
+        }
+    }
+}
+
+// unit: "!" unit, or "{" cond "}", or sum rel sum
+fn unit(text: &[u8], names: &[u64; 12], at: usize, d: usize, m: Tally, buf: &mut [u8; 512]) -> Step
+    requires { ⌜ at ≤ length (now text) ⌝ }
+    ensures { λ r. ⌜ Does (λ s. unit d ∷ s) (now (text .entry)) at (at + 1) (mem m (now (names .entry)) (now (buf .entry))) r (now (names .entry)) (now (buf .exit)) ⌝ }
+{
+    let t = token_at(text, at);
+    let e = deeper(d);
+    if t.kind == b'{' {
+        return braces(text, names, t.end, e, entered(e, m), buf);
+    }
+    if t.kind != b'!' {
+        return relation(text, names, at, d, m, buf);
+    }
+    match unit(text, names, t.end, e, entered(e, m), buf) {
+        Step::No(q) => Step::No(q),
+        Step::Go(a, n) => Step::Go(a, emit_kind(buf, n, NOT)),
+    }
+}

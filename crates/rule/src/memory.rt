@@ -1,0 +1,143 @@
+// What the reader remembers while it reads a text, and what depths and numbers do to that.
+use crate::names::name_code;
+use crate::numerals::number_value;
+use crate::parts::Limit;
+use crate::parts::Place;
+ghost use mathlib.Core.Path.{_≡_};
+ghost use mathlib.Core.Bool.{cond};
+ghost use mathlib.Core.List.{List};
+ghost use Prim.Native.Nat.{ℕ, _+_, _<_};
+ghost use lib.Dec.{eqb};
+ghost use lib.ListN.{length};
+ghost use Rattle.rule.specs.Judge.{beyond};
+ghost use Rattle.rule.specs.Machine.{deeper, enter, sized};
+ghost use Rattle.rule.specs.Memory.{first, blame, codeAt, valueAt, acts, mem};
+ghost use Rattle.rule.specs.Does.{Inside};
+
+pub const DEPTH: usize = 16;
+const LITERAL: u32 = 2147483647;
+const FACTOR: u32 = 9;
+const OFFSET: u32 = 9999;
+
+// Registers: frames so far, at most 65; whether a depth was over 16; the first bad number's place plus 1, and the first bad
+// name's, 0 for none; how many events and notes are declared.
+pub struct Tally {
+    pub count: usize,
+    pub deep: bool,
+    pub number: usize,
+    pub name: usize,
+    pub events: u8,
+    pub notes: u8,
+}
+
+// A frame's bytes; `word` has the last four, big-endian.
+pub struct Fields {
+    pub kind: u8,
+    pub event: u8,
+    pub note: u8,
+    pub factor: u8,
+    pub word: u32,
+}
+
+// A reader of a part went on to a place, or stopped at a token that no rule has there.
+pub enum Step {
+    Go(usize, Tally),
+    No(usize),
+}
+
+// One level further in; 17 stands for every depth over 16.
+pub fn deeper(d: usize) -> usize
+    ensures { λ r. ⌜ r ≡ deeper d ⌝ }
+{
+    if d <= DEPTH { d + 1 } else { d }
+}
+
+// After entering depth `d`.
+pub fn entered(d: usize, m: Tally) -> Tally
+    ensures { λ r. ⌜ ((text tb b : List ℕ) → mem r tb b ≡ acts text (enter d) (mem m tb b)) ⌝ }
+{
+    if d <= DEPTH {
+        return m;
+    }
+    Tally {
+        count: m.count,
+        deep: true,
+        number: m.number,
+        name: m.name,
+        events: m.events,
+        notes: m.notes,
+    }
+}
+
+// A first place, plus 1, if there was none.
+fn first(z: usize, p: Place) -> usize
+    requires { ⌜ p .start < p .end ⌝ }
+    ensures { λ r. ⌜ r ≡ first z p ⌝ }
+{
+    if z == 0 { p.start + 1 } else { z }
+}
+
+// After a bad name at `p`.
+pub fn blamed(p: Place, m: Tally) -> Tally
+    requires { ⌜ p .start < p .end ⌝ }
+    ensures { λ r. ⌜ ((tb b : List ℕ) → mem r tb b ≡ blame p (mem m tb b)) ⌝ }
+{
+    Tally {
+        count: m.count,
+        deep: m.deep,
+        number: m.number,
+        name: first(m.name, p),
+        events: m.events,
+        notes: m.notes,
+    }
+}
+
+// The number of the name at `p`.
+pub fn name_at(text: &[u8], p: Place) -> u64
+    requires { ⌜ Inside (length (now text)) p ⌝ }
+    ensures { λ r. ⌜ r ≡ codeAt (now (text .entry)) p ⌝ }
+{
+    let s = p.start;
+    let e = p.end;
+    name_code(&text[s..e])
+}
+
+// The value of the number at `p`.
+pub fn number_at(text: &[u8], p: Place) -> u32
+    requires { ⌜ Inside (length (now text)) p ⌝ }
+    ensures { λ r. ⌜ r ≡ valueAt (now (text .entry)) p ⌝ }
+{
+    let s = p.start;
+    let e = p.end;
+    number_value(&text[s..e])
+}
+
+// Whether a number is beyond its limit.
+fn over(limit: Limit, v: u32) -> bool
+    ensures { λ r. ⌜ r ≡ beyond limit v ⌝ }
+{
+    match limit {
+        Limit::OfLiteral => LITERAL < v,
+        Limit::OfFactor => if v == 0 { true } else { FACTOR < v },
+        Limit::OfOffset => OFFSET < v,
+    }
+}
+
+// After the number at `p`, whose limit is `limit`.
+pub fn sized(text: &[u8], limit: Limit, p: Place, m: Tally) -> Tally
+    requires { ⌜ Inside (length (now text)) p ⌝ }
+    ensures { λ r. ⌜ ((tb b : List ℕ) → mem r tb b ≡ acts (now (text .entry)) (sized limit p) (mem m tb b)) ⌝ }
+{
+    let v = number_at(text, p);
+    if over(limit, v) {
+        return Tally {
+            count: m.count,
+            deep: m.deep,
+            number: first(m.number, p),
+            name: m.name,
+            events: m.events,
+            notes: m.notes,
+        };
+    }
+    m
+}

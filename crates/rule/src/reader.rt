@@ -1,0 +1,131 @@
+// The reader of a whole rule.
+use crate::Checked;
+use crate::Reading;
+use crate::Refusal;
+use crate::check;
+use crate::conditions::condition;
+use crate::header::declarations;
+use crate::memory::Step;
+use crate::memory::Tally;
+use crate::parts::Role;
+use crate::tokens::END;
+use crate::tokens::EVENTS;
+use crate::tokens::NOTES;
+use crate::tokens::token_at;
+ghost use mathlib.Core.Path.{_≡_};
+ghost use mathlib.Core.List.{List, []};
+ghost use Prim.Native.Nat.{ℕ, _≤_};
+ghost use lib.ListN.{length};
+ghost use Rattle.rule.specs.Machine.{start};
+ghost use Rattle.rule.specs.Memory.{mem};
+ghost use Rattle.rule.specs.Does.{runFrom};
+ghost use Rattle.rule.specs.Reading.{refusedAs, settled, readOf, unread, answerOf};
+
+const BUFFER: usize = 512;
+const LONGEST: usize = 1024;
+const FRAMES: usize = 64;
+
+fn refuse(number: u8, place: u32) -> Reading
+    ensures { λ r. ⌜ r ≡ refusedAs number place ⌝ }
+{
+    Reading::Refused(Refusal { number, place })
+}
+
+fn copy(from: &[u8], to: &mut [u8])
+    requires { ⌜ (length (now from) ≡ 512) × (length (now to) ≡ 512) ⌝ }
+    ensures { λ _. ⌜ now (to .exit) ≡ now (from .entry) ⌝ }
+{
+    let mut i: usize = 0;
+    while i < BUFFER {
+        to[i] = from[i];
+        i += 1;
+    }
+}
+
+// The end of the text, after the last part.
+fn ended(text: &[u8], at: usize, m: Tally) -> Step
+    requires { ⌜ at ≤ length (now text) ⌝ }
+    ensures { λ r. ⌜ ((tb b : List ℕ) → runFrom (now (text .entry)) [] (mem m tb b) at ≡ answerOf r tb b) ⌝ }
+{
+    let t = token_at(text, at);
+    if t.kind != END {
+        return Step::No(t.start);
+    }
+    Step::Go(at, m)
+}
+
+// rule: "events" name {name} ";" "notes" name {name} ";" cond
+fn whole(text: &[u8], names: &mut [u64; 12], buf: &mut [u8; 512]) -> Step
+    requires { ⌜ length (now names) ≡ 12 ⌝ }
+    ensures { λ r. ⌜ runFrom (now (text .entry)) start (mem unread (now (names .entry)) (now (buf .entry))) 0 ≡ answerOf r (now (names .exit)) (now (buf .exit)) ⌝ }
+{
+    let m = Tally {
+        count: 0,
+        deep: false,
+        number: 0,
+        name: 0,
+        events: 0,
+        notes: 0,
+    };
+    match declarations(text, names, 0, EVENTS, Role::Event, m) {
+        Step::No(q) => Step::No(q),
+        Step::Go(a, n) => match declarations(text, names, a, NOTES, Role::Note, n) {
+            Step::No(q) => Step::No(q),
+            Step::Go(z, l) => match condition(text, names, z, 0, l, buf) {
+                Step::No(q) => Step::No(q),
+                Step::Go(e, k) => ended(text, e, k),
+            },
+        },
+    }
+}
+
+// Refusals 4 to 8 of what was read; else the frames are handed over.
+fn settle(buf: &[u8], frames: &mut [u8], m: Tally) -> Reading
+    requires { ⌜ (length (now buf) ≡ 512) × (length (now frames) ≡ 512) × (m .name ≤ 1025) × (m .number ≤ 1025) ⌝ }
+    ensures { λ r. ⌜ ((tb : List ℕ) → (r ≡ settled (now (frames .entry)) (mem m tb (now (buf .entry))) .0) × (now (frames .exit) ≡ settled (now (frames .entry)) (mem m tb (now (buf .entry))) .1)) ⌝ }
+{
+    if m.name != 0 {
+        return refuse(4, (m.name - 1) as u32);
+    }
+    if m.number != 0 {
+        return refuse(5, (m.number - 1) as u32);
+    }
+    if m.deep {
+        return refuse(6, 0);
+    }
+    if FRAMES < m.count {
+        return refuse(6, 0);
+    }
+    let n = m.count;
+    let e = n * 8;
+    let answer = check(&buf[..e]);
+    match answer {
+        Checked::Refused(r) => Reading::Refused(r),
+        Checked::Accepted => {
+            copy(buf, frames);
+            Reading::Frames(n as u32)
+        }
+    }
+}
+
+// Reads a rule's text into frames, for every text and every buffer: refusals 1 to 8 in this order. A refusal leaves the buffer
+// as it was; else it holds the frames, and zero after the last.
+pub fn read(text: &[u8], frames: &mut [u8]) -> Reading
+    ensures { λ r. ⌜ (r ≡ readOf (now (text .entry)) (now (frames .entry)) .0) × (now (frames .exit) ≡ readOf (now (text .entry)) (now (frames .entry)) .1) ⌝ }
+{
+    if frames.len() != BUFFER {
+        return refuse(1, 0);
+    }
+    if text.len() == 0 {
+        return refuse(2, 0);
+    }
+    if LONGEST < text.len() {
+        return refuse(2, 0);
+    }
+    let mut names = [0u64; 12];
+    let mut buf = [0u8; 512];
+    match whole(text, &mut names, &mut buf) {
+        Step::No(p) => refuse(3, p as u32),
+        Step::Go(_, m) => settle(&buf, frames, m),
+    }
+}
