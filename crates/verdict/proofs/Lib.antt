@@ -10,4 +10,5 @@ pub mod Loop
 pub mod Mirror
 pub mod Means
 pub mod Marked
+pub mod Examples
 pub mod Main

@@ -12,7 +12,7 @@ use Rattle.rule.specs.declared.Checked.the-variants.{Accepted}
 use Rattle.verdict.specs.Found.{instanceLimit, Found, foundIn}
 use Rattle.verdict.specs.Value.{noteOf, valueS, value}
 use Rattle.verdict.specs.Settled.{settled, judgement}
-use Rattle.verdict.specs.Later.{GainsIn, Sharpens, MoreLines}
+use Rattle.verdict.specs.Later.{Gains, GainsIn, Sharpens, MoreLines}
 use Rattle.verdict.specs.Marks.{Told}
 use Rattle.verdict.specs.Pass.{judgementOf}
 use Rattle.verdict.specs.declared.Judgement.the-variants.{Unsettled}
@@ -46,7 +46,11 @@ pub settled-stays : (i : ℕ) (found found′ : Reference → Found) (t : Cond) 
     → (settled i found′ t ≡ true) × (value i found′ t ≡ value i found t)
 settled-stays = Stays.settled-stays
 
--- so more accepted lines leave what is said of it
+-- where lines are added, each reference stays as it is or was pending
+pub lines-gain : (lines lines′ : ℕ → List (List ℤ)) → MoreLines lines lines′ → (i : ℕ) (r : Reference) → Gains (foundIn lines i r) (foundIn lines′ i r)
+lines-gain = Stays.lines-gain
+
+-- so more accepted lines leave what is said of an instance that is settled
 pub lines-stay : (i : ℕ) (lines lines′ : ℕ → List (List ℤ)) (t : Cond) → MoreLines lines lines′ → (judgement i (foundIn lines i) t ≡ Unsettled → ⊥)
     → judgement i (foundIn lines′ i) t ≡ judgement i (foundIn lines i) t
 lines-stay = Stays.lines-stay

@@ -1,15 +1,17 @@
 -- Laws of the integers: the size of a sum and of a product, what fits 64 bits, what the machine compares. Assumes nothing.
 use mathlib.Core.Path.{_≡_, refl, sym, _∙_}
 use mathlib.Core.Bool.{Bool, true, false, cond}
-use Prim.Native.Nat.{ℕ, suc, _+_, _-_, _*_, _^_, _≤_}
+use Prim.Native.Nat.{ℕ, suc, _+_, _-_, _*_, _^_, _≤_, zero-le}
 use native.Mathlib.Nat.{le-refl, mul-le-mul}
 use native.Mathlib.Omega.{arith}
 use native.Mathlib.Decide.{ℕ-discrete}
 use lib.Dec.{ltb, eqb}
-use borrow.Author.Tests.{eq-eqb, ne-eqb}
+use borrow.Author.Tests.{eq-eqb, ne-eqb, le-leb}
 use lib.IntN.{ℤ, pos, negsuc, negℤ, natAbs, subℕ, _+ℤ_, _-ℤ_, _*ℤ_}
+use lib.Signed.{leZ}
 use mir.Syntax.{w64}
 use mir.Val.{SFits, ofZ}
+use Rattle.numbers.proofs.Bools.{true-false}
 use Rattle.numbers.proofs.Ints.{mag-natAbs, natAbs-neg}
 use Rattle.rule.specs.Limits.{magnitudeLimit}
 use Rattle.verdict.specs.Value.{eqZ}
@@ -46,6 +48,10 @@ module _ (a b : ℤ) (m n : ℕ) (h : natAbs a ≤ m) (k : natAbs b ≤ n) where
 
 pub small-fits : (z : ℤ) → natAbs z ≤ magnitudeLimit → SFits w64 z
 small-fits z h = record { sfits = omega (arith, mag-natAbs z) }
+
+pub negative : (z : ℤ) → leZ (pos 0) z ≡ false → negℤ z ≡ pos (natAbs z)
+negative (pos n) e = absurd (true-false (sym (le-leb 0 n zero-le) ∙ e))
+negative (negsuc n) e = refl
 
 -- ---- equal numbers have equal bits
 same-test : (m n p q : ℕ) → (m ≡ n → p ≡ q) → (p ≡ q → m ≡ n) → eqb m n ≡ eqb p q

@@ -21,7 +21,7 @@ pub fn size(a: i64) -> i64
     requires { ⌜ natAbs a ≤ magnitudeLimit ⌝ }
     ensures { λ r. ⌜ r ≡ sizeOf a ⌝ }
 {
-    if a < 0 { 0 - a } else { a }
+    if 0 <= a { a } else { 0 - a }
 }
 
 // Add, subtract, multiply, by the kind byte. Called by stacks::join_sums, where the result fits.

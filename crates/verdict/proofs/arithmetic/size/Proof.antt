@@ -3,8 +3,8 @@ use mathlib.Core.Path.{_∙_}
 use lib.IntN.{negℤ, +ℤ-idl}
 use mir.ValLaws.{toZ-ofZ}
 use mir.Syntax.{w64}
-use Rattle.numbers.proofs.Ints.{natAbs-neg, abs-neg, abs-pos}
-use Rattle.verdict.proofs.Numbers.{small-fits}
+use Rattle.numbers.proofs.Ints.{natAbs-neg, not-negative}
+use Rattle.verdict.proofs.Numbers.{small-fits, negative}
 use Rattle.verdict.proofs.arithmetic.size.Statement.{statement}
 use Rattle.verdict.proofs.arithmetic.size.Tie as tie
 
@@ -16,13 +16,13 @@ sub-result c =
 returns : tie.Need-returns
 returns c =
     let a = c .before .args .a in
-    toZ-ofZ w64 _ (sub-result c)
-    ∙ rw (toZ-ofZ w64 a (c .before .fits .a)) (+ℤ-idl (negℤ a) ∙ abs-neg a (rw (toZ-ofZ w64 a (c .before .fits .a)) at (c .if1 .taken)))
+    toZ-ofZ w64 a (c .before .fits .a) ∙ not-negative a (rw (toZ-ofZ w64 a (c .before .fits .a)) at (c .if1 .taken))
 
 returns-2 : tie.Need-returns-2
 returns-2 c =
     let a = c .before .args .a in
-    toZ-ofZ w64 a (c .before .fits .a) ∙ abs-pos a (rw (toZ-ofZ w64 a (c .before .fits .a)) at (c .if1 .left))
+    toZ-ofZ w64 _ (sub-result c)
+    ∙ rw (toZ-ofZ w64 a (c .before .fits .a)) (+ℤ-idl (negℤ a) ∙ negative a (rw (toZ-ofZ w64 a (c .before .fits .a)) at (c .if1 .left)))
 
 pub size-spec : {M : Type 1} → statement M
 size-spec = tie.close (tie.spec sub-result returns returns-2)
