@@ -16,7 +16,7 @@ use Rattle.verdict.specs.declared.Truth.{Truth}
 use Rattle.verdict.specs.declared.Truth.the-variants as truths
 use Rattle.verdict.specs.declared.Judgement.{Judgement}
 use Rattle.verdict.specs.declared.Judgement.the-variants.{Unsettled}
-use Rattle.verdict.proofs.Stays.{judgement-stays, lines-gain}
+use Rattle.verdict.proofs.Main.{lines-stay}
 use Rattle.checker.specs.Base.{firstInstance}
 use Rattle.checker.specs.Feed.{FeedRead, turned, skipped, taken, feedAnswer}
 use Rattle.checker.specs.Pull.{PullRead, short, waits, gave, pullAnswer}
@@ -74,9 +74,7 @@ said frames m i = judgement i (foundIn (m .lists) i) (treeOf frames)
 -- a verdict stays when lines are added
 pub said-stays : (frames : List ℕ) (m m′ : Machine) (i : ℕ) (v : Truth) → MoreLines (m .lists) (m′ .lists) → said frames m i ≡ settling.verdict v → said frames m′ i ≡ settling.verdict v
 said-stays frames m m′ i v more q =
-    judgement-stays i (foundIn (m .lists) i) (foundIn (m′ .lists) i) (treeOf frames) (λ r h. lines-gain (m .lists) (m′ .lists) more i r)
-    (λ u. verdict-settled v (sym q ∙ u))
-    ∙ q
+    lines-stay i (m .lists) (m′ .lists) (treeOf frames) more (λ u. verdict-settled v (sym q ∙ u)) ∙ q
 
 module _ (frames : List ℕ) (w : ℕ) where
   -- the verdicts of a list from m on, in the sense of the machine m′ that it ends in

@@ -9,6 +9,7 @@ pub mod Sums
 pub mod Agree
 pub mod Order
 pub mod Never
+pub mod Exactly
 pub mod Unchanged
 pub mod Marked
 pub mod Main

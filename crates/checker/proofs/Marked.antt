@@ -27,7 +27,7 @@ use Rattle.checker.specs.Good.{goodRule, goodCount, allTo, goodTally, go
 use Rattle.checker.specs.Feed.{feedEvent, feedDef}
 use Rattle.checker.specs.Report.{reportBytes}
 use Rattle.checker.specs.Pull.{pullRead, pullDef}
-use Rattle.checker.specs.Calls.{Call, feed, pull, outs, checker}
+use Rattle.checker.specs.Calls.{Call, feed, pull, Out, fed, pulled, outs, checker}
 use Rattle.checker.specs.Demand.{answerOf, fresh}
 use Rattle.checker.specs.Machine.{atFirst, tabulated, joined, moved, machineFor}
 
@@ -201,3 +201,18 @@ pub record Shown (xs : List Example) : Type 0 where
 pub marked : Shown table
 unfolding kindOf referenceCount orderOf sizesFit treeOf checkedOf digitValue digitsAtFront badPlace lineOf ofEvent referenced smallest base freshState withCount withPulled stored kept openDef goodRule goodCount allTo goodTally goodState feedEvent feedDef reportBytes pullRead pullDef outs tabulated joined moved
 marked = record { opening = refl; machine = refl; checker = refl }
+
+-- ---- the report of the bench program's example: instance 0 false, two references, 40 and 10; later bytes keep
+abbrev bench : List Call
+bench = line 0 10 ∷ line 1 40 ∷ next ∷ []
+
+abbrev benchOuts : List Out
+benchOuts =
+    fed accepted ∷ fed accepted
+    ∷ pulled (verdict False) (0 ∷ 0 ∷ 0 ∷ 0 ∷ 0 ∷ 2 ∷ 0 ∷ 0 ∷ 0 ∷ 0 ∷ 0x28 ∷ 0 ∷ 0 ∷ 0 ∷ 0 ∷ 0x0A ∷ replicate 150 7)
+    ∷ []
+
+pub bench-report : (outs (machineFor (bytesOf (postfix latency)) 4) bench atFirst ≡ benchOuts)
+    × (outs checker bench (fresh (bytesOf (postfix latency)) 4 (replicate (windowWords 4) (pos 7))) ≡ benchOuts)
+unfolding kindOf referenceCount orderOf sizesFit treeOf checkedOf digitValue digitsAtFront badPlace lineOf ofEvent referenced smallest base freshState withCount withPulled stored kept openDef goodRule goodCount allTo goodTally goodState feedEvent feedDef reportBytes pullRead pullDef outs tabulated joined moved
+bench-report = (refl, refl)

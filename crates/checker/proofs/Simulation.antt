@@ -26,7 +26,7 @@ use Rattle.verdict.specs.declared.Truth.{Truth}
 use Rattle.verdict.specs.declared.Truth.the-variants as truths
 use Rattle.verdict.specs.declared.Judgement.{Judgement}
 use Rattle.verdict.specs.declared.Judgement.the-variants.{Unsettled, True, False, Unknown}
-use Rattle.verdict.proofs.Own.{SameOn, judgement-own}
+use Rattle.verdict.proofs.Main.{own-references}
 use Rattle.checker.specs.Limits.{windowWords, lineLimit, reportLeast}
 use Rattle.checker.specs.Base.{referenced, orZero, base}
 use Rattle.checker.specs.State.{counted, sumOf, Tally, countOf, tallyIn, stateFrames, refsIn, withCount, withPulled}
@@ -77,8 +77,12 @@ pub record Both (frames : List ℕ) (w : ℕ) (m : Machine) (k : Checker) : Type
   pub inv : Inv (references (treeOf frames)) w m
   pub sim : Sim frames w m k
 
+-- both say the same of each of the references
+abbrev SameOn : List Reference → (Reference → Found) → (Reference → Found) → Type 0
+SameOn rs found found′ = (r : Reference) → List·Memᴰ r rs → found r ≡ found′ r
+
 -- ---- counts
-count-of : (m : Machine) (e : ℕ) → e < 8 → countOf (tallyOf m) e ≡ length (m .lists e)
+pub count-of : (m : Machine) (e : ℕ) → e < 8 → countOf (tallyOf m) e ≡ length (m .lists e)
 count-of m e h = getD-tabulated 8 (λ (f : ℕ). length (m .lists f)) e 0 h
 
 -- ---- a state in step passes 12
@@ -364,7 +368,7 @@ module _ (frames : List ℕ) (w : ℕ) (ok : Fine frames w) where
 
     read-own : (p : ℕ) (t : Cond) (found found′ : Reference → Found) (n : ℕ) → SameOn (references t) found found′ → pullRead t p found n ≡ pullRead t p found′ n
     unfolding pullRead
-    read-own p t found found′ n s = ap (λ (j : Judgement). cond (ltb n reportLeast) short (offered j)) (judgement-own found found′ p t s)
+    read-own p t found found′ n s = ap (λ (j : Judgement). cond (ltb n reportLeast) short (offered j)) (own-references p found found′ t s)
 
     result-own : (p : ℕ) (t : Cond) (found found′ : Reference → Found) (buffer : List ℕ) → SameOn (references t) found found′ → resultAt p t found buffer ≡ resultAt p t found′ buffer
     result-own p t found found′ buffer s =
