@@ -1,0 +1,5 @@
+//! Tests of the second checker.
+
+mod common;
+mod examples;
+mod vectors;
