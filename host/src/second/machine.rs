@@ -1,7 +1,8 @@
 //! The plain machine: opening, feeding and pulling with whole lists.
 
-use super::frames::{check, Rule};
+use super::frames::{check, Reference, Rule};
 use super::line::{read_line, Notes};
+use super::state::State;
 use super::verdict::{verdict, Status, Truth};
 use super::Refusal;
 
@@ -52,6 +53,7 @@ impl Totals {
 /// The plain machine of document 01.
 #[derive(Clone, Debug)]
 pub struct Machine {
+    frames: Vec<u8>,
     rule: Rule,
     w: u32,
     lists: [Vec<Notes>; EVENTS],
@@ -66,6 +68,7 @@ pub fn open(frames: &[u8], w: u32, window_len: usize) -> Result<Machine, Refusal
         return Err(Refusal::of(11));
     }
     Ok(Machine {
+        frames: frames.to_vec(),
         rule,
         w,
         lists: Default::default(),
@@ -162,8 +165,22 @@ impl Machine {
         self.totals
     }
 
+    /// What a checker's state carries after the same calls.
+    pub fn state(&self) -> State {
+        let mut state = State {
+            len: self.frames.len() as u32 / 8,
+            w: self.w,
+            counts: self.counts(),
+            p: self.p,
+            totals: self.totals,
+            ..State::zero()
+        };
+        state.frames[..self.frames.len()].copy_from_slice(&self.frames);
+        state
+    }
+
     fn statuses(&self, i: u32) -> Vec<Status> {
-        let status = |reference: &super::frames::Reference| {
+        let status = |reference: &Reference| {
             let Ok(occurrence) = usize::try_from(reference.occurrence(i)) else {
                 return Status::Void;
             };

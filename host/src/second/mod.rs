@@ -1,8 +1,8 @@
 //! The second checker: document 01 in plain Rust, with whole lists in place of a window.
 //!
 //! A rule flows `text` -> `grammar` -> `names`, `numbers` -> `postfix` -> `frames`; a log flows `line` ->
-//! `machine`, which asks `verdict`. `state` has the checks of a state that a caller hands in, `bench` the output of
-//! the bench program.
+//! `machine`, which asks `verdict`. `state` answers calls on a state and a window that a caller hands in, forged ones
+//! too; `bench` has the output of the bench program.
 
 #![forbid(unsafe_code)]
 
