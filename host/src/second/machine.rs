@@ -84,7 +84,7 @@ pub fn width_fits(w: u32) -> bool {
 
 /// Whether a window has its 32 x W words.
 pub fn window_fits(w: u32, window_len: usize) -> bool {
-    window_len as u128 == WORDS as u128 * u128::from(w)
+    window_len as u64 == WORDS as u64 * u64::from(w)
 }
 
 impl Machine {
