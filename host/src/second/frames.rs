@@ -1,0 +1,233 @@
+//! Frames as a rule tree, and what opening refuses of them: 9, 10, 7, 8.
+
+use super::Refusal;
+
+/// A note of one event, at an occurrence that depends on the instance.
+#[derive(Clone, Debug, PartialEq, Eq)]
+pub struct Reference {
+    pub event: usize,
+    pub note: usize,
+    pub factor: i64,
+    pub offset: i64,
+}
+
+impl Reference {
+    /// The occurrence number meant by instance i; below 0 there is none.
+    pub fn occurrence(&self, i: u32) -> i64 {
+        self.factor * i64::from(i) + self.offset
+    }
+}
+
+#[derive(Clone, Debug, PartialEq, Eq)]
+pub enum Sum {
+    Literal(i32),
+    Instance,
+    /// The reference's number in frame order.
+    Reference(usize),
+    Add(Box<Sum>, Box<Sum>),
+    Subtract(Box<Sum>, Box<Sum>),
+    Multiply(Box<Sum>, Box<Sum>),
+    Abs(Box<Sum>),
+}
+
+#[derive(Clone, Copy, Debug, PartialEq, Eq)]
+pub enum Relation {
+    Equal,
+    Unequal,
+    Less,
+    AtMost,
+    Greater,
+    AtLeast,
+}
+
+#[derive(Clone, Debug, PartialEq, Eq)]
+pub enum Condition {
+    Relation(Relation, Sum, Sum),
+    Not(Box<Condition>),
+    And(Box<Condition>, Box<Condition>),
+    Or(Box<Condition>, Box<Condition>),
+    Implies(Box<Condition>, Box<Condition>),
+}
+
+/// A rule: its condition, and its references in frame order.
+#[derive(Clone, Debug, PartialEq, Eq)]
+pub struct Rule {
+    pub condition: Condition,
+    pub references: Vec<Reference>,
+}
+
+impl Rule {
+    /// The smallest of max(0, factor x p + offset) over an event's references; nothing if it has none.
+    pub fn base(&self, event: usize, p: u32) -> Option<i64> {
+        self.references
+            .iter()
+            .filter(|reference| reference.event == event)
+            .map(|reference| reference.occurrence(p).max(0))
+            .min()
+    }
+}
+
+/// The rule that bytes hold, unless 9, 10, 7 or 8 refuses them, in this order.
+pub fn check(bytes: &[u8]) -> Result<Rule, Refusal> {
+    if !(8..=512).contains(&bytes.len()) || !bytes.len().is_multiple_of(8) {
+        return Err(Refusal::of(9));
+    }
+    let frames: Vec<[u8; 8]> = bytes
+        .chunks_exact(8)
+        .map(|frame| frame.try_into().expect("a frame has 8 bytes"))
+        .collect();
+    let rule = rule(&frames).map_err(|place| Refusal::at(10, place))?;
+    if rule.references.is_empty() {
+        return Err(Refusal::of(7));
+    }
+    if !within_magnitude(&rule.condition) {
+        return Err(Refusal::of(8));
+    }
+    Ok(rule)
+}
+
+/// A complete operand.
+enum Tree {
+    Sum(Sum),
+    Condition(Condition),
+}
+
+/// The rule of a list of frames, or the place of refusal 10.
+pub fn rule(frames: &[[u8; 8]]) -> Result<Rule, usize> {
+    let mut references = Vec::new();
+    let mut operands: Vec<Tree> = Vec::new();
+    for (place, frame) in frames.iter().enumerate() {
+        let tree = tree(frame, &mut operands, &mut references).ok_or(place)?;
+        operands.push(tree);
+        if stuck(&operands) {
+            return Err(place);
+        }
+    }
+    match (operands.pop(), operands.pop()) {
+        (Some(Tree::Condition(condition)), None) => Ok(Rule {
+            condition,
+            references,
+        }),
+        _ => Err(frames.len()),
+    }
+}
+
+/// Whether no further frames make one condition of these operands: no operator takes a sum to its left and a
+/// condition to its right.
+fn stuck(operands: &[Tree]) -> bool {
+    operands
+        .windows(2)
+        .any(|pair| matches!(pair, [Tree::Sum(_), Tree::Condition(_)]))
+}
+
+/// The tree that ends with a frame; nothing if a field or an operand is wrong.
+fn tree(
+    frame: &[u8; 8],
+    operands: &mut Vec<Tree>,
+    references: &mut Vec<Reference>,
+) -> Option<Tree> {
+    let [kind, event, note, factor, a, b, c, d] = *frame;
+    let word = i32::from_be_bytes([a, b, c, d]);
+    let unused = match kind {
+        0x01 => [event, note, factor] == [0; 3],
+        0x03 => true,
+        _ => frame[1..] == [0; 7],
+    };
+    if !unused {
+        return None;
+    }
+    let relation = |relation, operands: &mut Vec<Tree>| {
+        let (left, right) = two_sums(operands)?;
+        Some(Tree::Condition(Condition::Relation(
+            relation, *left, *right,
+        )))
+    };
+    match kind {
+        0x01 if word >= 0 => Some(Tree::Sum(Sum::Literal(word))),
+        0x02 => Some(Tree::Sum(Sum::Instance)),
+        0x03 => {
+            let fits = event <= 7
+                && note <= 3
+                && (1..=9).contains(&factor)
+                && (-9_999..=9_999).contains(&word);
+            if !fits {
+                return None;
+            }
+            references.push(Reference {
+                event: usize::from(event),
+                note: usize::from(note),
+                factor: i64::from(factor),
+                offset: i64::from(word),
+            });
+            Some(Tree::Sum(Sum::Reference(references.len() - 1)))
+        }
+        0x11 => two_sums(operands).map(|(left, right)| Tree::Sum(Sum::Add(left, right))),
+        0x12 => two_sums(operands).map(|(left, right)| Tree::Sum(Sum::Subtract(left, right))),
+        0x13 => two_sums(operands).map(|(left, right)| Tree::Sum(Sum::Multiply(left, right))),
+        0x14 => sum(operands).map(|inner| Tree::Sum(Sum::Abs(inner))),
+        0x21 => relation(Relation::Equal, operands),
+        0x22 => relation(Relation::Unequal, operands),
+        0x23 => relation(Relation::Less, operands),
+        0x24 => relation(Relation::AtMost, operands),
+        0x25 => relation(Relation::Greater, operands),
+        0x26 => relation(Relation::AtLeast, operands),
+        0x31 => condition(operands).map(|inner| Tree::Condition(Condition::Not(inner))),
+        0x32 => two_conditions(operands)
+            .map(|(left, right)| Tree::Condition(Condition::And(left, right))),
+        0x33 => two_conditions(operands)
+            .map(|(left, right)| Tree::Condition(Condition::Or(left, right))),
+        0x34 => two_conditions(operands)
+            .map(|(left, right)| Tree::Condition(Condition::Implies(left, right))),
+        _ => None,
+    }
+}
+
+fn sum(operands: &mut Vec<Tree>) -> Option<Box<Sum>> {
+    match operands.pop() {
+        Some(Tree::Sum(sum)) => Some(Box::new(sum)),
+        _ => None,
+    }
+}
+
+fn two_sums(operands: &mut Vec<Tree>) -> Option<(Box<Sum>, Box<Sum>)> {
+    let right = sum(operands)?;
+    Some((sum(operands)?, right))
+}
+
+fn condition(operands: &mut Vec<Tree>) -> Option<Box<Condition>> {
+    match operands.pop() {
+        Some(Tree::Condition(condition)) => Some(Box::new(condition)),
+        _ => None,
+    }
+}
+
+fn two_conditions(operands: &mut Vec<Tree>) -> Option<(Box<Condition>, Box<Condition>)> {
+    let right = condition(operands)?;
+    Some((condition(operands)?, right))
+}
+
+/// Whether no magnitude in a condition exceeds 2^62.
+pub fn within_magnitude(condition: &Condition) -> bool {
+    match condition {
+        Condition::Relation(_, left, right) => {
+            magnitude(left).is_some() && magnitude(right).is_some()
+        }
+        Condition::Not(inner) => within_magnitude(inner),
+        Condition::And(left, right)
+        | Condition::Or(left, right)
+        | Condition::Implies(left, right) => within_magnitude(left) && within_magnitude(right),
+    }
+}
+
+/// The magnitude of a sum, unless it or one inside exceeds 2^62.
+fn magnitude(sum: &Sum) -> Option<u128> {
+    let size = match sum {
+        Sum::Literal(value) => u128::from(value.unsigned_abs()),
+        Sum::Instance => 1 << 20,
+        Sum::Reference(_) => 1 << 31,
+        Sum::Add(left, right) | Sum::Subtract(left, right) => magnitude(left)? + magnitude(right)?,
+        Sum::Multiply(left, right) => magnitude(left)? * magnitude(right)?,
+        Sum::Abs(inner) => magnitude(inner)?,
+    };
+    (size <= 1 << 62).then_some(size)
+}

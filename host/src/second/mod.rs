@@ -1,0 +1,45 @@
+//! The second checker: document 01 in plain Rust, with whole lists in place of a window.
+//!
+//! A rule flows `text` -> `grammar` -> `names`, `numbers` -> `postfix` -> `frames`; a log flows `line` ->
+//! `machine`, which asks `verdict`. `state` answers calls on a state and a window that a caller hands in, forged ones
+//! too; `bench` has the output of the bench program.
+
+#![forbid(unsafe_code)]
+
+pub mod bench;
+pub mod frames;
+pub mod grammar;
+pub mod line;
+pub mod machine;
+pub mod names;
+pub mod numbers;
+pub mod postfix;
+pub mod reading;
+pub mod state;
+pub mod text;
+pub mod verdict;
+
+pub use bench::{bench, bench_with};
+pub use machine::{open, Fed, Machine, Pulled, Totals};
+pub use reading::{read, read_into};
+pub use state::State;
+pub use verdict::Truth;
+
+/// A refusal: document 01's number, and its place (0 if none is named).
+#[derive(Clone, Copy, Debug, PartialEq, Eq)]
+pub struct Refusal {
+    pub number: u8,
+    pub place: usize,
+}
+
+impl Refusal {
+    /// A refusal that has a place.
+    pub fn at(number: u8, place: usize) -> Refusal {
+        Refusal { number, place }
+    }
+
+    /// A refusal that has none.
+    pub fn of(number: u8) -> Refusal {
+        Refusal::at(number, 0)
+    }
+}
