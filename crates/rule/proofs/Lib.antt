@@ -21,6 +21,7 @@ pub mod Tables
 pub mod Marked
 pub mod Close
 pub mod Settle
+pub mod ReadText
 pub mod KindBytes
 pub mod Stack
 pub mod Prefix
