@@ -45,7 +45,7 @@ use Rattle.checker.proofs.Bases.{referenced-below}
 use Rattle.checker.proofs.Fresh.{opened-fine}
 use Rattle.checker.proofs.Lists.{in-step}
 
--- ---- answers told apart by a number: those of a refusal from 2 on
+-- ---- answers told apart by a number; a refusal has 5 more than its own
 abbrev codeOf : Answer → ℕ
 codeOf opened = 0
 codeOf accepted = 1

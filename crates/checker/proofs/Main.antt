@@ -26,9 +26,9 @@ use Rattle.checker.specs.Ring.{wordAt}
 use Rattle.checker.specs.Open.{openDef}
 use Rattle.checker.specs.Feed.{feedDef}
 use Rattle.checker.specs.Pull.{pullDef}
-use Rattle.checker.specs.Calls.{Call, Out, outs, end, checker}
+use Rattle.checker.specs.Calls.{Call, Out, outs, checker}
 use Rattle.checker.specs.Machine.{atFirst, tallyOf, machineFor}
-use Rattle.checker.specs.Demand.{Unrefused, fresh, answerOf, verdicts, span, totalsOf, acceptedIn, Reordered}
+use Rattle.checker.specs.Demand.{Unrefused, fresh, answerOf, span, totalsOf, checkerAfter, machineAfter, handedOut, acceptedIn, Reordered}
 use Rattle.checker.specs.declared.State.{State}
 use Rattle.checker.proofs.Lists
 use Rattle.checker.proofs.Final
@@ -46,18 +46,18 @@ module _ {frames : List ℕ} {w : ℕ} {win : List ℤ} (o : Unrefused frames w 
   third-answers = Lists.answers o cs
 
   -- the counts, p and totals in the state are the machine's
-  pub third-state : tallyIn (end checker cs (fresh frames w win) .state) ≡ tallyOf (end (machineFor frames w) cs atFirst)
+  pub third-state : tallyIn (checkerAfter frames w win cs .state) ≡ tallyOf (machineAfter frames w cs)
   third-state = Lists.state o cs
 
   -- the verdicts handed out are those of settled instances, from the first on, by the definition over the machine's lists after
   -- the last call
-  pub third-final : map settling.verdict (verdicts (outs checker cs (fresh frames w win)))
-      ≡ span firstInstance (length (verdicts (outs checker cs (fresh frames w win)))) (λ (i : ℕ). judgement i (foundIn (end (machineFor frames w) cs atFirst .lists) i) (treeOf frames))
+  pub third-final : map settling.verdict (handedOut frames w win cs)
+      ≡ span firstInstance (length (handedOut frames w win cs)) (λ (i : ℕ). judgement i (foundIn (machineAfter frames w cs .lists) i) (treeOf frames))
   third-final = Final.final o cs
 
   -- p and the totals in the state count them
-  pub third-totals : (end checker cs (fresh frames w win) .state .next .0 ≡ firstInstance + length (verdicts (outs checker cs (fresh frames w win))))
-      × (end checker cs (fresh frames w win) .state .totals ≡ totalsOf (verdicts (outs checker cs (fresh frames w win))))
+  pub third-totals : (checkerAfter frames w win cs .state .next .0 ≡ firstInstance + length (handedOut frames w win cs))
+      × (checkerAfter frames w win cs .state .totals ≡ totalsOf (handedOut frames w win cs))
   third-totals = Sums.sums o cs
 
   -- 12 and 13 never come
@@ -66,45 +66,44 @@ module _ {frames : List ℕ} {w : ℕ} {win : List ℤ} (o : Unrefused frames w 
 
   -- one call more: 'waiting' exactly where the buffer is long enough and the next instance is not settled by the machine's lists
   pub waiting-exactly : (buffer : List ℕ)
-      → (pullDef (end checker cs (fresh frames w win) .state) (end checker cs (fresh frames w win) .words) buffer .answer ≡ waiting)
+      → (pullDef (checkerAfter frames w win cs .state) (checkerAfter frames w win cs .words) buffer .answer ≡ waiting)
       ↔ ((reportLeast ≤ length buffer)
-      × (settled (end (machineFor frames w) cs atFirst .next) (foundIn (end (machineFor frames w) cs atFirst .lists) (end (machineFor frames w) cs atFirst .next)) (treeOf frames) ≡ false))
+      × (settled (machineAfter frames w cs .next) (foundIn (machineAfter frames w cs .lists) (machineAfter frames w cs .next)) (treeOf frames) ≡ false))
   waiting-exactly = Exactly.waiting-exactly o cs
 
   -- accepted exactly where the event is referenced, has fewer than 1,000,000 lines and has not reached base plus W
   pub accepted-exactly : (line : List ℕ) (e : ℕ) (a b c d : ℤ) → lineOf line ≡ log.line e a b c d
-      → (feedDef (end checker cs (fresh frames w win) .state) (end checker cs (fresh frames w win) .words) line .answer ≡ accepted)
+      → (feedDef (checkerAfter frames w win cs .state) (checkerAfter frames w win cs .words) line .answer ≡ accepted)
       ↔ ((referenced (references (treeOf frames)) e ≡ true)
-      × (length (end (machineFor frames w) cs atFirst .lists e) < lineLimit)
-      × (length (end (machineFor frames w) cs atFirst .lists e) < base (references (treeOf frames)) e (end (machineFor frames w) cs atFirst .next) + w))
+      × (length (machineAfter frames w cs .lists e) < lineLimit)
+      × (length (machineAfter frames w cs .lists e) < base (references (treeOf frames)) e (machineAfter frames w cs .next) + w))
   accepted-exactly = Exactly.accepted-exactly o cs
 
   -- 'window full' exactly where it has reached base plus W
   pub full-exactly : (line : List ℕ) (e : ℕ) (a b c d : ℤ) → lineOf line ≡ log.line e a b c d
-      → (feedDef (end checker cs (fresh frames w win) .state) (end checker cs (fresh frames w win) .words) line .answer ≡ refused 17 0)
+      → (feedDef (checkerAfter frames w win cs .state) (checkerAfter frames w win cs .words) line .answer ≡ refused 17 0)
       ↔ ((referenced (references (treeOf frames)) e ≡ true)
-      × (length (end (machineFor frames w) cs atFirst .lists e) < lineLimit)
-      × (base (references (treeOf frames)) e (end (machineFor frames w) cs atFirst .next) + w ≤ length (end (machineFor frames w) cs atFirst .lists e)))
+      × (length (machineAfter frames w cs .lists e) < lineLimit)
+      × (base (references (treeOf frames)) e (machineAfter frames w cs .next) + w ≤ length (machineAfter frames w cs .lists e)))
   full-exactly = Exactly.full-exactly o cs
 
   -- each accepted occurrence from base on is found in the window, all four notes
-  pub window-holds : (e k n : ℕ) → e < 8 → base (references (treeOf frames)) e (end (machineFor frames w) cs atFirst .next) ≤ k
-      → k < length (end (machineFor frames w) cs atFirst .lists e) → n < 4
-      → getD (end checker cs (fresh frames w win) .words) (wordAt w e k n) (pos 0) ≡ getD (getD (end (machineFor frames w) cs atFirst .lists e) k []) n (pos 0)
+  pub window-holds : (e k n : ℕ) → e < 8 → base (references (treeOf frames)) e (machineAfter frames w cs .next) ≤ k → k < length (machineAfter frames w cs .lists e) → n < 4
+      → getD (checkerAfter frames w win cs .words) (wordAt w e k n) (pos 0) ≡ getD (getD (machineAfter frames w cs .lists e) k []) n (pos 0)
   window-holds = Exactly.window-holds o cs
 
 -- ---- two lists for one rule, with any two windows
 module _ {frames : List ℕ} {w w′ : ℕ} {win win′ : List ℤ} (o : Unrefused frames w win) (o′ : Unrefused frames w′ win′) (cs cs′ : List Call) where
   -- where one's accepted lines begin the other's, event by event, verdicts that both hand out are equal
-  pub third-agree : MoreLines (end (machineFor frames w) cs atFirst .lists) (end (machineFor frames w′) cs′ atFirst .lists) → (i : ℕ)
-      → i < length (verdicts (outs checker cs (fresh frames w win))) → i < length (verdicts (outs checker cs′ (fresh frames w′ win′)))
-      → getD (verdicts (outs checker cs (fresh frames w win))) i Unknown ≡ getD (verdicts (outs checker cs′ (fresh frames w′ win′))) i Unknown
+  pub third-agree : MoreLines (machineAfter frames w cs .lists) (machineAfter frames w′ cs′ .lists) → (i : ℕ)
+      → i < length (handedOut frames w win cs) → i < length (handedOut frames w′ win′ cs′)
+      → getD (handedOut frames w win cs) i Unknown ≡ getD (handedOut frames w′ win′ cs′) i Unknown
   third-agree = Agree.agree o o′ cs cs′
 
   -- so it is after another order of lines between events and with later lines, whenever verdicts are pulled
   pub third-order : Reordered (acceptedIn frames w cs atFirst) (acceptedIn frames w′ cs′ atFirst) → (i : ℕ)
-      → i < length (verdicts (outs checker cs (fresh frames w win))) → i < length (verdicts (outs checker cs′ (fresh frames w′ win′)))
-      → getD (verdicts (outs checker cs (fresh frames w win))) i Unknown ≡ getD (verdicts (outs checker cs′ (fresh frames w′ win′))) i Unknown
+      → i < length (handedOut frames w win cs) → i < length (handedOut frames w′ win′ cs′)
+      → getD (handedOut frames w win cs) i Unknown ≡ getD (handedOut frames w′ win′ cs′) i Unknown
   third-order = Order.order o o′ cs cs′
 
 -- ---- opening is not refused exactly where the frames are a rule's within the limits, W is 1 to 256 and the window 32 × W words

@@ -12,8 +12,8 @@ use Rattle.verdict.specs.declared.Truth.the-variants.{True, False, Unknown}
 use Rattle.checker.specs.Answer.{Answer, opened, accepted, ignored, waiting, verdict, refused}
 use Rattle.checker.specs.Open.{openDef}
 use Rattle.checker.specs.Feed.{FeedRead, turned, skipped, taken}
-use Rattle.checker.specs.Calls.{Call, feed, pull, Out, fed, pulled, Checker}
-use Rattle.checker.specs.Machine.{Machine, machineFeed, machineFor}
+use Rattle.checker.specs.Calls.{Call, feed, pull, Out, fed, pulled, outs, end, Checker, checker}
+use Rattle.checker.specs.Machine.{Machine, atFirst, machineFeed, machineFor}
 use Rattle.checker.specs.declared.Totals.{Totals}
 
 -- "an unrefused opening"; the frames are bytes, as a slice of them is
@@ -66,6 +66,17 @@ countIn (x ∷ xs) v = isIt v x + countIn xs v
 
 abbrev pub totalsOf : List Truth → Totals
 totalsOf vs = record { held = countIn vs True; failed = countIn vs False; unknown = countIn vs Unknown }
+
+-- ---- after a list of calls, from an opening with these frames, this W and this window
+abbrev pub checkerAfter : List ℕ → ℕ → List ℤ → List Call → Checker
+checkerAfter frames w win cs = end checker cs (fresh frames w win)
+
+abbrev pub machineAfter : List ℕ → ℕ → List Call → Machine
+machineAfter frames w cs = end (machineFor frames w) cs atFirst
+
+-- the verdicts that the checker handed out
+abbrev pub handedOut : List ℕ → ℕ → List ℤ → List Call → List Truth
+handedOut frames w win cs = verdicts (outs checker cs (fresh frames w win))
 
 -- ---- accepted lines
 -- an accepted line: its event and its four notes
