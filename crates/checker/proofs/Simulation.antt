@@ -170,12 +170,6 @@ module _ (refs : List Reference) (w : ℕ) (m : Machine) (words : List ℤ) (wid
       → Live refs w (joined m e notes) (kept words w e (base refs e (m .next)) (length (m .lists e)) notes)
   live-joined e notes he hw f k n hf hb hk hn = ⊎-elim same other (same-or f e)
     where
-      B : ℕ
-      B = base refs e (m .next)
-
-      after : List ℤ
-      after = kept words w e (base refs e (m .next)) (length (m .lists e)) notes
-
       old : k < length (m .lists e) → base refs e (m .next) ≤ k → getD (kept words w e (base refs e (m .next)) (length (m .lists e)) notes) (wordAt w e k n) (pos 0) ≡ getD (getD (m .lists e ++ (notes ∷ [])) k []) n (pos 0)
       old l b =
           kept-old w words notes wide e (base refs e (m .next)) (length (m .lists e)) k n l (omega arith) hn
@@ -260,9 +254,6 @@ inv-moved refs w m v i l =
     }
 
 module _ (frames : List ℕ) (w : ℕ) (ok : Fine frames w) where
-  abbrev rule : Cond
-  rule = treeOf frames
-
   abbrev refs : List Reference
   refs = references (treeOf frames)
 
