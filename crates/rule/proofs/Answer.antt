@@ -15,7 +15,6 @@ use Rattle.rule.specs.Memory.{Mem, fresh, remember, told, fields}
 use Rattle.rule.proofs.Walk.{readRule}
 use Rattle.rule.proofs.Rules.{taken, sound, refused-at}
 use Rattle.rule.proofs.Registers.{told-right}
-use Rattle.rule.proofs.Bytes.{fill, each, bytes-read}
 
 -- the answer as two numbers: refusals 3 to 6 with their places, or 0 and the number of frames
 abbrev pub answered : Answer Mem → ℕ × ℕ

@@ -16,19 +16,10 @@ use Rattle.rule.specs.Grammar.{Cond, Rule, rule}
 use Rattle.rule.specs.Measure.{Draft, frames, framesCond, names}
 use Rattle.rule.specs.Machine.{Act, declare, uses, sized, enter, out}
 use Rattle.rule.specs.Judge.{among, codes, first-name}
-use Rattle.rule.specs.Memory.{Mem, fresh, table, put, fields, misnamed, remember, blame, enlist}
+use Rattle.rule.specs.Memory.{Mem, fresh, table, put, fill, each, fields, misnamed, remember, blame, enlist}
 use Rattle.rule.proofs.Walk.{readCond, readNames, readRule}
 use Rattle.rule.proofs.Measures.{note-frame, frames-cond}
 use Rattle.rule.proofs.Registers.{Body, sim-cond, length-snoc, unblamed, untouched, count-kept, names-listed}
-
--- frames put one after the other, from place k on
-abbrev pub fill : ℕ → List Fields → List ℕ → List ℕ
-fill k [] b = b
-fill k (f ∷ fs) b = fill (k + 1) fs (put b k f)
-
-abbrev pub each : {A B : Type 0} → (A → B) → List A → List B
-each g [] = []
-each g (x ∷ xs) = g x ∷ each g xs
 
 each-snoc : {A B : Type 0} (g : A → B) (l : List A) (x : A) → each g (l ++ x ∷ []) ≡ each g l ++ g x ∷ []
 each-snoc g [] x = refl

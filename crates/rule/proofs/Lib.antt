@@ -22,6 +22,7 @@ pub mod Marked
 pub mod Close
 pub mod Settle
 pub mod ReadText
+pub mod ReadExactly
 pub mod KindBytes
 pub mod Stack
 pub mod Prefix

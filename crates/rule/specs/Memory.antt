@@ -73,6 +73,15 @@ put b k f =
     (k * frameBytes + 7) (f .word % 256))
     b
 
+-- frames put one after the other, from place k on
+abbrev pub fill : ℕ → List Fields → List ℕ → List ℕ
+fill k [] b = b
+fill k (f ∷ fs) b = fill (k + 1) fs (put b k f)
+
+abbrev pub each : {A B : Type 0} → (A → B) → List A → List B
+each g [] = []
+each g (x ∷ xs) = g x ∷ each g xs
+
 -- a frame is counted, up to 65, and put
 abbrev pub written : Fields → Mem → Mem
 written f m =

@@ -9,7 +9,11 @@ use Rattle.rule.specs.Limits.{frameLimit, frameBytes}
 use Rattle.rule.specs.ReadLimits.{textLimit}
 use Rattle.rule.specs.Token.{tokens}
 use Rattle.rule.specs.Machine.{start, Answer, accepted, refused, run}
-use Rattle.rule.specs.Memory.{Mem, fresh, told, acts, mem}
+use Rattle.rule.specs.Memory.{Mem, fresh, told, fill, each, fields, codeAt, valueAt, acts, mem}
+use Rattle.rule.specs.Grammar.{Rule}
+use Rattle.rule.specs.Measure.{frames, names}
+use Rattle.rule.specs.Judge.{codes}
+use Rattle.rule.specs.declared.parts.Role.the-variants.{Event, Note}
 use Rattle.rule.specs.Check.{checkedOf}
 use Rattle.rule.specs.declared.Checked.{Checked}
 use Rattle.rule.specs.declared.Checked.the-variants.{Accepted, Refused}
@@ -52,6 +56,11 @@ readOf text b =
     (cond (ltb textLimit (length text)) (refusedAs 2 0, b)
     (afterGrammar b (judged text))))
     (refusedAs 1 0, b)
+
+-- ---- for the theorems: the bytes of a tree's frames, with its names looked up among those that it declares, and zero after the last
+abbrev pub treeBytes : List ℕ → Rule → List ℕ
+treeBytes text x =
+    fill 0 (each (fields (codeAt text) (valueAt text) (codes (codeAt text) (valueAt text) Event (names x)) (codes (codeAt text) (valueAt text) Note (names x))) (frames x)) (replicate bufferBytes 0)
 
 -- ---- for the code's own contracts
 -- the registers at first
