@@ -23,6 +23,8 @@ pub mod Close
 pub mod Settle
 pub mod ReadText
 pub mod ReadExactly
+pub mod ReadAnswers
+pub mod ReadPlaces
 pub mod KindBytes
 pub mod Stack
 pub mod Prefix

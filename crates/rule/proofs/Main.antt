@@ -28,6 +28,28 @@ use Rattle.rule.proofs.Accept
 use Rattle.rule.proofs.Count
 use Rattle.rule.proofs.Opening
 use Rattle.rule.proofs.Exactly
+use mathlib.Core.List.{[]}
+use mathlib.Core.Option.{none}
+use Prim.Native.Nat.{_*_, min}
+use lib.ListN.{take}
+use Rattle.rule.specs.Limits.{frameBytes}
+use Rattle.rule.specs.ReadLimits.{textLimit}
+use Rattle.rule.specs.Grammar.{Rule, yield, Wrong-at}
+use Rattle.rule.specs.Grammar.{words as spelled}
+use Rattle.rule.specs.Measure.{frames, depth, names, numbers}
+use Rattle.rule.specs.Judge.{first-name}
+use Rattle.rule.specs.Memory.{codeAt, valueAt}
+use Rattle.rule.specs.Reading.{bufferBytes, refusedAs, readOf}
+use Rattle.rule.specs.Answers.{Spelled, Answered}
+use Rattle.rule.specs.Answers as answers
+use Rattle.rule.specs.declared.Token.{Token}
+use Rattle.rule.specs.declared.Reading.the-variants as reading
+use Rattle.rule.proofs.ReadExactly.{Read}
+use Rattle.rule.proofs.ReadPlaces.{BadName, BadNumber}
+use Rattle.rule.proofs.ReadText
+use Rattle.rule.proofs.ReadExactly
+use Rattle.rule.proofs.ReadAnswers
+use Rattle.rule.proofs.ReadPlaces
 
 -- ---- text
 
@@ -103,3 +125,38 @@ count-references = Count.count-of
 -- every answer, 9, 10, 7, 8 or accepted, in the words of trees
 pub opening-iff : {s : List ℕ} → Bytes s → (o : Checked) → (checkedOf s ≡ o) ↔ Opening s o
 opening-iff = Opening.opening-iff
+
+-- ---- reading
+
+-- each answer of `read`, with what holds of the text and what the earlier checks leave: 1 to 8 in their order
+pub read-answers : (text b : List ℕ) → Answered text b (readOf text b)
+read-answers = ReadAnswers.answered
+
+-- accepted: exactly the texts that a tree within the limits spells, and the buffer holds that tree's frames, zero after the last
+pub reads-exactly : (text b : List ℕ) → length b ≡ bufferBytes → (length text ≡ 0 → ⊥) → length text ≤ textLimit → (n : ℕ) (s : List ℕ)
+    → (readOf text b ≡ (reading.Frames n, s)) ↔ (Read text n s × (checkedOf (take (n * frameBytes) s) ≡ Accepted))
+reads-exactly = ReadExactly.reads-exactly
+
+-- two trees of one text have the same frames, names and numbers, and the same depth up to 17
+pub unambiguous : (x y : Rule) (ts : List Token) → yield x ≡ spelled ts → yield y ≡ spelled ts → (frames x ≡ frames y) × (names x ≡ names y) × (numbers x ≡ numbers y) × (min 17 (depth x) ≡ min 17 (depth y))
+unambiguous = ReadAnswers.unambiguous
+
+-- refused with 3 at p: exactly where p is the first token that with those before it begins no rule, or the length
+pub place-3 : (text b : List ℕ) → length b ≡ bufferBytes → answers.Sized (length text) → (p : ℕ) → (readOf text b .0 ≡ refusedAs 3 p) ↔ Wrong-at (length text) (tokens text) p
+place-3 = ReadPlaces.place-3
+
+-- refused with 4 at p: exactly where p is the tree's first bad name
+pub place-4 : (text b : List ℕ) → length b ≡ bufferBytes → (x : Rule) → Spelled text x → (p : ℕ) → (readOf text b .0 ≡ refusedAs 4 p) ↔ BadName text b x p
+place-4 = ReadPlaces.place-4
+
+-- refused with 5 at p: exactly where no name is bad, and p is the tree's first number beyond its limit
+pub place-5 : (text b : List ℕ) → length b ≡ bufferBytes → (x : Rule) → Spelled text x → first-name (codeAt text) (valueAt text) [] (names x) ≡ none → (p : ℕ) → (readOf text b .0 ≡ refusedAs 5 p) ↔ BadNumber text b x p
+place-5 = ReadPlaces.place-5
+
+-- what `read` fills, `check` accepts
+pub read-opens : (text b : List ℕ) (n : ℕ) (s : List ℕ) → readOf text b ≡ (reading.Frames n, s) → checkedOf (take (n * frameBytes) s) ≡ Accepted
+read-opens = ReadText.read-opens
+
+-- a refusal leaves the buffer as it was
+pub refused-unchanged : (text b : List ℕ) (k p : ℕ) (s : List ℕ) → readOf text b ≡ (refusedAs k p, s) → s ≡ b
+refused-unchanged = ReadText.refused-unchanged

@@ -1,6 +1,6 @@
 -- `read` accepts exactly the texts that a tree within the limits spells, and fills that tree's frames. Assumes nothing.
 use mathlib.Core.Path.{_≡_, refl, ap, sym, subst, _∙_}
-use mathlib.Core.Logic.{_⊎_, inl, inr}
+use mathlib.Core.Logic.{_↔_, _⊎_, inl, inr}
 use mathlib.Core.Bool.{Bool, true, false, cond}
 use mathlib.Core.List.{List, []}
 use mathlib.Core.Option.{Option, none, some}
@@ -70,15 +70,15 @@ settled-frames b m n s e f =
 no-frames : (r : Reading) (k p n : ℕ) → r ≡ refusedAs k p → r ≡ reading.Frames n → ⊥
 no-frames r k p n e f = let z : _≡_ {A = ℕ} 0 1 = cc in omega arith
 
-module _ (text b : List ℕ) (fit : length b ≡ 512) (some-text : length text ≡ 0 → ⊥) (short : length text ≤ 1024) where
-  -- a tree that spells the text, within the limits 4 to 6, and the frames that it has
-  pub record Read (n : ℕ) (s : List ℕ) : Type 0 where
-    pub tree : Rule
-    pub spells : yield tree ≡ words (tokens text)
-    pub within : verdict (codeAt text) (valueAt text) tree ≡ read-as (frames tree)
-    pub count : n ≡ length (frames tree)
-    pub bytes : s ≡ treeBytes text tree
+-- a tree that spells the text, within the limits 4 to 6, and the frames that it has
+pub record Read (text : List ℕ) (n : ℕ) (s : List ℕ) : Type 0 where
+  pub tree : Rule
+  pub spells : yield tree ≡ words (tokens text)
+  pub within : verdict (codeAt text) (valueAt text) tree ≡ read-as (frames tree)
+  pub count : n ≡ length (frames tree)
+  pub bytes : s ≡ treeBytes text tree
 
+module _ (text b : List ℕ) (fit : length b ≡ 512) (some-text : length text ≡ 0 → ⊥) (short : length text ≤ 1024) where
   told-tree : (x : Rule) → verdict (codeAt text) (valueAt text) x ≡ read-as (frames x) → told (readRule Mem (acts text) x (fresh (replicate 512 0))) ≡ (0, length (frames x))
   unfolding acts
   told-tree x v = told-right (codeAt text) (valueAt text) (replicate 512 0) x ∙ ap (λ (q : Verdict). telling q) v
@@ -98,7 +98,7 @@ module _ (text b : List ℕ) (fit : length b ≡ 512) (some-text : length text �
       in-grammar text b fit some-text short x y ∙ (z .0 ∙ ap (λ (w : Checked). afterCheck b (readRule Mem (acts text) x (fresh (replicate 512 0))) w) q)
 
   -- what a tree within the limits spells is read as its frames, if 7 and 8 do not refuse them
-  pub tree-read : (n : ℕ) (s : List ℕ) → Read n s → checkedOf (take (n * 8) s) ≡ Accepted → readOf text b ≡ (reading.Frames n, s)
+  pub tree-read : (n : ℕ) (s : List ℕ) → Read text n s → checkedOf (take (n * 8) s) ≡ Accepted → readOf text b ≡ (reading.Frames n, s)
   tree-read n s r a =
       let x = r .tree in
       let e = no-name x (verdict (codeAt text) (valueAt text) x) (judged-as (codeAt text) (valueAt text) x) (r .within) in
@@ -111,18 +111,18 @@ module _ (text b : List ℕ) (fit : length b ≡ 512) (some-text : length text �
       pairs e f = rw (e, f)
 
   -- 7 or 8 of the tree's frames
-  pub tree-refused : (n : ℕ) (s : List ℕ) → Read n s → (k p : ℕ) → checkedOf (take (n * 8) s) ≡ Refused (record { number = k; place = p }) → readOf text b ≡ (refusedAs k p, b)
+  pub tree-refused : (n : ℕ) (s : List ℕ) → Read text n s → (k p : ℕ) → checkedOf (take (n * 8) s) ≡ Refused (record { number = k; place = p }) → readOf text b ≡ (refusedAs k p, b)
   tree-refused n s r k p a =
       let x = r .tree in
       let e = no-name x (verdict (codeAt text) (valueAt text) x) (judged-as (codeAt text) (valueAt text) x) (r .within) in
       answer x (r .spells) (r .within) e (Refused (record { number = k; place = p }))
       (subst (λ (l : List ℕ). checkedOf (take (length (frames x) * 8) l) ≡ Refused (record { number = k; place = p })) (r .bytes) (subst (λ (j : ℕ). checkedOf (take (j * 8) s) ≡ Refused (record { number = k; place = p })) (r .count) a))
 
-  from-tree : (n : ℕ) (s : List ℕ) → readOf text b ≡ (reading.Frames n, s) → (x : Rule) → yield x ≡ words (tokens text) → (v : Verdict) → verdict (codeAt text) (valueAt text) x ≡ v → Judged (codeAt text) (valueAt text) x v → Read n s
+  from-tree : (n : ℕ) (s : List ℕ) → readOf text b ≡ (reading.Frames n, s) → (x : Rule) → yield x ≡ words (tokens text) → (v : Verdict) → verdict (codeAt text) (valueAt text) x ≡ v → Judged (codeAt text) (valueAt text) x v → Read text n s
   from-tree n s q x y v w (refuses k p ne) = absurd (no-frames (readOf text b .0) k p n (ap (λ (z : Reading × List ℕ). z .0) (as-judged text b fit some-text short x y k p w ne)) (ap (λ (z : Reading × List ℕ). z .0) q))
   from-tree n s q x y v w (reads e) = go (checkedOf (take (length (frames x) * 8) (treeBytes text x))) refl
     where
-      go : (a : Checked) → checkedOf (take (length (frames x) * 8) (treeBytes text x)) ≡ a → Read n s
+      go : (a : Checked) → checkedOf (take (length (frames x) * 8) (treeBytes text x)) ≡ a → Read text n s
       go (Refused r) f = absurd (no-frames (readOf text b .0) (r .number) (r .place) n (ap (λ (z : Reading × List ℕ). z .0) (answer x y w e (Refused r) f)) (ap (λ (z : Reading × List ℕ). z .0) q))
       go Accepted f =
           let m = readRule Mem (acts text) x (fresh (replicate 512 0)) in
@@ -140,9 +140,12 @@ module _ (text b : List ℕ) (fit : length b ≡ 512) (some-text : length text �
           same-count i j z = cc
 
   -- and nothing else is
-  pub read-tree : (n : ℕ) (s : List ℕ) → readOf text b ≡ (reading.Frames n, s) → Read n s × (checkedOf (take (n * 8) s) ≡ Accepted)
+  pub read-tree : (n : ℕ) (s : List ℕ) → readOf text b ≡ (reading.Frames n, s) → Read text n s × (checkedOf (take (n * 8) s) ≡ Accepted)
   read-tree n s q = (go (either text b fit some-text short), read-opens text b n s q)
     where
-      go : ((x : Rule) × (yield x ≡ words (tokens text))) ⊎ ((p : ℕ) × Wrong-at (length text) (tokens text) p) → Read n s
+      go : ((x : Rule) × (yield x ≡ words (tokens text))) ⊎ ((p : ℕ) × Wrong-at (length text) (tokens text) p) → Read text n s
       go (inl (x, y)) = from-tree n s q x y (verdict (codeAt text) (valueAt text) x) refl (judged-as (codeAt text) (valueAt text) x)
       go (inr (p, w)) = absurd (no-frames (readOf text b .0) 3 p n (ap (λ (z : Reading × List ℕ). z .0) (outside text b fit some-text short p w)) (ap (λ (z : Reading × List ℕ). z .0) q))
+
+  pub reads-exactly : (n : ℕ) (s : List ℕ) → (readOf text b ≡ (reading.Frames n, s)) ↔ (Read text n s × (checkedOf (take (n * 8) s) ≡ Accepted))
+  reads-exactly n s = (read-tree n s, λ r. tree-read n s (r .0) (r .1))

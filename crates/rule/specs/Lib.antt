@@ -20,3 +20,4 @@ pub mod Build
 pub mod Check
 pub mod Opening
 pub mod Reading
+pub mod Answers

@@ -1,0 +1,96 @@
+-- Each answer of `read` says what is so of the text; and two trees of one text are alike. Assumes nothing.
+use mathlib.Core.Path.{_≡_, refl, ap, sym, subst, _∙_}
+use mathlib.Core.Logic.{_⊎_, inl, inr}
+use mathlib.Core.Bool.{Bool, true, false, cond}
+use mathlib.Core.List.{List, []}
+use mathlib.Core.Option.{Option, none, some}
+use Prim.Native.Nat.{ℕ, _*_, _≤_, _<_, min}
+use native.Mathlib.Omega.{arith}
+use borrow.Author.Tests.{eqb-true, eqb-false, ltb-true, ltb-false, lt-ltb, le-ltb}
+use lib.Dec.{ltb, eqb}
+use lib.ListN.{length, take}
+use Rattle.rule.specs.Token.{tokens}
+use Rattle.rule.specs.Grammar.{Rule, yield, words, Wrong-at}
+use Rattle.rule.specs.Measure.{Draft, Named, Sized, frames, depth, names, numbers}
+use Rattle.rule.specs.Judge.{Verdict, refused-by, read-as, first-name, first-number, after-number, after-name, verdict}
+use Rattle.rule.specs.Memory.{codeAt, valueAt}
+use Rattle.rule.specs.Check.{checkedOf}
+use Rattle.rule.specs.Reading.{refusedAs, readOf, treeBytes}
+use Rattle.rule.specs.Answers.{Spelled, Within, Answered, refused-1, refused-2, refused-3, refused-4, refused-5, refused-6, refused-check, accepted}
+use Rattle.rule.specs.Answers as answers
+use Rattle.rule.specs.declared.Token.{Token}
+use Rattle.rule.specs.declared.Checked.{Checked}
+use Rattle.rule.specs.declared.Checked.the-variants.{Accepted, Refused}
+use Rattle.rule.specs.declared.Reading.{Reading}
+use Rattle.rule.specs.declared.parts.Place.{Place}
+use Rattle.rule.proofs.Rules.{alike}
+use Rattle.rule.proofs.Measures.{note-frame, note-name, note-number, note-depth, frames-read, names-read, numbers-read}
+use Rattle.rule.proofs.Depth.{depth-read}
+use Rattle.rule.proofs.Settle.{one, two-none, two-many}
+use Rattle.rule.proofs.ReadText.{outside, as-judged, either}
+use Rattle.rule.proofs.ReadExactly.{Read, tree-read, tree-refused}
+
+-- ---- two trees of one text are alike
+pub unambiguous : (x y : Rule) (ts : List Token) → yield x ≡ words ts → yield y ≡ words ts → (frames x ≡ frames y) × (names x ≡ names y) × (numbers x ≡ numbers y) × (min 17 (depth x) ≡ min 17 (depth y))
+unambiguous x y ts e f =
+    (sym (frames-read x) ∙ (alike (List Draft) note-frame 0 [] x y ts e f ∙ frames-read y),
+    sym (names-read x) ∙ (alike (List Named) note-name 0 [] x y ts e f ∙ names-read y),
+    sym (numbers-read x) ∙ (alike (List Sized) note-number 0 [] x y ts e f ∙ numbers-read y),
+    sym (depth-read x) ∙ (alike ℕ note-depth 0 0 x y ts e f ∙ depth-read y))
+
+-- ---- the answers
+module _ (text b : List ℕ) (fit : length b ≡ 512) (size : answers.Sized (length text)) where
+  module _ (x : Rule) (y : yield x ≡ words (tokens text)) where
+    spelled : Spelled text x
+    spelled = record { sized = size; spells = y }
+
+    judged : (k p : ℕ) → verdict (codeAt text) (valueAt text) x ≡ refused-by k p → (k ≡ 0 → ⊥) → readOf text b ≡ (refusedAs k p, b)
+    judged = as-judged text b fit (size .some-bytes) (size .few-bytes) x y
+
+    back : (a : Reading × List ℕ) → readOf text b ≡ a → Answered text b a → Answered text b (readOf text b)
+    back a e = subst (λ (z : Reading × List ℕ). Answered text b z) (sym e)
+
+    by-check : Within text x → verdict (codeAt text) (valueAt text) x ≡ read-as (frames x) → (a : Checked) → checkedOf (take (length (frames x) * 8) (treeBytes text x)) ≡ a → Answered text b (readOf text b)
+    by-check w v Accepted e = back _ (tree-read text b fit (size .some-bytes) (size .few-bytes) (length (frames x)) (treeBytes text x) (record { tree = x; spells = y; within = v; count = refl; bytes = refl }) e) (accepted fit w e)
+    by-check w v (Refused r) e =
+        back _ (tree-refused text b fit (size .some-bytes) (size .few-bytes) (length (frames x)) (treeBytes text x) (record { tree = x; spells = y; within = v; count = refl; bytes = refl }) (r .number) (r .place) e) (refused-check fit w e)
+
+    by-six : first-name (codeAt text) (valueAt text) [] (names x) ≡ none → first-number (codeAt text) (valueAt text) (numbers x) ≡ none
+        → verdict (codeAt text) (valueAt text) x ≡ cond (ltb 16 (depth x)) (refused-by 6 0) (cond (ltb 64 (length (frames x))) (refused-by 6 0) (read-as (frames x)))
+        → (q r : Bool) → ltb 16 (depth x) ≡ q → ltb 64 (length (frames x)) ≡ r → Answered text b (readOf text b)
+    by-six e f v true r g h = back _ (judged 6 0 (v ∙ rw g) (λ z. omega arith)) (refused-6 fit spelled e f (inl (ltb-true 16 (depth x) g)))
+    by-six e f v false true g h = back _ (judged 6 0 (v ∙ rw (g, h)) (λ z. omega arith)) (refused-6 fit spelled e f (inr (ltb-true 64 (length (frames x)) h)))
+    by-six e f v false false g h =
+        by-check (record { spelled = spelled; names-good = e; numbers-good = f; shallow = ltb-false 16 (depth x) g; few-frames = ltb-false 64 (length (frames x)) h }) (v ∙ rw (g, h)) (checkedOf (take (length (frames x) * 8) (treeBytes text x))) refl
+
+    by-five : first-name (codeAt text) (valueAt text) [] (names x) ≡ none → verdict (codeAt text) (valueAt text) x ≡ after-number (codeAt text) (valueAt text) x (first-number (codeAt text) (valueAt text) (numbers x))
+        → (o : Option Place) → first-number (codeAt text) (valueAt text) (numbers x) ≡ o → Answered text b (readOf text b)
+    by-five e v (some q) f = back _ (judged 5 (q .start) (v ∙ ap (λ (o : Option Place). after-number (codeAt text) (valueAt text) x o) f) (λ z. omega arith)) (refused-5 fit spelled e f)
+    by-five e v none f = by-six e f (v ∙ ap (λ (o : Option Place). after-number (codeAt text) (valueAt text) x o) f) (ltb 16 (depth x)) (ltb 64 (length (frames x))) refl refl
+
+    by-four : (o : Option Place) → first-name (codeAt text) (valueAt text) [] (names x) ≡ o → Answered text b (readOf text b)
+    by-four (some q) e = back _ (judged 4 (q .start) (ap (λ (o : Option Place). after-name (codeAt text) (valueAt text) x o) e) (λ z. omega arith)) (refused-4 fit spelled e)
+    by-four none e = by-five e (ap (λ (o : Option Place). after-name (codeAt text) (valueAt text) x o) e) (first-number (codeAt text) (valueAt text) (numbers x)) refl
+
+  in-text : ((x : Rule) × (yield x ≡ words (tokens text))) ⊎ ((p : ℕ) × Wrong-at (length text) (tokens text) p) → Answered text b (readOf text b)
+  in-text (inl (x, y)) = by-four x y (first-name (codeAt text) (valueAt text) [] (names x)) refl
+  in-text (inr (p, w)) = subst (λ (z : Reading × List ℕ). Answered text b z) (sym (outside text b fit (size .some-bytes) (size .few-bytes) p w)) (refused-3 fit size w)
+
+pub answered : (text b : List ℕ) → Answered text b (readOf text b)
+answered text b = go (eqb (length b) 512) refl (eqb (length text) 0) refl (ltb 1024 (length text)) refl
+  where
+    go : (x : Bool) → eqb (length b) 512 ≡ x → (y : Bool) → eqb (length text) 0 ≡ y → (z : Bool) → ltb 1024 (length text) ≡ z → Answered text b (readOf text b)
+    go false e y f z g = let h = eqb-false (length b) 512 e in subst (λ (a : Reading × List ℕ). Answered text b a) (sym (one text b h)) (refused-1 h)
+    go true e true f z g =
+        let h = eqb-true (length b) 512 e in
+        let i = eqb-true (length text) 0 f in
+        subst (λ (a : Reading × List ℕ). Answered text b a) (sym (two-none text b h i)) (refused-2 h (λ s. s .some-bytes i))
+    go true e false f true g =
+        let h = eqb-true (length b) 512 e in
+        let i = eqb-false (length text) 0 f in
+        let l : 1024 < length text = ltb-true 1024 (length text) g in
+        subst (λ (a : Reading × List ℕ). Answered text b a) (sym (two-many text b h i l)) (refused-2 h (λ s. let q = s .few-bytes in omega arith))
+    go true e false f false g =
+        let h = eqb-true (length b) 512 e in
+        let s : answers.Sized (length text) = record { some-bytes = eqb-false (length text) 0 f; few-bytes = ltb-false 1024 (length text) g } in
+        in-text text b h s (either text b h (s .some-bytes) (s .few-bytes))
