@@ -1,1 +1,5 @@
 pub mod Marked
+pub mod CodeCopy
+pub mod CodeBase
+pub mod CodeRing
+pub mod CodeFeed

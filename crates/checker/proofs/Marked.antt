@@ -86,61 +86,81 @@ abbrev table : List Example
 table =
     -- M1
     record {
-      rule = latency; width = 4; opening = opened;
+      rule = latency;
+      width = 4;
+      opening = opened;
       calls = line 0 10 ∷ line 1 35 ∷ next ∷ [];
       answers = accepted ∷ accepted ∷ verdict True ∷ [];
     }
     -- M2
     ∷ record {
-      rule = latency; width = 4; opening = opened;
+      rule = latency;
+      width = 4;
+      opening = opened;
       calls = line 0 10 ∷ line 1 36 ∷ next ∷ [];
       answers = accepted ∷ accepted ∷ verdict False ∷ [];
     }
     -- M3
     ∷ record {
-      rule = latency; width = 4; opening = opened;
+      rule = latency;
+      width = 4;
+      opening = opened;
       calls = line 0 10 ∷ next ∷ [];
       answers = accepted ∷ waiting ∷ [];
     }
     -- M4: a[10] to a[19] settle instances 0 to 9
     ∷ record {
-      rule = after003; width = 16; opening = opened;
+      rule = after003;
+      width = 16;
+      opening = opened;
       calls = replicate 10 (line 0 0) ++ (replicate 10 (line 0 200) ++ (replicate 10 next ++ (line 0 200 ∷ next ∷ [])));
       answers = replicate 20 accepted ++ (replicate 10 (verdict True) ++ (accepted ∷ verdict True ∷ []));
     }
     -- M5: a[10] to a[13] settle instances 0 to 3
     ∷ record {
-      rule = after003; width = 16; opening = opened;
+      rule = after003;
+      width = 16;
+      opening = opened;
       calls = replicate 10 (line 0 0) ++ (replicate 4 (line 0 200) ++ (replicate 4 next ++ (line 0 200 ∷ next ∷ [])));
       answers = replicate 14 accepted ++ (replicate 4 (verdict True) ++ (accepted ∷ verdict True ∷ []));
     }
     -- M6
     ∷ record {
-      rule = after003; width = 16; opening = opened;
+      rule = after003;
+      width = 16;
+      opening = opened;
       calls = replicate 10 (line 0 0) ++ (replicate 4 (line 0 200) ++ (replicate 4 next ++ (line 0 100 ∷ next ∷ [])));
       answers = replicate 14 accepted ++ (replicate 4 (verdict True) ++ (accepted ∷ verdict Unknown ∷ []));
     }
     -- M7
     ∷ record {
-      rule = after003; width = 16; opening = opened;
+      rule = after003;
+      width = 16;
+      opening = opened;
       calls = replicate 10 (line 0 0) ++ (replicate 4 (line 0 200) ++ (replicate 4 next ++ (next ∷ [])));
       answers = replicate 14 accepted ++ (replicate 4 (verdict True) ++ (waiting ∷ []));
     }
     -- M8
     ∷ record {
-      rule = twoBefore; width = 4; opening = opened;
+      rule = twoBefore;
+      width = 4;
+      opening = opened;
       calls = next ∷ next ∷ next ∷ [];
       answers = verdict Unknown ∷ verdict Unknown ∷ waiting ∷ [];
     }
     -- M9
     ∷ record {
-      rule = orTrue; width = 4; opening = opened;
+      rule = orTrue;
+      width = 4;
+      opening = opened;
       calls = next ∷ [];
       answers = waiting ∷ [];
     }
     -- M10: −2,147,483,648
     ∷ record {
-      rule = greatest; width = 4; opening = opened;
+      rule = greatest;
+      width = 4;
+      opening = opened;
       calls = line 0 0x80000000 ∷ next ∷ [];
       answers = accepted ∷ verdict True ∷ [];
     }
@@ -149,7 +169,9 @@ table =
     ∷ record { rule = relation more (arithmetic add product (literal 1)) (literal 0); width = 4; opening = refused 8 0; calls = []; answers = [] }
     -- M12 and M13: W 1
     ∷ record {
-      rule = latency; width = 1; opening = opened;
+      rule = latency;
+      width = 1;
+      opening = opened;
       calls = line 0 10 ∷ line 0 20 ∷ line 1 30 ∷ next ∷ line 0 20 ∷ [];
       answers = accepted ∷ refused 17 0 ∷ accepted ∷ verdict True ∷ accepted ∷ [];
     }

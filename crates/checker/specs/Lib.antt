@@ -11,3 +11,5 @@ pub mod Report
 pub mod Pull
 pub mod Calls
 pub mod Machine
+pub mod Within
+pub mod Lows

@@ -19,9 +19,9 @@ wordAt w e k n = (e * w + ringPlace w k) * 4 + n
 unfoldable pub stored : List ℤ → ℕ → ℕ → ℕ → List ℤ → List ℤ
 stored win w e k notes =
     set (set (set (set win (wordAt w e k 0) (getD notes 0 (pos 0)))
-      (wordAt w e k 1) (getD notes 1 (pos 0)))
-      (wordAt w e k 2) (getD notes 2 (pos 0)))
-      (wordAt w e k 3) (getD notes 3 (pos 0))
+    (wordAt w e k 1) (getD notes 1 (pos 0)))
+    (wordAt w e k 2) (getD notes 2 (pos 0)))
+    (wordAt w e k 3) (getD notes 3 (pos 0))
 
 -- the window after occurrence k of an event whose base is b: "One that arrives below base is counted and not stored"
 unfoldable pub kept : List ℤ → ℕ → ℕ → ℕ → ℕ → List ℤ → List ℤ
