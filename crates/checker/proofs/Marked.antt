@@ -22,12 +22,13 @@ use Rattle.checker.specs.Answer.{Answer, opened, accepted, waiting, verd
 use Rattle.checker.specs.Base.{ofEvent, referenced, smallest, base}
 use Rattle.checker.specs.State.{freshState, withCount, withPulled}
 use Rattle.checker.specs.Ring.{stored, kept}
-use Rattle.checker.specs.Open.{OpenResult, openDef}
+use Rattle.checker.specs.Open.{openDef}
 use Rattle.checker.specs.Good.{goodRule, goodCount, allTo, goodTally, goodState}
 use Rattle.checker.specs.Feed.{feedEvent, feedDef}
 use Rattle.checker.specs.Report.{reportBytes}
 use Rattle.checker.specs.Pull.{pullRead, pullDef}
-use Rattle.checker.specs.Calls.{Call, feed, pull, Out, fed, pulled, outs, freshFrom, checker}
+use Rattle.checker.specs.Calls.{Call, feed, pull, Out, fed, pulled, outs, checker}
+use Rattle.checker.specs.Demand.{answerOf, fresh}
 use Rattle.checker.specs.Machine.{atFirst, tabulated, joined, moved, machineFor}
 
 -- ---- rules; t is note 0
@@ -181,26 +182,37 @@ table =
 abbrev framesOf : Example → List ℕ
 framesOf x = bytesOf (postfix (x .rule))
 
--- opened with a window that held 7 throughout
-abbrev openedBy : Example → OpenResult
-openedBy x = openDef (framesOf x) (x .width) (replicate (windowWords (x .width)) (pos 7))
-
-abbrev answerOf : Out → Answer
-answerOf (fed a) = a
-answerOf (pulled a report) = a
+-- the window that opening is given holds 7 throughout
+abbrev windowOf : Example → List ℤ
+windowOf x = replicate (windowWords (x .width)) (pos 7)
 
 abbrev byMachine : Example → List Answer
 byMachine x = map answerOf (outs (machineFor (framesOf x) (x .width)) (x .calls) atFirst)
 
 abbrev byChecker : Example → List Answer
-byChecker x = map answerOf (outs checker (x .calls) (freshFrom (openedBy x)))
+byChecker x = map answerOf (outs checker (x .calls) (fresh (framesOf x) (x .width) (windowOf x)))
 
 -- opening, the plain machine and the checker, example by example
 pub record Shown (xs : List Example) : Type 0 where
-  pub opening : map (λ x. openedBy x .answer) xs ≡ map (λ x. x .opening) xs
+  pub opening : map (λ x. openDef (framesOf x) (x .width) (windowOf x) .answer) xs ≡ map (λ x. x .opening) xs
   pub machine : map byMachine xs ≡ map (λ x. x .answers) xs
   pub checker : map byChecker xs ≡ map (λ x. x .answers) xs
 
 pub marked : Shown table
 unfolding kindOf referenceCount orderOf sizesFit treeOf checkedOf digitValue digitsAtFront badPlace lineOf ofEvent referenced smallest base freshState withCount withPulled stored kept openDef goodRule goodCount allTo goodTally goodState feedEvent feedDef reportBytes pullRead pullDef outs tabulated joined moved
 marked = record { opening = refl; machine = refl; checker = refl }
+
+-- ---- the report of the bench program's example: instance 0 false, two references, 40 and 10; later bytes keep
+abbrev bench : List Call
+bench = line 0 10 ∷ line 1 40 ∷ next ∷ []
+
+abbrev benchOuts : List Out
+benchOuts =
+    fed accepted ∷ fed accepted
+    ∷ pulled (verdict False) (0 ∷ 0 ∷ 0 ∷ 0 ∷ 0 ∷ 2 ∷ 0 ∷ 0 ∷ 0 ∷ 0 ∷ 0x28 ∷ 0 ∷ 0 ∷ 0 ∷ 0 ∷ 0x0A ∷ replicate 150 7)
+    ∷ []
+
+pub bench-report : (outs (machineFor (bytesOf (postfix latency)) 4) bench atFirst ≡ benchOuts)
+    × (outs checker bench (fresh (bytesOf (postfix latency)) 4 (replicate (windowWords 4) (pos 7))) ≡ benchOuts)
+unfolding kindOf referenceCount orderOf sizesFit treeOf checkedOf digitValue digitsAtFront badPlace lineOf ofEvent referenced smallest base freshState withCount withPulled stored kept openDef goodRule goodCount allTo goodTally goodState feedEvent feedDef reportBytes pullRead pullDef outs tabulated joined moved
+bench-report = (refl, refl)

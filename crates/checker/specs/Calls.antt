@@ -5,7 +5,6 @@ use lib.IntN.{ℤ}
 use Rattle.checker.specs.Answer.{Answer}
 use Rattle.checker.specs.Feed.{feedDef}
 use Rattle.checker.specs.Pull.{pullDef}
-use Rattle.checker.specs.Open.{OpenResult}
 use Rattle.checker.specs.declared.State.{State}
 
 -- "Every line and every report buffer, with whatever it holds, is an argument of its own call"
@@ -36,10 +35,6 @@ module _ {S : Type 0} (step : S → Call → Step S) where
 pub record Checker : Type 0 where
   pub state : State
   pub words : List ℤ
-
--- "A fresh checker is the state and window that an unrefused opening gave back"
-abbrev pub freshFrom : OpenResult → Checker
-freshFrom o = record { state = o .state; words = o .words }
 
 -- "A refused call hands both on too"
 abbrev pub checker : Checker → Call → Step Checker

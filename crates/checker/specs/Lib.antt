@@ -13,3 +13,4 @@ pub mod Calls
 pub mod Machine
 pub mod Within
 pub mod Lows
+pub mod Demand

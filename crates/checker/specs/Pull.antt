@@ -6,7 +6,7 @@ use Prim.Native.Nat.{ℕ}
 use lib.Dec.{ltb}
 use lib.IntN.{ℤ}
 use lib.ListN.{length}
-use Rattle.rule.specs.Tree.{Reference, Cond, references}
+use Rattle.rule.specs.Tree.{Reference, Cond}
 use Rattle.verdict.specs.Found.{Found}
 use Rattle.verdict.specs.Settled.{judgement}
 use Rattle.verdict.specs.declared.Truth.{Truth}

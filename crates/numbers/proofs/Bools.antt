@@ -17,9 +17,6 @@ pub T-true : (a : Bool) → T a → a ≡ true
 T-true true t = refl
 T-true false t = absurd t
 
-pub true-T : (a : Bool) → a ≡ true → T a
-true-T a e = rw e tt
-
 pub true-false : true ≡ false → ⊥
 true-false e = let z : _≡_ {A = ℕ} 0 1 = cc in omega arith
 
@@ -29,8 +26,3 @@ and-true false b e = absurd (let z : _≡_ {A = ℕ} 0 1 = cc in omega arith)
 
 pub true-and : (a b : Bool) → a ≡ true → b ≡ true → (a && b) ≡ true
 true-and a b p q = rw (p, q)
-
-pub false-and : (a b : Bool) → (a ≡ true → b ≡ true → ⊥) → (a && b) ≡ false
-false-and true true h = absurd (h refl refl)
-false-and true false h = refl
-false-and false b h = refl

@@ -12,6 +12,7 @@ use Rattle.rule.specs.declared.Frame.{Frame}
 pub data Trees : Type 0 where
   trees : List Cond → List Sum → Trees
 
+-- what is on top of a stack, one or two, becomes one
 module _ {A : Type 0} where
   abbrev pub top1 : (A → A) → List A → List A
   top1 f [] = []
@@ -22,16 +23,19 @@ module _ {A : Type 0} where
   top2 f (b ∷ []) = b ∷ []
   top2 f (b ∷ (a ∷ r)) = f a b ∷ r
 
+-- a relation takes the two sums on top
 abbrev pub related : Relation → List Cond → List Sum → Trees
 related r cs [] = trees cs []
 related r cs (b ∷ []) = trees cs []
 related r cs (b ∷ (a ∷ ss)) = trees (relation r a b ∷ cs) ss
 
+-- an operand's frame
 abbrev pub leaf : Source → Frame → Sum
 leaf Source.literal x = literal (natAbs (x .value))
 leaf Source.instance x = instance
 leaf Source.reference x = reference (referenceOf x)
 
+-- one frame more, by its kind
 abbrev pub builtBy : Kind → Frame → List Cond → List Sum → Trees
 builtBy (Kind.operand o) x cs ss = trees cs (leaf o x ∷ ss)
 builtBy (Kind.arithmetic o) x cs ss = trees cs (top2 (arithmetic o) ss)
@@ -41,14 +45,16 @@ builtBy Kind.negation x cs ss = trees (top1 not cs) ss
 builtBy (Kind.connective j) x cs ss = trees (top2 (connective j) cs) ss
 builtBy Kind.none x cs ss = trees cs ss
 
+-- by its kind byte
 abbrev pub built : Frame → Trees → Trees
 built x (trees cs ss) = builtBy (kindOf (x .kind)) x cs ss
 
+-- after the first i frames
 abbrev pub treesAt : List ℕ → ℕ → Trees
 treesAt s zero = trees [] []
 treesAt s (suc i) = built (frameAt s i) (treesAt s i)
 
--- some tree where there is no condition
+-- the last condition; some tree where there is none
 abbrev pub firstC : Trees → Cond
 firstC (trees [] ss) = relation Relation.equal instance instance
 firstC (trees (t ∷ cs) ss) = t

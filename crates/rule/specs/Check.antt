@@ -13,6 +13,7 @@ use Rattle.rule.specs.declared.Checked.the-variants.{Accepted, Refused}
 use Rattle.rule.specs.declared.order.Ordered.{Ordered}
 use Rattle.rule.specs.declared.order.Ordered.the-variants.{Fine, At}
 
+-- "A refusal returns its number and place (0 if none is named)"
 abbrev pub refused : ℕ → ℕ → Checked
 refused n p = Refused (record { number = n; place = p })
 
@@ -34,5 +35,6 @@ abbrev pub afterOrder : List ℕ → Ordered → Checked
 afterOrder s (At p) = refused 10 p
 afterOrder s (Fine m) = cond (eqb m 0) (refused 7 0) (cond (sizesFit s) Accepted (refused 8 0))
 
+-- the answer for any bytes
 unfoldable pub checkedOf : List ℕ → Checked
 checkedOf s = cond (wholeFrames (length s)) (afterOrder s (orderOf s)) (refused 9 0)

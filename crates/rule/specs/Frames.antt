@@ -11,10 +11,12 @@ use Rattle.numbers.specs.Word.{signedWord}
 use Rattle.rule.specs.Limits.{eventLimit, noteLimit, factorLimit, offsetLimit, frameBytes}
 use Rattle.rule.specs.declared.Frame.{Frame}
 
--- ---- kinds; instance is the document's i
+-- ---- kinds
+-- operands; instance is the document's i
 pub data Source : Type 0 where
   literal instance reference : Source
 
+-- on two sums
 pub data Arithmetic : Type 0 where
   add subtract multiply : Arithmetic
 
@@ -22,9 +24,11 @@ pub data Arithmetic : Type 0 where
 pub data Relation : Type 0 where
   equal unequal less atMost more atLeast : Relation
 
+-- of two conditions
 pub data Connective : Type 0 where
   and or implies : Connective
 
+-- operands make a sum; absolute is abs, negation is not; none stands for every other byte
 pub data Kind : Type 0 where
   operand : Source → Kind
   arithmetic : Arithmetic → Kind
@@ -55,6 +59,7 @@ kindByte (connective or) = 0x33
 kindByte (connective implies) = 0x34
 kindByte none = 0
 
+-- all of them, in this order
 abbrev pub kinds : List Kind
 kinds =
     operand literal ∷ operand instance ∷ operand reference
@@ -62,6 +67,7 @@ kinds =
     ∷ relation equal ∷ relation unequal ∷ relation less ∷ relation atMost ∷ relation more ∷ relation atLeast
     ∷ negation ∷ connective and ∷ connective or ∷ connective implies ∷ []
 
+-- the first of some kinds that has the byte
 abbrev pub kindIn : List Kind → ℕ → Kind
 kindIn [] b = none
 kindIn (k ∷ ks) b = cond (eqb b (kindByte k)) k (kindIn ks b)
@@ -71,6 +77,7 @@ unfoldable pub kindOf : ℕ → Kind
 kindOf b = kindIn kinds b
 
 -- ---- frames
+-- a frame of its fields
 abbrev pub frame : ℕ → ℕ → ℕ → ℕ → ℤ → Frame
 frame k e n f v = record { kind = k; event = e; note = n; factor = f; value = v }
 
@@ -93,21 +100,26 @@ pub data Bytes : List ℕ → Type 0 where
   empty : Bytes []
   byte : {b : ℕ} {s : List ℕ} → b < 256 → Bytes s → Bytes (b ∷ s)
 
--- ---- the fields that a frame of a kind may have: "with the fields above, literals not negative"
+-- ---- the fields that a frame of a kind may have: 10, "with the fields above"
+-- event, note and factor are 0
 abbrev pub unused : Frame → Bool
 unused x = eqb (x .event) 0 && eqb (x .note) 0 && eqb (x .factor) 0
 
+-- "literals not negative"
 abbrev pub literalFields : Frame → Bool
 literalFields x = unused x && leZ (pos 0) (x .value)
 
+-- event and note below their limits, factor 1 to 9, offset −9,999 to 9,999
 abbrev pub referenceFields : Frame → Bool
 referenceFields x =
     (ltb (x .event) eventLimit && ltb (x .note) noteLimit) && (leb 1 (x .factor) && leb (x .factor) factorLimit)
     && leb (natAbs (x .value)) offsetLimit
 
+-- all unused bytes are 0
 abbrev pub bareFields : Frame → Bool
 bareFields x = unused x && eqb (natAbs (x .value)) 0
 
+-- by the kind
 abbrev pub fieldsOf : Kind → Frame → Bool
 fieldsOf (operand literal) x = literalFields x
 fieldsOf (operand instance) x = bareFields x

@@ -24,9 +24,11 @@ stepBy negation c k = cond (leb 1 c && eqb k 0) (Good c 0) Bad
 stepBy (connective j) c k = cond (leb 2 c && eqb k 0) (Good (c - 1) 0) Bad
 stepBy none c k = Bad
 
+-- and no rule where the fields are not the kind's
 abbrev pub stepIn : Kind → Frame → ℕ → ℕ → Shape
 stepIn o x c k = cond (fieldsOf o x) (stepBy o c k) Bad
 
+-- the same of a frame, by its kind byte
 abbrev pub frameStep : Frame → ℕ → ℕ → Shape
 frameStep x c k = stepIn (kindOf (x .kind)) x c k
 
@@ -35,14 +37,17 @@ pub data Prefix : Type 0 where
   viable : ℕ → ℕ → Prefix
   stuck : ℕ → Prefix
 
+-- what the frame at i leaves
 abbrev pub placed : ℕ → Shape → Prefix
 placed i (Good c k) = viable c k
 placed i Bad = stuck i
 
+-- one frame more; once no rule begins, none does
 abbrev pub next : ℕ → Frame → Prefix → Prefix
 next i x (viable c k) = placed i (frameStep x c k)
 next i x (stuck p) = stuck p
 
+-- after the first i frames
 abbrev pub prefixAt : List ℕ → ℕ → Prefix
 prefixAt s zero = viable 0 0
 prefixAt s (suc i) = next i (frameAt s i) (prefixAt s i)
@@ -52,6 +57,7 @@ abbrev pub ended : ℕ → ℕ → Prefix → Ordered
 ended n m (viable c k) = cond (eqb c 1 && eqb k 0) (Fine m) (At n)
 ended n m (stuck p) = At p
 
+-- the order and the fields of all frames
 unfoldable pub orderOf : List ℕ → Ordered
 orderOf s = ended (frameCount s) (referenceCount s) (prefixAt s (frameCount s))
 

@@ -28,6 +28,7 @@ module _ {S : Type 0} (f : Reference → S → S) where
   referencesTo s z (suc i) =
       cond (eqb (frameAt s i .kind) referenceByte) (f (referenceOf (frameAt s i)) (referencesTo s z i)) (referencesTo s z i)
 
+-- counting
 abbrev pub oneMore : Reference → ℕ → ℕ
 oneMore r n = n + 1
 

@@ -15,6 +15,7 @@ pub data Sizes : Type 0 where
   fits : List ℕ → Sizes
   over : Sizes
 
+-- one magnitude more: "None exceeds 2^62"
 abbrev pub pushed : ℕ → List ℕ → Sizes
 pushed m ms = cond (leb m magnitudeLimit) (fits (m ∷ ms)) over
 
@@ -24,6 +25,7 @@ topped f [] = fits []
 topped f (b ∷ []) = fits (b ∷ [])
 topped f (b ∷ (a ∷ ms)) = pushed (f a b) ms
 
+-- "a literal its own value, i 2^20, a reference 2^31"
 abbrev pub operandSize : Source → ℤ → ℕ
 operandSize literal v = natAbs v
 operandSize instance v = instanceMagnitude
@@ -39,6 +41,7 @@ sized negation v ms = fits ms
 sized (connective j) v ms = fits ms
 sized none v ms = fits ms
 
+-- a frame more; once over, always over
 abbrev pub sizeNext : Frame → Sizes → Sizes
 sizeNext x (fits ms) = sized (kindOf (x .kind)) (x .value) ms
 sizeNext x over = over
@@ -48,6 +51,7 @@ abbrev pub sizeAt : List ℕ → ℕ → Sizes
 sizeAt s zero = fits []
 sizeAt s (suc i) = sizeNext (frameAt s i) (sizeAt s i)
 
+-- none was over
 abbrev pub isFits : Sizes → Bool
 isFits (fits ms) = true
 isFits over = false

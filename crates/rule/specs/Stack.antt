@@ -12,6 +12,7 @@ use Rattle.rule.specs.Sizes.{Sizes, fits, over}
 use Rattle.rule.specs.declared.sizes.Size.{Size}
 use Rattle.rule.specs.declared.sizes.Size.the-variants.{Fits, Over}
 
+-- the first k cells
 module _ {A : Type 0} (d : A) (cells : List A) where
   abbrev pub stackOf : ℕ → List A
   stackOf zero = []

@@ -18,7 +18,7 @@ pub record Reference : Type 0 where
   pub factor : ℕ
   pub offset : ℤ
 
--- instance is the document's i
+-- sums; instance is the document's i
 pub data Sum : Type 0 where
   literal : ℕ → Sum
   instance : Sum
@@ -26,6 +26,7 @@ pub data Sum : Type 0 where
   arithmetic : Arithmetic → Sum → Sum → Sum
   abs : Sum → Sum
 
+-- conditions; connective joins two by and, or, implies
 pub data Cond : Type 0 where
   relation : Relation → Sum → Sum → Cond
   not : Cond → Cond
@@ -39,6 +40,7 @@ pub record LimitsR (r : Reference) : Type 0 where
   pub factor : r .factor ≤ factorLimit
   pub offset : natAbs (r .offset) ≤ offsetLimit
 
+-- "a literal at most 2,147,483,647"
 abbrev pub LimitsS : Sum → Type 0
 LimitsS (literal n) = n ≤ literalLimit
 LimitsS instance = Unit {0}
@@ -46,6 +48,7 @@ LimitsS (reference r) = LimitsR r
 LimitsS (arithmetic o a b) = LimitsS a × LimitsS b
 LimitsS (abs a) = LimitsS a
 
+-- of every sum in a condition
 abbrev pub Limits : Cond → Type 0
 Limits (relation r a b) = LimitsS a × LimitsS b
 Limits (not p) = Limits p
@@ -59,6 +62,7 @@ postfixS (reference r) = frame (kindByte (Kind.operand Source.reference)) (r .ev
 postfixS (arithmetic o a b) = (postfixS a ++ postfixS b) ++ (bare (Kind.arithmetic o) ∷ [])
 postfixS (abs a) = postfixS a ++ (bare Kind.absolute ∷ [])
 
+-- of a condition
 abbrev pub postfix : Cond → List Frame
 postfix (relation r a b) = (postfixS a ++ postfixS b) ++ (bare (Kind.relation r) ∷ [])
 postfix (not p) = postfix p ++ (bare Kind.negation ∷ [])
@@ -68,6 +72,7 @@ postfix (connective j p q) = (postfix p ++ postfix q) ++ (bare (Kind.connective 
 abbrev pub wordBytes : ℕ → List ℕ → List ℕ
 wordBytes w s = w / 256 / 256 / 256 ∷ (w / 256 / 256 % 256 ∷ (w / 256 % 256 ∷ (w % 256 ∷ s)))
 
+-- "Bytes: 0 kind, 1 event, 2 note, 3 factor, 4 to 7 offset or literal, signed, big-endian"
 abbrev pub bytesOf : List Frame → List ℕ
 bytesOf [] = []
 bytesOf (x ∷ fs) = x .kind ∷ (x .event ∷ (x .note ∷ (x .factor ∷ wordBytes (ofZ w32 (x .value)) (bytesOf fs))))
@@ -86,6 +91,7 @@ referencesS (reference r) = r ∷ []
 referencesS (arithmetic o a b) = referencesS a ++ referencesS b
 referencesS (abs a) = referencesS a
 
+-- of a condition
 abbrev pub references : Cond → List Reference
 references (relation r a b) = referencesS a ++ referencesS b
 references (not p) = references p
@@ -114,6 +120,7 @@ partsS (reference r) = reference r ∷ []
 partsS (arithmetic o a b) = arithmetic o a b ∷ (partsS a ++ partsS b)
 partsS (abs a) = abs a ∷ partsS a
 
+-- every sum in a condition
 abbrev pub parts : Cond → List Sum
 parts (relation r a b) = partsS a ++ partsS b
 parts (not p) = parts p

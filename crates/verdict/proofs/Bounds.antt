@@ -11,8 +11,9 @@ use lib.ListN.{length, getD}
 use Rattle.numbers.proofs.Bools.{and-l, true-false}
 use Rattle.rule.specs.Limits.{instanceMagnitude, referenceMagnitude, magnitudeLimit}
 use Rattle.rule.specs.Frames.{Source, literal, instance, reference, Arithmetic, add, subtract, multiply, Kind, operand, arithmetic, absolute, relation, negation, connective, none, kindOf, frameAt, frameCount, fieldsOf}
-use Rattle.rule.specs.Tree.{grown}
-use Rattle.rule.specs.Order.{stepBy, frameStep, Prefix, viable, stuck, placed, next, prefixAt, InOrder}
+use Rattle.rule.specs.Tree.{Reference, Sum, grown, magnitude}
+use Rattle.rule.specs.Tree as tree
+use Rattle.rule.specs.Order.{stepBy, Prefix, viable, stuck, placed, next, prefixAt, InOrder}
 use Rattle.rule.specs.Sizes.{Sizes, fits, over, pushed, topped, operandSize, sized, sizeNext, sizeAt, isFits, sizesFit}
 use Rattle.rule.specs.Build.{top1, top2}
 use Rattle.rule.specs.Stack.{Bounded}
@@ -22,12 +23,13 @@ use Rattle.rule.specs.declared.order.Shape.the-variants.{Good, Bad}
 use Rattle.rule.proofs.Prefix.{Live, sumsOf, condsOf, live}
 use Rattle.rule.proofs.Magnitudes.{BoundedIn, sizes-in, fits-at}
 use Rattle.rule.proofs.Link.{sizes-length}
-use Rattle.verdict.specs.Found.{instanceLimit}
+use Rattle.verdict.specs.Found.{instanceLimit, Found}
 use Rattle.verdict.specs.Kleene.{notK, joined}
-use Rattle.verdict.specs.Value.{computed, sizeOf}
+use Rattle.verdict.specs.Value.{computed, sizeOf, noteOf, valueS}
 use Rattle.verdict.specs.Pass.{Pass, passBy, operandBy, passAt}
 use Rattle.verdict.specs.Stacks.{Small}
 use Rattle.verdict.specs.declared.Truth.{Truth}
+use Rattle.verdict.proofs.Built.{length-one, length-two}
 use Rattle.verdict.proofs.Numbers.{add-within, sub-within, mul-within}
 
 -- ---- as many values as magnitudes, each within its own
@@ -68,6 +70,16 @@ computed-within add = add-within
 computed-within subtract = sub-within
 computed-within multiply = mul-within
 
+-- ---- a tree's sums
+module _ (i : ℕ) (found : Reference → Found) (h : i ≤ instanceLimit) (g : (r : Reference) → natAbs (noteOf (found r)) ≤ referenceMagnitude) where
+  pub value-within : (a : Sum) → natAbs (valueS i found a) ≤ magnitude a
+  value-within (tree.literal n) = le-refl n
+  value-within tree.instance = omega arith
+  value-within (tree.reference r) = g r
+  value-within (tree.arithmetic o a b) = computed-within o (valueS i found a) (valueS i found b) (magnitude a) (magnitude b) (value-within a) (value-within b)
+  value-within (tree.abs a) = value-within a
+
+-- ---- a step of the pass
 module _ (v : ℤ) (i mark : ℕ) (note : ℤ) (h : i ≤ instanceLimit) (g : natAbs note ≤ referenceMagnitude) (p : Pass) where
   within-operand : (s : Source) (ms : List ℕ) → Within (p .sums) ms → WithinIn (operandBy s v i mark note p .sums) (pushed (operandSize s v) ms)
   within-operand literal ms k = within-push v (natAbs v) (p .sums) ms (le-refl (natAbs v)) k
@@ -130,15 +142,6 @@ SameC (viable c k) cs = length cs ≡ c
 same-cond : (i : ℕ) (t : Bool) (h : Shape) (cs : List Truth) → (T t → SameC (placed i h) cs) → SameC (placed i (cond t h Bad)) cs
 same-cond i true h cs f = f tt
 same-cond i false h cs f = tt
-
-length-one : (f : Truth → Truth) (cs : List Truth) → length (top1 f cs) ≡ length cs
-length-one f [] = refl
-length-one f (c ∷ cs) = refl
-
-length-two : (f : Truth → Truth → Truth) (cs : List Truth) (c : ℕ) → 2 ≤ c → length cs ≡ c → length (top2 f cs) ≡ c - 1
-length-two f [] c h e = absurd (omega arith)
-length-two f (b ∷ []) c h e = absurd (omega arith)
-length-two f (b ∷ (a ∷ cs)) c h e = omega arith
 
 module _ (v : ℤ) (i mark : ℕ) (note : ℤ) (p : Pass) (at c k : ℕ) (h : length (p .conds) ≡ c) where
   same-operand : (s : Source) → length (operandBy s v i mark note p .conds) ≡ c

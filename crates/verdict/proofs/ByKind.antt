@@ -1,13 +1,13 @@
 -- What a kind byte asks for, and one step of the pass by it. Assumes nothing.
-use mathlib.Core.Path.{_≡_, refl, sym, ap, _∙_}
-use mathlib.Core.Bool.{Bool, cond}
+use mathlib.Core.Path.{_≡_, sym, ap, _∙_}
+use mathlib.Core.Bool.{cond}
 use mathlib.Core.List.{List, [], _∷_}
 use Prim.Native.Nat.{ℕ, _≤_, _<_}
 use native.Mathlib.Omega.{arith}
 use native.Mathlib.Decide.{ℕ-discrete}
-use lib.IntN.{ℤ, pos}
-use Rattle.rule.specs.Frames.{Arithmetic, Relation, Connective, Kind, operand, arithmetic, absolute, relation, negation, connective, none, kindByte, kindOf}
-use Rattle.rule.specs.Build.{top1, top2}
+use lib.IntN.{ℤ}
+use Rattle.rule.specs.Frames.{Arithmetic, Relation, Connective, Kind, arithmetic, relation, connective, none, kindByte, kindOf}
+use Rattle.rule.specs.Build.{top2}
 use Rattle.rule.specs.Stack.{Ready, ReadyC}
 use Rattle.rule.proofs.KindBytes.{kind-at, none-00, none-04, arithmetic-range, relation-range, connective-range}
 use Rattle.verdict.specs.Kleene.{joined, truth}

@@ -1,11 +1,13 @@
 pub mod Tables
 pub mod Own
 pub mod Stays
-pub mod Marked
 pub mod Numbers
 pub mod Meanings
-pub mod Verdicts
 pub mod ByKind
+pub mod Built
 pub mod Bounds
-pub mod Accepted
 pub mod Loop
+pub mod Mirror
+pub mod Means
+pub mod Marked
+pub mod Main

@@ -1,7 +1,6 @@
 -- The loop over the frames: what its arrays hold, and that each step may be taken. Assumes nothing.
 use mathlib.Core.Path.{_≡_, refl, sym, ap, _∙_, subst}
-use mathlib.Core.Bool.{Bool}
-use mathlib.Core.List.{List, [], _∷_, length-map}
+use mathlib.Core.List.{List}
 use Prim.Native.Nat.{ℕ, zero, suc, _+_, _≤_, _<_}
 use native.Mathlib.Numerals.{add-one}
 use native.Mathlib.Omega.{arith}
@@ -9,8 +8,8 @@ use lib.IntN.{ℤ, pos, natAbs}
 use lib.ListN.{length, getD}
 use Rattle.rule.specs.Limits.{referenceMagnitude}
 use Rattle.rule.specs.Frames.{kindOf, frameAt, frameCount}
-use Rattle.rule.specs.Order.{viable, prefixAt}
-use Rattle.rule.specs.Stack.{stackOf, Ready, ReadyC}
+use Rattle.rule.specs.Order.{prefixAt}
+use Rattle.rule.specs.Stack.{Ready, ReadyC}
 use Rattle.rule.specs.declared.Frame.{Frame}
 use Rattle.rule.proofs.Prefix.{sumsOf, condsOf, sums-le, conds-le, one-left}
 use Rattle.rule.proofs.Link.{found}
@@ -18,11 +17,9 @@ use Rattle.rule.proofs.Stack.{stack-length}
 use Rattle.verdict.specs.Marks.{Judgeable}
 use Rattle.verdict.specs.Pass.{Pass, passBy, passAt, firstT, judgedBy, judgementOf}
 use Rattle.verdict.specs.Stacks.{truthOf, truthsOf, passOf, Small, Begun}
-use Rattle.verdict.specs.declared.Truth.{Truth}
-use Rattle.verdict.specs.declared.Judgement.{Judgement}
 use Rattle.verdict.specs.declared.evaluate.Top.{Top}
 use Rattle.verdict.proofs.Bounds.{InSizes, sizes-next, small-at, sums-length, conds-length}
-use Rattle.verdict.proofs.Accepted.{Sound, sound}
+use Rattle.rule.proofs.Facts.{passed}
 
 -- after k frames
 pub record Held (s : List ℕ) (i : ℕ) (marks : List ℕ) (notes : List ℤ) (sums : List ℤ) (conds : List ℕ) (t : Top) (k : ℕ) : Type 0 where
@@ -38,19 +35,19 @@ length-truths conds (suc c) = ap suc (length-truths conds c)
 module _ (s : List ℕ) (i : ℕ) (marks : List ℕ) (notes : List ℤ) (j : Judgeable s i marks notes) (sums : List ℤ) (conds : List ℕ) (t : Top) (k : ℕ) (h : Held s i marks notes sums conds t k) where
   sums-are : k ≤ frameCount s → t .sums ≡ sumsOf (prefixAt s k)
   sums-are le =
-      let a = sound s (j .accepted) in
+      let a = passed s (j .accepted) in
       sym (stack-length (pos 0) sums (t .sums)) ∙ ap (λ (p : Pass). length (p .sums)) (sym (h .pass))
       ∙ sums-length s i marks notes k le (a .sizes) (a .order) (h .within)
 
   conds-are : k ≤ frameCount s → t .conds ≡ condsOf (prefixAt s k)
   conds-are le =
       sym (length-truths conds (t .conds)) ∙ ap (λ (p : Pass). length (p .conds)) (sym (h .pass))
-      ∙ conds-length s i marks notes k le (sound s (j .accepted) .order)
+      ∙ conds-length s i marks notes k le (passed s (j .accepted) .order)
 
   begun-at : natAbs (getD notes k (pos 0)) ≤ referenceMagnitude → k < frameCount s
       → Begun (kindOf (frameAt s k .kind)) sums conds t (passBy (kindOf (frameAt s k .kind)) (frameAt s k .value) i (getD marks k 0) (getD notes k (pos 0)) (passOf sums conds t))
   begun-at hn le =
-      let a = sound s (j .accepted) in
+      let a = passed s (j .accepted) in
       let e : t .sums ≡ sumsOf (prefixAt s k) = sums-are (omega arith) in
       let f : t .conds ≡ condsOf (prefixAt s k) = conds-are (omega arith) in
       let m : sumsOf (prefixAt s k) ≤ k = sums-le s k in
@@ -94,7 +91,7 @@ module _ (s : List ℕ) (i : ℕ) (marks : List ℕ) (notes : List ℤ) (j : Jud
   pub last : k ≡ frameCount s → judgedBy (t .pending) (t .present) (truthOf (getD conds 0 0)) ≡ judgementOf s i marks notes
   unfolding judgementOf
   last e =
-      let f : t .conds ≡ 1 = conds-are (omega arith) ∙ ap (λ (x : ℕ). condsOf (prefixAt s x)) e ∙ ap condsOf (one-left s (sound s (j .accepted) .order)) in
+      let f : t .conds ≡ 1 = conds-are (omega arith) ∙ ap (λ (x : ℕ). condsOf (prefixAt s x)) e ∙ ap condsOf (one-left s (passed s (j .accepted) .order)) in
       ap (λ (c : ℕ). judgedBy (t .pending) (t .present) (firstT (truthsOf conds c))) (sym f)
       ∙ sym (ap (λ (p : Pass). judgedBy (p .pending) (p .present) (firstT (p .conds))) (h .pass))
       ∙ ap (λ (x : ℕ). judgedBy (passAt s i marks notes x .pending) (passAt s i marks notes x .present) (firstT (passAt s i marks notes x .conds))) e

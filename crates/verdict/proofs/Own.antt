@@ -1,10 +1,9 @@
 -- A rule's value goes by its own references alone. Assumes nothing.
-use mathlib.Core.Path.{_≡_, refl, ap, ap₂, _∙_, sym}
+use mathlib.Core.Path.{_≡_, refl, ap, ap₂, _∙_}
 use mathlib.Core.Bool.{Bool, true, false, cond, _||_}
 use mathlib.Core.Logic.{⊎-elim}
 use mathlib.Core.List.{List, [], _∷_, _++_, List·Memᴰ, List·Memᴰ·head, List·Memᴰ·tail, List·Memᴰ·cases-cons, Memᴰ·append-left, Memᴰ·append-right}
 use Prim.Native.Nat.{ℕ}
-use lib.IntN.{ℤ}
 use Rattle.rule.specs.Tree.{Reference, Sum, literal, instance, reference, arithmetic, abs, Cond, relation, connective, referencesS, references}
 use Rattle.numbers.proofs.Bools.{true-false}
 use Rattle.verdict.specs.Found.{Found, isMissing, isPending, isPresent, someOf}
@@ -13,7 +12,6 @@ use Rattle.verdict.specs.Value.{computed, sizeOf, noteOf, holds, valueS,
 use Rattle.verdict.specs.Settled.{settledBy, verdict, settled, judgement}
 use Rattle.verdict.specs.declared.Truth.{Truth}
 use Rattle.verdict.specs.declared.Truth.the-variants.{Unknown}
-use Rattle.verdict.specs.declared.Judgement.{Judgement}
 use Rattle.verdict.specs.declared.Judgement.the-variants.{Unsettled}
 
 -- both say the same of each of the references

@@ -1,7 +1,7 @@
 -- What later lines leave: a known truth value, and the verdict of a settled instance. Assumes nothing.
 use mathlib.Core.Path.{_≡_, refl, ap, ap₂, _∙_, sym, subst}
 use mathlib.Core.Bool.{Bool, true, false, cond, not, _&&_, _||_, or-true}
-use mathlib.Core.Logic.{_⊎_, inl, inr, ⊎-elim}
+use mathlib.Core.Logic.{inl, inr}
 use mathlib.Core.List.{List, [], _∷_, _++_, List·Memᴰ, List·Memᴰ·head, List·Memᴰ·tail, Memᴰ·append-left, Memᴰ·append-right}
 use Prim.Native.Nat.{ℕ, _<_}
 use native.Mathlib.Omega.{arith}
@@ -12,14 +12,13 @@ use borrow.Author.Tests.{ltb-true, lt-ltb}
 use Rattle.rule.specs.Frames.{Relation}
 use Rattle.rule.specs.Tree.{Reference, Sum, Cond, relation, connective, referencesS, references}
 use Rattle.numbers.proofs.Bools.{true-false}
-use Rattle.verdict.specs.Found.{Found, present, pending, void, isMissing, isPending, isPresent, someOf, foundAt, foundIn, occurrence}
-use Rattle.verdict.specs.Kleene.{notK, joined, truth, isKnown}
+use Rattle.verdict.specs.Found.{Found, present, pending, isMissing, isPending, isPresent, someOf, foundAt, foundIn, occurrence}
+use Rattle.verdict.specs.Kleene.{truth, isKnown}
 use Rattle.verdict.specs.Value.{holds, valueS, value}
 use Rattle.verdict.specs.Settled.{settledBy, verdict, settled, judgement}
 use Rattle.verdict.specs.Later.{Gains, GainsIn, Sharpens, MoreLines}
 use Rattle.verdict.specs.declared.Truth.{Truth}
-use Rattle.verdict.specs.declared.Truth.the-variants.{True, False, Unknown}
-use Rattle.verdict.specs.declared.Judgement.{Judgement}
+use Rattle.verdict.specs.declared.Truth.the-variants.{Unknown}
 use Rattle.verdict.specs.declared.Judgement.the-variants as judgements
 use Rattle.verdict.proofs.Tables.{not-sharpens, joined-sharpens}
 use Rattle.verdict.proofs.Own.{SameOn, value-own, settled-own, none-so}
@@ -116,3 +115,7 @@ lines-gain lines lines′ m i r =
     let q = m (r .event) in
     subst (λ (b : List (List ℤ)). Gains (foundIn lines i r) (foundAt b (r .note) (occurrence (r .factor) (r .offset) i))) (q .1)
     (found-gains (lines (r .event)) (q .0) (r .note) (occurrence (r .factor) (r .offset) i))
+
+pub lines-stay : (i : ℕ) (lines lines′ : ℕ → List (List ℤ)) (t : Cond) → MoreLines lines lines′ → (judgement i (foundIn lines i) t ≡ judgements.Unsettled → ⊥)
+    → judgement i (foundIn lines′ i) t ≡ judgement i (foundIn lines i) t
+lines-stay i lines lines′ t m = judgement-stays i (foundIn lines i) (foundIn lines′ i) t (λ r w. lines-gain lines lines′ m i r)

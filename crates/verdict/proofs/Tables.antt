@@ -1,6 +1,6 @@
 -- Laws of Kleene's tables: they keep what is known. Assumes nothing.
 use mathlib.Core.Path.{_≡_, refl, ap, _∙_}
-use mathlib.Core.Logic.{_⊎_, inl, inr}
+use mathlib.Core.Logic.{inl, inr}
 use Rattle.rule.specs.Frames.{Connective, and, or, implies}
 use Rattle.verdict.specs.Kleene.{notK, andK, orK, joined}
 use Rattle.verdict.specs.Later.{Sharpens}

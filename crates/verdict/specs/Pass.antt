@@ -1,6 +1,6 @@
 -- The evaluator's pass over the frames: what its contract says for every array of marks and of notes.
 -- That it is the value of the rule's tree is proved (Main, judge-tree). Assumes nothing: definitions.
-use mathlib.Core.Bool.{Bool, true, false, cond, not, _||_}
+use mathlib.Core.Bool.{Bool, false, cond, not, _||_}
 use mathlib.Core.List.{List, [], _∷_}
 use Prim.Native.Nat.{ℕ, zero, suc}
 use lib.Dec.{eqb}

@@ -12,7 +12,7 @@ use Rattle.rule.specs.Frames.{Kind, operand, arithmetic, absolute, relation, ne
 use Rattle.rule.specs.Stack.{stackOf, Ready, ReadyC}
 use Rattle.verdict.specs.Kleene.{joined}
 use Rattle.verdict.specs.Value.{computed, holds}
-use Rattle.verdict.specs.Pass.{Pass, passBy}
+use Rattle.verdict.specs.Pass.{Pass}
 use Rattle.verdict.specs.declared.Truth.{Truth}
 use Rattle.verdict.specs.declared.Truth.the-variants.{True, False, Unknown}
 use Rattle.verdict.specs.declared.evaluate.Top.{Top}

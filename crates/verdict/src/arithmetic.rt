@@ -16,6 +16,7 @@ pub fn widen(a: i32) -> i64
     a as i64
 }
 
+// abs. Called by stacks::size_sum, on values of accepted frames.
 pub fn size(a: i64) -> i64
     requires { ⌜ natAbs a ≤ magnitudeLimit ⌝ }
     ensures { λ r. ⌜ r ≡ sizeOf a ⌝ }
@@ -23,7 +24,7 @@ pub fn size(a: i64) -> i64
     if a < 0 { 0 - a } else { a }
 }
 
-// Add, subtract, multiply, by the kind byte. Called where the result is known to fit.
+// Add, subtract, multiply, by the kind byte. Called by stacks::join_sums, where the result fits.
 pub fn compute(kind: u8, a: i64, b: i64) -> i64
     requires { ⌜ (0x11 ≤ kind) × ((kind < 0x14) × SFits w64 (computedBy (kindOf kind) a b)) ⌝ }
     ensures { λ r. ⌜ r ≡ computedBy (kindOf kind) a b ⌝ }
@@ -35,7 +36,7 @@ pub fn compute(kind: u8, a: i64, b: i64) -> i64
     }
 }
 
-// Whether a relation holds, by the kind byte.
+// Whether a relation holds, by the kind byte. Called by stacks::relate.
 pub fn compare(kind: u8, a: i64, b: i64) -> bool
     requires { ⌜ (0x21 ≤ kind) × (kind < 0x27) ⌝ }
     ensures { λ r. ⌜ r ≡ holdsBy (kindOf kind) a b ⌝ }

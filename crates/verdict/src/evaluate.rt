@@ -2,6 +2,7 @@
 use crate::Instance;
 use crate::Judgement;
 use crate::arithmetic;
+use crate::judgements;
 use crate::kleene;
 use crate::stacks;
 use rule::Frame;
@@ -15,11 +16,15 @@ ghost use Rattle.verdict.specs.Marks.{Judgeable};
 ghost use Rattle.verdict.specs.Pass.{withReference, passBy, judgementOf};
 ghost use Rattle.verdict.specs.Stacks.{passOf, Begun};
 
-// The document's marks of a reference; the third, void, is 2.
+// A frame has 8 bytes.
+const FRAME_BYTES: usize = 8;
+
+// The document's marks of a reference: 0 present, 1 pending, 2 void.
 const PRESENT: u8 = 0;
+
 const PENDING: u8 = 1;
 
-// The numbers of sums and of conditions; whether a reference since the last relation is missing; whether a reference is
+// What a step carries on beside the arrays: the numbers of sums and of conditions; whether a reference since the last relation is missing; whether a reference is
 // pending, and whether one is present.
 pub struct Top {
     pub sums: usize,
@@ -58,7 +63,7 @@ fn put_relation(kind: u8, sums: &mut [i64; 64], conds: &mut [u8; 64], top: Top) 
     Top {
         sums: 0,
         conds: c,
-        missing: false,
+        missing: false, // the next relation begins
         pending: top.pending,
         present: top.present,
     }
@@ -88,7 +93,7 @@ fn step(
             next
         }
         0x02 => {
-            next.sums = stacks::put_sum(sums, k, i.0 as i64);
+            next.sums = stacks::put_sum(sums, k, i.0 as i64); // only here an instance number is a value
             next
         }
         0x03 => put_reference(sums, top, mark, note),
@@ -109,7 +114,7 @@ fn step(
             next.conds = stacks::join_conds(kind, conds, c);
             next
         }
-        _ => next,
+        _ => next, // no accepted frame has another kind
     }
 }
 
@@ -120,7 +125,7 @@ pub fn judge(frames: &[u8], i: Instance, marks: &[u8], notes: &[i32]) -> Judgeme
     requires { ⌜ Judgeable (now frames) (i .0) (now marks) (now notes) ⌝ }
     ensures { λ r. ⌜ r ≡ judgementOf (now (frames .entry)) (i .0) (now (marks .entry)) (now (notes .entry)) ⌝ }
 {
-    let n = frames.len() / 8;
+    let n = frames.len() / FRAME_BYTES;
     let mut sums = [0i64; 64];
     let mut conds = [0u8; 64];
     let mut top = Top {
@@ -136,5 +141,5 @@ pub fn judge(frames: &[u8], i: Instance, marks: &[u8], notes: &[i32]) -> Judgeme
         top = step(x, i, marks[k], notes[k], &mut sums, &mut conds, top);
         k += 1;
     }
-    kleene::judged(top.pending, top.present, kleene::decoded(conds[0]))
+    judgements::judged(top.pending, top.present, kleene::decoded(conds[0]))
 }

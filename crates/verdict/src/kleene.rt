@@ -1,14 +1,13 @@
-// Kleene's tables, and truth values as bytes.
-use crate::Judgement;
+// Kleene's tables, and truth values as bytes on the stack of conditions.
 use crate::Truth;
 ghost use mathlib.Core.Path.{_≡_};
 ghost use mathlib.Core.Bool.{cond};
 ghost use Prim.Native.Nat.{_≤_, _<_};
 ghost use Rattle.rule.specs.Frames.{kindOf};
 ghost use Rattle.verdict.specs.Kleene.{notK, andK, orK, truth};
-ghost use Rattle.verdict.specs.Pass.{judgedBy};
 ghost use Rattle.verdict.specs.Stacks.{joinedBy, truthOf};
 
+// Not.
 pub fn negated(p: Truth) -> Truth
     ensures { λ r. ⌜ r ≡ notK p ⌝ }
 {
@@ -19,6 +18,7 @@ pub fn negated(p: Truth) -> Truth
     }
 }
 
+// And.
 fn both(p: Truth, q: Truth) -> Truth
     ensures { λ r. ⌜ r ≡ andK p q ⌝ }
 {
@@ -26,13 +26,14 @@ fn both(p: Truth, q: Truth) -> Truth
         Truth::True => q,
         Truth::False => Truth::False,
         Truth::Unknown => match q {
-            Truth::True => Truth::Unknown,
-            Truth::False => Truth::False,
+            Truth::True => Truth::Unknown, // unknown and true
+            Truth::False => Truth::False, // unknown and false
             Truth::Unknown => Truth::Unknown,
         },
     }
 }
 
+// Or.
 fn either(p: Truth, q: Truth) -> Truth
     ensures { λ r. ⌜ r ≡ orK p q ⌝ }
 {
@@ -40,14 +41,14 @@ fn either(p: Truth, q: Truth) -> Truth
         Truth::True => Truth::True,
         Truth::False => q,
         Truth::Unknown => match q {
-            Truth::True => Truth::True,
-            Truth::False => Truth::Unknown,
+            Truth::True => Truth::True, // unknown or true
+            Truth::False => Truth::Unknown, // unknown or false
             Truth::Unknown => Truth::Unknown,
         },
     }
 }
 
-// And, or, implies, by the kind byte. Called by the step of the evaluator.
+// And, or, implies, by the kind byte. Called by stacks::join_conds.
 pub fn connect(kind: u8, p: Truth, q: Truth) -> Truth
     requires { ⌜ (0x32 ≤ kind) × (kind < 0x35) ⌝ }
     ensures { λ r. ⌜ r ≡ joinedBy (kindOf kind) p q ⌝ }
@@ -59,19 +60,25 @@ pub fn connect(kind: u8, p: Truth, q: Truth) -> Truth
     }
 }
 
-// A relation's truth value.
+// The truth value of a test.
+fn of_test(held: bool) -> Truth
+    ensures { λ r. ⌜ r ≡ truth held ⌝ }
+{
+    if held { Truth::True } else { Truth::False }
+}
+
+// A relation's truth value: missing says that it names a void or pending reference.
 pub fn of_relation(missing: bool, held: bool) -> Truth
     ensures { λ r. ⌜ r ≡ cond missing Truth.Unknown (truth held) ⌝ }
 {
     if missing {
-        Truth::Unknown
-    } else if held {
-        Truth::True
+        Truth::Unknown // a reference is missing
     } else {
-        Truth::False
+        of_test(held)
     }
 }
 
+// The truth value that a byte stands for.
 pub fn decoded(b: u8) -> Truth
     ensures { λ r. ⌜ r ≡ truthOf b ⌝ }
 {
@@ -82,6 +89,7 @@ pub fn decoded(b: u8) -> Truth
     }
 }
 
+// A byte that stands for a truth value.
 pub fn code(t: Truth) -> u8
     ensures { λ r. ⌜ truthOf r ≡ t ⌝ }
 {
@@ -89,34 +97,5 @@ pub fn code(t: Truth) -> u8
         Truth::False => 0,
         Truth::True => 1,
         Truth::Unknown => 2,
-    }
-}
-
-// What is said of an instance, from whether a reference is pending, whether one is present, and the rule's value.
-pub fn judged(pending: bool, present: bool, t: Truth) -> Judgement
-    ensures { λ r. ⌜ r ≡ judgedBy pending present t ⌝ }
-{
-    match t {
-        Truth::True => {
-            if !pending | present {
-                Judgement::True
-            } else {
-                Judgement::Unsettled
-            }
-        }
-        Truth::False => {
-            if !pending | present {
-                Judgement::False
-            } else {
-                Judgement::Unsettled
-            }
-        }
-        Truth::Unknown => {
-            if pending {
-                Judgement::Unsettled
-            } else {
-                Judgement::Unknown
-            }
-        }
     }
 }

@@ -1,6 +1,7 @@
 // Verdicts: the three-valued meaning of accepted frames at one instance. Nothing here knows where notes come from.
 mod arithmetic; // arithmetic.rt: sums and relations of 64-bit numbers
 mod evaluate; // evaluate.rt: one pass over the frames
+mod judgements; // judgements.rt: settled instances and their verdicts
 mod kleene; // kleene.rt: three truth values
 mod places; // places.rt: the occurrence that a reference means
 mod stacks; // stacks.rt: sums and conditions as stacks
@@ -20,6 +21,7 @@ pub enum Meant {
     At(Occurrence),
 }
 
+// A truth value of Kleene's logic.
 pub enum Truth {
     True,
     False,

@@ -1,4 +1,4 @@
-// Sums and conditions as stacks, each an array with a count. Called by the step of the evaluator.
+// Sums and conditions as stacks, each an array with a count. Called by evaluate::step, which knows that the frames are accepted.
 use crate::Truth;
 use crate::arithmetic;
 use crate::kleene;
@@ -14,6 +14,7 @@ ghost use Rattle.verdict.specs.Kleene.{notK};
 ghost use Rattle.verdict.specs.Value.{sizeOf};
 ghost use Rattle.verdict.specs.Stacks.{computedBy, holdsBy, joinedBy, truthsOf, Small};
 
+// A value onto the k that are below it.
 pub fn put_sum(sums: &mut [i64; 64], k: usize, v: i64) -> usize
     requires { ⌜ (length (now sums) ≡ 64) × (k < 64) ⌝ }
     ensures kept { λ r. ⌜ length (now (sums .exit)) ≡ 64 ⌝ }
@@ -23,6 +24,7 @@ pub fn put_sum(sums: &mut [i64; 64], k: usize, v: i64) -> usize
     k + 1
 }
 
+// The two values on top become one.
 pub fn join_sums(kind: u8, sums: &mut [i64; 64], k: usize) -> usize
     requires { ⌜ (length (now sums) ≡ 64) × ((k < 64) × ((2 ≤ k) × ((0x11 ≤ kind) × ((kind < 0x14) × Small (top2 (computedBy (kindOf kind)) (stackOf (pos 0) (now sums) k)))))) ⌝ }
     ensures kept { λ r. ⌜ length (now (sums .exit)) ≡ 64 ⌝ }
@@ -35,6 +37,7 @@ pub fn join_sums(kind: u8, sums: &mut [i64; 64], k: usize) -> usize
     k - 1
 }
 
+// abs of the value on top.
 pub fn size_sum(sums: &mut [i64; 64], k: usize) -> usize
     requires { ⌜ (length (now sums) ≡ 64) × ((k < 64) × ((1 ≤ k) × Small (top1 sizeOf (stackOf (pos 0) (now sums) k)))) ⌝ }
     ensures kept { λ r. ⌜ length (now (sums .exit)) ≡ 64 ⌝ }
@@ -57,6 +60,7 @@ pub fn relate(kind: u8, sums: &mut [i64; 64]) -> bool
     arithmetic::compare(kind, a, b)
 }
 
+// A truth value onto the c that are below it.
 pub fn put_cond(conds: &mut [u8; 64], c: usize, t: Truth) -> usize
     requires { ⌜ (length (now conds) ≡ 64) × (c < 64) ⌝ }
     ensures kept { λ r. ⌜ length (now (conds .exit)) ≡ 64 ⌝ }
@@ -66,6 +70,7 @@ pub fn put_cond(conds: &mut [u8; 64], c: usize, t: Truth) -> usize
     c + 1
 }
 
+// Not of the truth value on top.
 pub fn not_cond(conds: &mut [u8; 64], c: usize) -> usize
     requires { ⌜ (length (now conds) ≡ 64) × ((c < 64) × (1 ≤ c)) ⌝ }
     ensures kept { λ r. ⌜ length (now (conds .exit)) ≡ 64 ⌝ }
@@ -76,6 +81,7 @@ pub fn not_cond(conds: &mut [u8; 64], c: usize) -> usize
     c
 }
 
+// The two truth values on top become one.
 pub fn join_conds(kind: u8, conds: &mut [u8; 64], c: usize) -> usize
     requires { ⌜ (length (now conds) ≡ 64) × ((c < 64) × ((2 ≤ c) × ((0x32 ≤ kind) × (kind < 0x35)))) ⌝ }
     ensures kept { λ r. ⌜ length (now (conds .exit)) ≡ 64 ⌝ }

@@ -1,60 +1,51 @@
+-- `verdict::arithmetic::compare` meets its contract. Assumes nothing.
+use mathlib.Core.Path.{sym, ap, _∙_}
+use mathlib.Core.Bool.{not}
 use mir.ValLaws.{toZ-ofZ}
 use mir.Syntax.{w64}
-use mathlib.Core.Path.{_≡_, refl, sym, ap, _∙_}
-use mathlib.Core.Bool.{not}
 use Rattle.rule.specs.Frames.{equal, unequal, less, atMost, more, atLeast}
 use Rattle.verdict.proofs.Numbers.{equal-bits}
 use Rattle.verdict.proofs.ByKind.{holds-at, is-26}
-use borrow.Author.Needs.{needs}
-use native.Mathlib.Omega.{arith}
 use Rattle.verdict.proofs.arithmetic.compare.Statement.{statement}
 use Rattle.verdict.proofs.arithmetic.compare.Tie as tie
-use Rattle.verdict.proofs.arithmetic.compare.Reads as reads
-use Rattle.verdict.proofs.arithmetic.compare.Lts as lts
 
--- src/arithmetic.rt:39:1
 returns : tie.Need-returns
-returns c = 
+returns c =
     let s = c .before in
     let x = s .args .a in
     let y = s .args .b in
     equal-bits x y (s .fits .a) (s .fits .b) ∙ sym (holds-at equal (s .args .kind) x y (c .match .keys1))
 
--- src/arithmetic.rt:39:1
 returns-2 : tie.Need-returns-2
-returns-2 c = 
+returns-2 c =
     let s = c .before in
     let x = s .args .a in
     let y = s .args .b in
     ap not (equal-bits x y (s .fits .a) (s .fits .b)) ∙ sym (holds-at unequal (s .args .kind) x y (c .match .keys2))
 
--- src/arithmetic.rt:39:1
 returns-3 : tie.Need-returns-3
-returns-3 c = 
+returns-3 c =
     let s = c .before in
     let x = s .args .a in
     let y = s .args .b in
     rw (toZ-ofZ w64 x (s .fits .a), toZ-ofZ w64 y (s .fits .b)) (sym (holds-at less (s .args .kind) x y (c .match .keys3)))
 
--- src/arithmetic.rt:39:1
 returns-4 : tie.Need-returns-4
-returns-4 c = 
+returns-4 c =
     let s = c .before in
     let x = s .args .a in
     let y = s .args .b in
     rw (toZ-ofZ w64 x (s .fits .a), toZ-ofZ w64 y (s .fits .b)) (sym (holds-at atMost (s .args .kind) x y (c .match .keys4)))
 
--- src/arithmetic.rt:39:1
 returns-5 : tie.Need-returns-5
-returns-5 c = 
+returns-5 c =
     let s = c .before in
     let x = s .args .a in
     let y = s .args .b in
     rw (toZ-ofZ w64 x (s .fits .a), toZ-ofZ w64 y (s .fits .b)) (sym (holds-at more (s .args .kind) x y (c .match .keys5)))
 
--- src/arithmetic.rt:39:1
 returns-6 : tie.Need-returns-6
-returns-6 c = 
+returns-6 c =
     let s = c .before in
     let x = s .args .a in
     let y = s .args .b in

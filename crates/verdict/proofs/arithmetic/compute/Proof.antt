@@ -1,60 +1,51 @@
+-- `verdict::arithmetic::compute` meets its contract. Assumes nothing.
+use mathlib.Core.Path.{sym, _∙_}
 use mir.ValLaws.{toZ-ofZ}
 use mir.Syntax.{w64}
-use mathlib.Core.Path.{_≡_, refl, sym, ap, _∙_}
 use Rattle.rule.specs.Frames.{add, subtract, multiply}
 use Rattle.verdict.proofs.ByKind.{computed-at, is-13}
-use borrow.Author.Needs.{needs}
-use native.Mathlib.Omega.{arith}
 use Rattle.verdict.proofs.arithmetic.compute.Statement.{statement}
 use Rattle.verdict.proofs.arithmetic.compute.Tie as tie
-use Rattle.verdict.proofs.arithmetic.compute.Reads as reads
-use Rattle.verdict.proofs.arithmetic.compute.Lts as lts
 
--- src/arithmetic.rt:32:17
 add-result : tie.Need-add-result
-add-result c = 
+add-result c =
     let s = c .before in
     let x = s .args .a in
     let y = s .args .b in
     rw (toZ-ofZ w64 x (s .fits .a), toZ-ofZ w64 y (s .fits .b)) (rw (computed-at add (s .args .kind) x y (c .match .keys1)) at (s .pre .1 .1))
 
--- src/arithmetic.rt:33:17
 sub-result : tie.Need-sub-result
-sub-result c = 
+sub-result c =
     let s = c .before in
     let x = s .args .a in
     let y = s .args .b in
     rw (toZ-ofZ w64 x (s .fits .a), toZ-ofZ w64 y (s .fits .b)) (rw (computed-at subtract (s .args .kind) x y (c .match .keys2)) at (s .pre .1 .1))
 
--- src/arithmetic.rt:34:14
 mul-result : tie.Need-mul-result
-mul-result c = 
+mul-result c =
     let s = c .before in
     let x = s .args .a in
     let y = s .args .b in
     rw (toZ-ofZ w64 x (s .fits .a), toZ-ofZ w64 y (s .fits .b)) (rw (computed-at multiply (s .args .kind) x y (is-13 (s .args .kind) (s .pre .1 .0) (s .pre .0) (c .match .rest .0 .1) (c .match .rest .1))) at (s .pre .1 .1))
 
--- src/arithmetic.rt:27:1
 returns : tie.Need-returns
-returns c = 
+returns c =
     let s = c .before in
     let x = s .args .a in
     let y = s .args .b in
     toZ-ofZ w64 _ (add-result c)
     ∙ rw (toZ-ofZ w64 x (s .fits .a), toZ-ofZ w64 y (s .fits .b)) (sym (computed-at add (s .args .kind) x y (c .match .keys1)))
 
--- src/arithmetic.rt:27:1
 returns-2 : tie.Need-returns-2
-returns-2 c = 
+returns-2 c =
     let s = c .before in
     let x = s .args .a in
     let y = s .args .b in
     toZ-ofZ w64 _ (sub-result c)
     ∙ rw (toZ-ofZ w64 x (s .fits .a), toZ-ofZ w64 y (s .fits .b)) (sym (computed-at subtract (s .args .kind) x y (c .match .keys2)))
 
--- src/arithmetic.rt:27:1
 returns-3 : tie.Need-returns-3
-returns-3 c = 
+returns-3 c =
     let s = c .before in
     let x = s .args .a in
     let y = s .args .b in

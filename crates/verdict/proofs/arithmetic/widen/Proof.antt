@@ -1,19 +1,14 @@
+-- `verdict::arithmetic::widen` meets its contract. Assumes nothing.
 use mathlib.Core.Path.{_∙_}
 use mir.Syntax.{w32, w64}
 use mir.Facts.{sfits-widen}
 use mir.ValLaws.{toZ-ofZ}
-use borrow.Author.Needs.{needs}
-use native.Mathlib.Omega.{arith}
 use Rattle.verdict.proofs.arithmetic.widen.Statement.{statement}
 use Rattle.verdict.proofs.arithmetic.widen.Tie as tie
-use Rattle.verdict.proofs.arithmetic.widen.Reads as reads
-use Rattle.verdict.proofs.arithmetic.widen.Lts as lts
 
--- src/arithmetic.rt:16:5
 cast-result : tie.Need-cast-result
 cast-result c = rw (toZ-ofZ w32 (c .args .a) (c .fits .a)) (sfits-widen tt (c .fits .a))
 
--- src/arithmetic.rt:13:1
 returns : tie.Need-returns
 returns c = toZ-ofZ w64 _ (cast-result c) ∙ toZ-ofZ w32 (c .args .a) (c .fits .a)
 

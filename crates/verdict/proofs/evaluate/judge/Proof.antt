@@ -1,6 +1,9 @@
-use mathlib.Core.Path.{_≡_, refl, sym, ap, _∙_}
+-- `verdict::evaluate::judge` meets its contract. The invariant: the arrays hold the pass after k frames, each sum within its magnitude. The measure is what is left of the frames.
+-- Assumes nothing.
+use mathlib.Core.Path.{refl, ap, _∙_}
 use Prim.Native.Nat.{_≤_, _-_}
-use borrow.Author.Needs.{sfits-of}
+use native.Mathlib.Omega.{arith}
+use borrow.Author.Needs.{sfits-of, needs}
 use lib.IntN.{pos}
 use lib.ListN.{getD}
 use lib.Signed.{natAbs-le}
@@ -8,16 +11,8 @@ use mir.ValLaws.{toZ-ofZ}
 use mir.Syntax.{w32}
 use Rattle.verdict.specs.Pass.{judgedBy}
 use Rattle.verdict.proofs.Loop.{Held, begun, again, last}
-use borrow.Author.Needs.{needs}
-use native.Mathlib.Omega.{arith}
 use Rattle.verdict.proofs.evaluate.judge.Statement.{statement}
 use Rattle.verdict.proofs.evaluate.judge.Tie as tie
-use Rattle.verdict.proofs.evaluate.judge.Reads as reads
-use Rattle.verdict.proofs.evaluate.judge.Lts as lts
-use Rattle.rule.proofs.frame_at.Reads as frame-at-reads
-use Rattle.verdict.proofs.evaluate.step.Reads as step-reads
-use Rattle.verdict.proofs.kleene.decoded.Reads as decoded-reads
-use Rattle.verdict.proofs.kleene.judged.Reads as judged-reads
 
 abbrev Inv-loop : tie.InvT-loop
 Inv-loop frames i marks notes n sums₀ conds₀ top₀ k₀ sums conds top k = (k ≤ n) × Held frames (i .0) marks notes sums conds top k
@@ -25,29 +20,23 @@ Inv-loop frames i marks notes n sums₀ conds₀ top₀ k₀ sums conds top k = 
 abbrev μ-loop : tie.MeasureT-loop
 μ-loop frames i marks notes n sums₀ conds₀ top₀ k₀ sums conds top k = n - k
 
--- src/evaluate.rt:134:5
 loop-holds : tie.Need-loop-holds Inv-loop μ-loop
 loop-holds c = (search needs, record { long = refl; long-c = refl; within = tt; pass = refl })
 
--- src/evaluate.rt:135:13
 frame-at-requires : tie.Need-frame-at-requires Inv-loop μ-loop
 frame-at-requires c κs = omega arith
 
--- src/evaluate.rt:136:26
 shared-slice-read-step : tie.Need-shared-slice-read-step Inv-loop μ-loop
 shared-slice-read-step c = omega (arith, c .before .before .before .before .before .before .pre .marked)
 
--- src/evaluate.rt:136:36
 mul-step : tie.Need-mul-step Inv-loop μ-loop
 mul-step c = omega (arith, c .before .before .before .before .before .before .pre .noted)
 
--- src/evaluate.rt:136:36
 shared-slice-copy-out-step : tie.Need-shared-slice-copy-out-step Inv-loop μ-loop
 shared-slice-copy-out-step c = omega (arith, c .before .before .before .before .before .before .pre .noted)
 
--- src/evaluate.rt:136:9
 step-requires : tie.Need-step-requires Inv-loop μ-loop
-step-requires c κs = 
+step-requires c κs =
     let s = c .before .before .before .before .before .before .before .before .before in
     let a = s .args in
     let l = c .before .before .before .before .before .before .loop in
@@ -55,17 +44,14 @@ step-requires c κs =
     rw (toZ-ofZ w32 z (sfits-of (c .before .before .step-arg .given)))
     (begun (a .frames .now) (a .i .0) (a .marks .now) (a .notes .now) (s .pre) (l .sums) (l .conds) (l .top) (l .k) (l .inv .1) (c .before .before .before .before .frame-at .result) (c .before .before .before .before .frame-at .ensures) (natAbs-le z (c .before .before .step-arg .given)) (omega arith))
 
--- src/evaluate.rt:137:9
 add-k : tie.Need-add-k Inv-loop μ-loop
 add-k c = omega arith
 
--- src/evaluate.rt:134:5
 loop-less : tie.Need-loop-less Inv-loop μ-loop
 loop-less c = omega arith
 
--- src/evaluate.rt:134:5
 loop-again : tie.Need-loop-again Inv-loop μ-loop
-loop-again c = 
+loop-again c =
     let s = c .before .before .before .before .before .before .before .before .before .before in
     let a = s .args in
     let l = c .before .before .before .before .before .before .before .loop in
@@ -76,21 +62,17 @@ loop-again c =
           (rw (toZ-ofZ w32 z (sfits-of (c .before .before .before .step-arg .given))) at (g .ensures .1)),
     )
 
--- src/evaluate.rt:139:62
 array-read-decoded : tie.Need-array-read-decoded Inv-loop μ-loop
 array-read-decoded c = search needs
 
--- src/evaluate.rt:139:46
 decoded-requires : tie.Need-decoded-requires Inv-loop μ-loop
 decoded-requires c κs = search needs
 
--- src/evaluate.rt:139:5
 judged-requires : tie.Need-judged-requires Inv-loop μ-loop
 judged-requires c κs = search needs
 
--- src/evaluate.rt:119:1
 returns : tie.Need-returns Inv-loop μ-loop
-returns c = 
+returns c =
     let s = c .before .before .before .before .before .before in
     let a = s .args in
     let l = c .before .before .before .loop in

@@ -1,32 +1,24 @@
-use mathlib.Core.Path.{_≡_, refl, sym, ap, _∙_}
+-- `verdict::evaluate::put_reference` meets its contract. Assumes nothing.
+use mathlib.Core.Path.{ap, _∙_}
 use mathlib.Core.List.{_∷_}
-use borrow.Author.Needs.{sfits-of}
+use borrow.Author.Needs.{sfits-of, needs}
 use lib.IntN.{ℤ, pos}
 use mir.ValLaws.{toZ-ofZ}
 use mir.Syntax.{w32, w64}
 use Rattle.rule.specs.Stack.{stackOf}
 use Rattle.verdict.specs.Pass.{withSums, withReference}
 use Rattle.verdict.specs.Stacks.{passOf}
-use native.Mathlib.Omega.{arith}
-use borrow.Author.Needs.{needs}
 use Rattle.verdict.proofs.evaluate.put_reference.Statement.{statement}
 use Rattle.verdict.proofs.evaluate.put_reference.Tie as tie
-use Rattle.verdict.proofs.evaluate.put_reference.Reads as reads
-use Rattle.verdict.proofs.evaluate.put_reference.Lts as lts
-use Rattle.verdict.proofs.arithmetic.widen.Reads as widen-reads
-use Rattle.verdict.proofs.stacks.put_sum.Reads as put-sum-reads
 
--- src/evaluate.rt:39:39
 widen-requires : tie.Need-widen-requires
 widen-requires c κs = search needs
 
--- src/evaluate.rt:39:9
 put-sum-requires : tie.Need-put-sum-requires
 put-sum-requires c κs = search needs
 
--- src/evaluate.rt:33:1
 returns : tie.Need-returns
-returns c = 
+returns c =
     let s = c .before .before .before .before .before .before in
     let w = c .before .before .before .before .widen in
     let u = c .before .before .before .put-sum in

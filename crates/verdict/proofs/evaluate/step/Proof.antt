@@ -1,70 +1,53 @@
-use mathlib.Core.Path.{_≡_, refl, sym, ap, _∙_}
+-- `verdict::evaluate::step` meets its contract. A kind that no frame has cannot come: such frames are not accepted.
+-- Assumes nothing.
+use mathlib.Core.Path.{ap, _∙_}
 use mathlib.Core.List.{_∷_}
 use Prim.Native.Nat.{_≤_, _<_}
-use borrow.Author.Needs.{sfits-of}
+use native.Mathlib.Omega.{arith}
+use borrow.Author.Needs.{sfits-of, needs}
 use lib.IntN.{ℤ}
 use lib.ListN.{length}
 use mir.ValLaws.{toZ-ofZ}
 use mir.Facts.{toZ-pos}
 use mir.Syntax.{w32, w64}
 use Rattle.rule.specs.Frames.{literal, instance, reference, operand, absolute, negation}
-use Rattle.rule.proofs.KindBytes.{kind-at, none-00, none-04, none-15, none-27, none-35}
+use Rattle.rule.proofs.KindBytes.{kind-at, none-15, none-27, none-35}
 use Rattle.verdict.specs.Pass.{withSums, withConds, withReference}
 use Rattle.verdict.specs.Stacks.{passOf}
 use Rattle.verdict.proofs.ByKind.{past, none-low, step-at, arithmetic-ready, arithmetic-small, arithmetic-step, relation-ready, connective-ready, connective-step}
-use native.Mathlib.Omega.{arith}
-use borrow.Author.Needs.{needs}
 use Rattle.verdict.proofs.evaluate.step.Statement.{statement}
 use Rattle.verdict.proofs.evaluate.step.Tie as tie
-use Rattle.verdict.proofs.evaluate.step.Reads as reads
-use Rattle.verdict.proofs.evaluate.step.Lts as lts
-use Rattle.verdict.proofs.arithmetic.widen.Reads as widen-reads
-use Rattle.verdict.proofs.evaluate.put_reference.Reads as put-reference-reads
-use Rattle.verdict.proofs.evaluate.put_relation.Reads as put-relation-reads
-use Rattle.verdict.proofs.stacks.join_conds.Reads as join-conds-reads
-use Rattle.verdict.proofs.stacks.join_sums.Reads as join-sums-reads
-use Rattle.verdict.proofs.stacks.not_cond.Reads as not-cond-reads
-use Rattle.verdict.proofs.stacks.put_sum.Reads as put-sum-reads
-use Rattle.verdict.proofs.stacks.size_sum.Reads as size-sum-reads
 
--- src/evaluate.rt:87:50
 widen-requires : tie.Need-widen-requires
 widen-requires c κs = search needs
 
--- src/evaluate.rt:87:13
 put-sum-requires : tie.Need-put-sum-requires
 put-sum-requires c κs = search needs
 
--- src/evaluate.rt:91:50
 cast-put-sum : tie.Need-cast-put-sum
 cast-put-sum c = search needs
 
--- src/evaluate.rt:91:13
 put-sum-requires-2 : tie.Need-put-sum-requires-2
 put-sum-requires-2 c κs = search needs
 
--- src/evaluate.rt:94:17
 put-reference-requires : tie.Need-put-reference-requires
 put-reference-requires c κs = search needs
 
--- src/evaluate.rt:100:13
 size-sum-requires : tie.Need-size-sum-requires
-size-sum-requires c κs = 
+size-sum-requires c κs =
     let s = c .before .before in
     let a = s .args in
     let e = kind-at absolute (a .x .kind) (c .before .match .keys4) in
     (s .pre .long, (s .pre .room, (rw e at (s .pre .ready), rw e at (s .pre .small))))
 
--- src/evaluate.rt:105:13
 not-cond-requires : tie.Need-not-cond-requires
-not-cond-requires c κs = 
+not-cond-requires c κs =
     let s = c .before .before in
     let a = s .args in
     (s .pre .long-c, (s .pre .room-c, rw (kind-at negation (a .x .kind) (c .before .match .keys5)) at (s .pre .ready-c)))
 
--- src/evaluate.rt:96:13
 join-sums-requires : tie.Need-join-sums-requires
-join-sums-requires c κs = 
+join-sums-requires c κs =
     let s = c .before .before .before .before in
     let a = s .args in
     let p = passOf (a .sums .now) (a .conds .now) (a .top) in
@@ -72,9 +55,8 @@ join-sums-requires c κs =
     let j : a .x .kind < 0x14 = omega arith in
     (s .pre .long, (s .pre .room, (arithmetic-ready (a .x .kind) (a .x .value) (a .i .0) (a .mark) (a .note) p h j (a .top .sums) (s .pre .ready), (h, (j, arithmetic-small (a .x .kind) (a .x .value) (a .i .0) (a .mark) (a .note) p h j (s .pre .small))))))
 
--- src/evaluate.rt:103:24
 put-relation-requires : tie.Need-put-relation-requires
-put-relation-requires c κs = 
+put-relation-requires c κs =
     let s = c .before .before .before .before .before .before .before in
     let a = s .args in
     let p = passOf (a .sums .now) (a .conds .now) (a .top) in
@@ -82,9 +64,8 @@ put-relation-requires c κs =
     let j : a .x .kind < 0x27 = omega arith in
     ((h, j), (s .pre .long-c, (s .pre .room-c, relation-ready (a .x .kind) (a .x .value) (a .i .0) (a .mark) (a .note) p h j (a .top .sums) (s .pre .ready))))
 
--- src/evaluate.rt:109:13
 join-conds-requires : tie.Need-join-conds-requires
-join-conds-requires c κs = 
+join-conds-requires c κs =
     let s = c .before .before .before .before .before .before .before .before in
     let a = s .args in
     let p = passOf (a .sums .now) (a .conds .now) (a .top) in
@@ -92,9 +73,8 @@ join-conds-requires c κs =
     let j : a .x .kind < 0x35 = omega arith in
     (s .pre .long-c, (s .pre .room-c, (connective-ready (a .x .kind) (a .x .value) (a .i .0) (a .mark) (a .note) p h j (a .top .conds) (s .pre .ready-c), (h, j))))
 
--- src/evaluate.rt:68:1
 returns : tie.Need-returns
-returns c = 
+returns c =
     let s = c .before .before .before .before .before in
     let a = s .args in
     let p = passOf (a .sums .now) (a .conds .now) (a .top) in
@@ -104,9 +84,8 @@ returns c =
       step-at (operand literal) (a .x .kind) (a .x .value) (a .i .0) (a .mark) (a .note) p _ (c .before .before .before .before .match .keys1) (ap (withSums p) (c .put-sum .ensures .1 ∙ ap (λ (z : ℤ). z ∷ p .sums) e)),
     )
 
--- src/evaluate.rt:68:1
 returns-2 : tie.Need-returns-2
-returns-2 c = 
+returns-2 c =
     let s = c .before .before .before .before in
     let a = s .args in
     let p = passOf (a .sums .now) (a .conds .now) (a .top) in
@@ -115,62 +94,52 @@ returns-2 c =
       step-at (operand instance) (a .x .kind) (a .x .value) (a .i .0) (a .mark) (a .note) p _ (c .before .before .before .match .keys2) (ap (withSums p) (c .put-sum2 .ensures .1 ∙ ap (λ (z : ℤ). z ∷ p .sums) e)),
     )
 
--- src/evaluate.rt:68:1
 returns-3 : tie.Need-returns-3
-returns-3 c = 
+returns-3 c =
     let s = c .before .before .before in
     let a = s .args in
-    let p = passOf (a .sums .now) (a .conds .now) (a .top) in
-    (
+    let p = passOf (a .sums .now) (a .conds .now) (a .top) in (
       (c .put-reference .ensures .0, s .pre .long-c),
       step-at (operand reference) (a .x .kind) (a .x .value) (a .i .0) (a .mark) (a .note) p _ (c .before .before .match .keys3) (c .put-reference .ensures .1 (a .conds .now) ∙ ap (withReference p (a .mark)) (toZ-ofZ w32 (a .note) (s .fits .note))),
     )
 
--- src/evaluate.rt:68:1
 returns-4 : tie.Need-returns-4
-returns-4 c = 
+returns-4 c =
     let s = c .before .before .before in
     let a = s .args in
-    let p = passOf (a .sums .now) (a .conds .now) (a .top) in
-    (
+    let p = passOf (a .sums .now) (a .conds .now) (a .top) in (
       (c .size-sum .ensures .0, s .pre .long-c),
       step-at absolute (a .x .kind) (a .x .value) (a .i .0) (a .mark) (a .note) p _ (c .before .before .match .keys4) (ap (withSums p) (c .size-sum .ensures .1)),
     )
 
--- src/evaluate.rt:68:1
 returns-5 : tie.Need-returns-5
-returns-5 c = 
+returns-5 c =
     let s = c .before .before .before in
     let a = s .args in
-    let p = passOf (a .sums .now) (a .conds .now) (a .top) in
-    (
+    let p = passOf (a .sums .now) (a .conds .now) (a .top) in (
       (s .pre .long, c .not-cond .ensures .0),
       step-at negation (a .x .kind) (a .x .value) (a .i .0) (a .mark) (a .note) p _ (c .before .before .match .keys5) (ap (withConds p) (c .not-cond .ensures .1)),
     )
 
--- src/evaluate.rt:68:1
 returns-6 : tie.Need-returns-6
-returns-6 c = 
+returns-6 c =
     let s = c .before .before .before .before .before in
     let a = s .args in
-    let p = passOf (a .sums .now) (a .conds .now) (a .top) in
-    (
+    let p = passOf (a .sums .now) (a .conds .now) (a .top) in (
       (c .join-sums .ensures .0, s .pre .long-c),
       arithmetic-step (a .x .kind) (a .x .value) (a .i .0) (a .mark) (a .note) p (omega arith) (omega arith) _ (c .join-sums .ensures .1),
     )
 
--- src/evaluate.rt:68:1
 returns-7 : tie.Need-returns-7
-returns-7 c = 
+returns-7 c =
     let s = c .before .before .before .before .before .before .before .before in
     let a = s .args in
     let p = passOf (a .sums .now) (a .conds .now) (a .top) in
     let g = c .put-relation .ensures in
     ((ap length (g .0 .0) ∙ s .pre .long, g .0 .1), g .1 (a .x .value) (a .i .0) (a .mark) (a .note))
 
--- src/evaluate.rt:68:1
 returns-8 : tie.Need-returns-8
-returns-8 c = 
+returns-8 c =
     let s = c .before .before .before .before .before .before .before .before .before in
     let a = s .args in
     let p = passOf (a .sums .now) (a .conds .now) (a .top) in
@@ -179,32 +148,28 @@ returns-8 c =
       connective-step (a .x .kind) (a .x .value) (a .i .0) (a .mark) (a .note) p h (omega arith) _ (c .join-conds .ensures .1),
     )
 
--- src/evaluate.rt:68:1
 returns-9 : tie.Need-returns-9
-returns-9 c = 
+returns-9 c =
     let s = c .before .before in
     let a = s .args in
     let r = c .before .match .rest in
     absurd (rw (none-low (a .x .kind) (c .if1 .taken) (r .0 .0 .0 .0 .1) (r .0 .0 .0 .1) (r .0 .0 .1)) at (s .pre .ready))
 
--- src/evaluate.rt:68:1
 returns-10 : tie.Need-returns-10
-returns-10 c = 
+returns-10 c =
     let s = c .before .before .before .before in
     let a = s .args in
     let r = c .before .before .before .match .rest in
     absurd (rw (none-15 (a .x .kind) (past 0x14 (a .x .kind) (c .before .if2 .left) (r .0 .1)) (c .if3 .taken)) at (s .pre .ready))
 
--- src/evaluate.rt:68:1
 returns-11 : tie.Need-returns-11
-returns-11 c = 
+returns-11 c =
     let s = c .before .before .before .before .before .before in
     let a = s .args in
     absurd (rw (none-27 (a .x .kind) (omega arith) (omega arith)) at (s .pre .ready))
 
--- src/evaluate.rt:68:1
 returns-12 : tie.Need-returns-12
-returns-12 c = 
+returns-12 c =
     let s = c .before .before .before .before .before .before .before in
     let a = s .args in
     absurd (rw (none-35 (a .x .kind) (omega arith) (omega arith)) at (s .pre .ready))

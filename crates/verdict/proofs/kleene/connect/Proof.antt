@@ -1,49 +1,37 @@
-use mathlib.Core.Path.{_≡_, refl, sym, ap, _∙_}
+-- `verdict::kleene::connect` meets its contract. Assumes nothing.
+use mathlib.Core.Path.{sym, ap, _∙_}
+use borrow.Author.Needs.{needs}
 use Rattle.rule.specs.Frames.{and, or, implies}
 use Rattle.verdict.specs.Kleene.{orK}
 use Rattle.verdict.specs.declared.Truth.{Truth}
 use Rattle.verdict.proofs.ByKind.{joined-at, is-34}
-use native.Mathlib.Omega.{arith}
-use borrow.Author.Needs.{needs}
 use Rattle.verdict.proofs.kleene.connect.Statement.{statement}
 use Rattle.verdict.proofs.kleene.connect.Tie as tie
-use Rattle.verdict.proofs.kleene.connect.Reads as reads
-use Rattle.verdict.proofs.kleene.connect.Lts as lts
-use Rattle.verdict.proofs.kleene.both.Reads as both-reads
-use Rattle.verdict.proofs.kleene.either.Reads as either-reads
-use Rattle.verdict.proofs.kleene.negated.Reads as negated-reads
 
--- src/kleene.rt:56:17
 both-requires : tie.Need-both-requires
 both-requires c κs = search needs
 
--- src/kleene.rt:57:17
 either-requires : tie.Need-either-requires
 either-requires c κs = search needs
 
--- src/kleene.rt:58:21
 negated-requires : tie.Need-negated-requires
 negated-requires c κs = search needs
 
--- src/kleene.rt:58:14
 either-requires-2 : tie.Need-either-requires-2
 either-requires-2 c κs = search needs
 
--- src/kleene.rt:51:1
 returns : tie.Need-returns
-returns c = 
+returns c =
     let s = c .before .before in
     c .both .ensures ∙ sym (joined-at and (s .args .kind) (s .args .p) (s .args .q) (c .before .match .keys1))
 
--- src/kleene.rt:51:1
 returns-2 : tie.Need-returns-2
-returns-2 c = 
+returns-2 c =
     let s = c .before .before in
     c .either .ensures ∙ sym (joined-at or (s .args .kind) (s .args .p) (s .args .q) (c .before .match .keys2))
 
--- src/kleene.rt:51:1
 returns-3 : tie.Need-returns-3
-returns-3 c = 
+returns-3 c =
     let s = c .before .before .before in
     c .either2 .ensures ∙ ap (λ (t : Truth). orK t (s .args .q)) (c .before .negated .ensures)
     ∙ sym (joined-at implies (s .args .kind) (s .args .p) (s .args .q) (is-34 (s .args .kind) (s .pre .1) (s .pre .0) (c .before .before .match .rest .0 .1) (c .before .before .match .rest .1)))

@@ -1,20 +1,14 @@
+-- `verdict::kleene::decoded` meets its contract. Assumes nothing.
 use borrow.Author.Tests.{ne-eqb}
-use borrow.Author.Needs.{needs}
-use native.Mathlib.Omega.{arith}
 use Rattle.verdict.proofs.kleene.decoded.Statement.{statement}
 use Rattle.verdict.proofs.kleene.decoded.Tie as tie
-use Rattle.verdict.proofs.kleene.decoded.Reads as reads
-use Rattle.verdict.proofs.kleene.decoded.Lts as lts
 
--- src/kleene.rt:75:1
 returns : tie.Need-returns
 returns c = rw (c .match .keys1)
 
--- src/kleene.rt:75:1
 returns-2 : tie.Need-returns-2
 returns-2 c = rw (c .match .keys2)
 
--- src/kleene.rt:75:1
 returns-3 : tie.Need-returns-3
 returns-3 c = rw (ne-eqb (c .before .args .b) 0 (c .match .rest .0 .1), ne-eqb (c .before .args .b) 1 (c .match .rest .1))
 

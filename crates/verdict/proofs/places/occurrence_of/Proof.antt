@@ -1,22 +1,20 @@
-use mathlib.Core.Path.{_≡_, refl, sym, ap, _∙_}
+-- `verdict::places::occurrence_of` meets its contract. Assumes nothing.
+use mathlib.Core.Path.{_≡_}
 use Prim.Native.Nat.{_*_, _≤_}
 use native.Mathlib.Nat.{mul-le-mul}
-use lib.IntN.{ℤ, pos, natAbs, _+ℤ_}
+use native.Mathlib.Omega.{arith}
+use lib.IntN.{pos, _+ℤ_}
 use mir.ValLaws.{toZ-ofZ}
 use mir.Facts.{sfits-widen, toZ-pos}
 use mir.Val.{SFits, toZ, ofZ}
 use mir.Syntax.{w32, w64}
 use Rattle.numbers.proofs.Ints.{is-not-negative}
+use Rattle.rule.specs.Limits.{factorLimit}
 use Rattle.verdict.specs.Found.{instanceLimit, occurrence}
-use Rattle.rule.specs.Limits.{factorLimit, offsetLimit}
 use Rattle.verdict.proofs.Numbers.{natAbs-add, small-fits}
 use Rattle.verdict.proofs.Meanings.{meant-void, meant-at}
-use borrow.Author.Needs.{needs}
-use native.Mathlib.Omega.{arith}
 use Rattle.verdict.proofs.places.occurrence_of.Statement.{statement}
 use Rattle.verdict.proofs.places.occurrence_of.Tie as tie
-use Rattle.verdict.proofs.places.occurrence_of.Reads as reads
-use Rattle.verdict.proofs.places.occurrence_of.Lts as lts
 
 -- the product is small, and the number is what the contract says
 low : (c : tie.After-struct-known) → c .before .args .factor * c .before .args .i .0 ≤ factorLimit * instanceLimit
@@ -34,46 +32,39 @@ same c =
     rw (toZ-pos w64 {n = m} (omega (arith, low c)), toZ-ofZ w32 (a .offset) (c .before .fits .offset), toZ-ofZ w64 (a .offset) (wide c))
     (toZ-ofZ w64 (pos m +ℤ a .offset) (small-fits (pos m +ℤ a .offset) (omega (arith, low c, natAbs-add (pos m) (a .offset)))))
 
--- src/places.rt:16:19
 mul-product : tie.Need-mul-product
 mul-product c = omega (arith, low c)
 
--- src/places.rt:17:14
 cast-at : tie.Need-cast-at
-cast-at c = 
+cast-at c =
     let m = c .before .args .factor * c .before .args .i .0 in
     small-fits (pos m) (omega (arith, low c))
 
--- src/places.rt:17:31
 cast-at-2 : tie.Need-cast-at-2
 cast-at-2 c = rw (toZ-ofZ w32 (c .before .args .offset) (c .before .fits .offset)) (wide c)
 
--- src/places.rt:17:14
 add-at : tie.Need-add-at
-add-at c = 
+add-at c =
     let a = c .before .args in
     let m = a .factor * a .i .0 in
     rw (toZ-pos w64 {n = m} (omega (arith, low c)), toZ-ofZ w32 (a .offset) (c .before .fits .offset), toZ-ofZ w64 (a .offset) (wide c))
     (small-fits (pos m +ℤ a .offset) (omega (arith, low c, natAbs-add (pos m) (a .offset))))
 
--- src/places.rt:21:30
 cast-t11 : tie.Need-cast-t11
-cast-t11 c = 
+cast-t11 c =
     let a = c .before .before .args in
     let m = a .factor * a .i .0 in
     let z = pos m +ℤ a .offset in
     rw (same (c .before))
     (is-not-negative z (rw (same (c .before)) at (c .if1 .left)), record { fits = omega (arith, low (c .before), natAbs-add (pos m) (a .offset)) })
 
--- src/places.rt:12:1
 returns : tie.Need-returns
-returns c = 
+returns c =
     let a = c .before .before .args in
     meant-void (occurrence (a .factor) (a .offset) (a .i .0)) (rw (same (c .before)) at (c .if1 .taken))
 
--- src/places.rt:12:1
 returns-2 : tie.Need-returns-2
-returns-2 c = 
+returns-2 c =
     let a = c .before .before .args in
     rw (same (c .before)) (meant-at (occurrence (a .factor) (a .offset) (a .i .0)) (rw (same (c .before)) at (c .if1 .left)))
 

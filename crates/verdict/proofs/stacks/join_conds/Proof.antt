@@ -1,69 +1,53 @@
-use mathlib.Core.Path.{_≡_, refl, sym, ap, _∙_}
+-- `verdict::stacks::join_conds` meets its contract. Assumes nothing.
+use mathlib.Core.Path.{_≡_, sym, ap, _∙_}
 use mathlib.Core.List.{List, _∷_, map}
 use Prim.Native.Nat.{ℕ, _-_}
+use native.Mathlib.Omega.{arith}
+use borrow.Author.Needs.{needs}
 use lib.ListN.{getD, length-set}
-use Rattle.verdict.specs.Stacks.{truthOf, truthsOf, joinedBy}
-use Rattle.verdict.specs.declared.Truth.{Truth}
 use Rattle.rule.specs.Frames.{kindOf}
 use Rattle.rule.specs.Build.{top2}
 use Rattle.rule.proofs.Stack.{stack-two, stack-fold}
-use native.Mathlib.Omega.{arith}
-use borrow.Author.Needs.{needs}
+use Rattle.verdict.specs.Stacks.{truthOf, truthsOf, joinedBy}
+use Rattle.verdict.specs.declared.Truth.{Truth}
 use Rattle.verdict.proofs.stacks.join_conds.Statement.{statement}
 use Rattle.verdict.proofs.stacks.join_conds.Tie as tie
-use Rattle.verdict.proofs.stacks.join_conds.Reads as reads
-use Rattle.verdict.proofs.stacks.join_conds.Lts as lts
-use Rattle.verdict.proofs.kleene.code.Reads as code-reads
-use Rattle.verdict.proofs.kleene.connect.Reads as connect-reads
-use Rattle.verdict.proofs.kleene.decoded.Reads as decoded-reads
 
--- src/stacks.rt:84:35
 sub-decoded : tie.Need-sub-decoded
 sub-decoded c = search needs
 
--- src/stacks.rt:84:29
 element-copy-out-decoded : tie.Need-element-copy-out-decoded
 element-copy-out-decoded c = search needs
 
--- src/stacks.rt:84:9
 decoded-requires : tie.Need-decoded-requires
 decoded-requires c κs = search needs
 
--- src/stacks.rt:85:35
 sub-decoded-2 : tie.Need-sub-decoded-2
 sub-decoded-2 c = search needs
 
--- src/stacks.rt:85:29
 element-copy-out-decoded-2 : tie.Need-element-copy-out-decoded-2
 element-copy-out-decoded-2 c = search needs
 
--- src/stacks.rt:85:9
 decoded-requires-2 : tie.Need-decoded-requires-2
 decoded-requires-2 c κs = search needs
 
--- src/stacks.rt:86:33
 connect-requires : tie.Need-connect-requires
 connect-requires c κs = search needs
 
--- src/stacks.rt:86:20
 code-requires : tie.Need-code-requires
 code-requires c κs = search needs
 
--- src/stacks.rt:86:11
 sub-conds : tie.Need-sub-conds
 sub-conds c = search needs
 
--- src/stacks.rt:86:5
 element-write-conds : tie.Need-element-write-conds
 element-write-conds c = search needs
 
--- src/stacks.rt:87:5
 sub-result : tie.Need-sub-result
 sub-result c = search needs
 
--- src/stacks.rt:79:1
 returns : tie.Need-returns
-returns c = 
+returns c =
     let st = c .before .before .before .before .before .before in
     let s = st .args .conds .now in
     let k = st .args .c in

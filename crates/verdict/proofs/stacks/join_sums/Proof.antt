@@ -1,52 +1,42 @@
-use mir.ValLaws.{toZ-ofZ}
-use mir.Syntax.{w64}
-use mathlib.Core.Path.{_≡_, refl, sym, ap, _∙_}
-use borrow.Author.Needs.{sfits-of}
+-- `verdict::stacks::join_sums` meets its contract. Assumes nothing.
+use mathlib.Core.Path.{_≡_, sym, ap, _∙_}
 use Prim.Native.Nat.{_-_}
-use mir.Val.{toZ, ofZ}
+use native.Mathlib.Omega.{arith}
+use borrow.Author.Needs.{sfits-of, needs}
 use lib.IntN.{ℤ, pos}
 use lib.ListN.{getD, set, length-set}
+use mir.ValLaws.{toZ-ofZ}
+use mir.Syntax.{w64}
+use mir.Val.{toZ, ofZ}
 use Rattle.rule.specs.Frames.{kindOf}
 use Rattle.rule.specs.Build.{top2}
 use Rattle.rule.specs.Stack.{stackOf}
 use Rattle.rule.proofs.Stack.{stack-two, stack-fold}
 use Rattle.verdict.specs.Stacks.{computedBy}
 use Rattle.verdict.proofs.Numbers.{small-fits}
-use native.Mathlib.Omega.{arith}
-use borrow.Author.Needs.{needs}
 use Rattle.verdict.proofs.stacks.join_sums.Statement.{statement}
 use Rattle.verdict.proofs.stacks.join_sums.Tie as tie
-use Rattle.verdict.proofs.stacks.join_sums.Reads as reads
-use Rattle.verdict.proofs.stacks.join_sums.Lts as lts
-use Rattle.verdict.proofs.arithmetic.compute.Reads as compute-reads
 
--- src/stacks.rt:31:18
 sub-a : tie.Need-sub-a
 sub-a c = search needs
 
--- src/stacks.rt:31:13
 mul-a : tie.Need-mul-a
 mul-a c = search needs
 
--- src/stacks.rt:31:13
 element-copy-out-a : tie.Need-element-copy-out-a
 element-copy-out-a c = search needs
 
--- src/stacks.rt:32:18
 sub-b : tie.Need-sub-b
 sub-b c = search needs
 
--- src/stacks.rt:32:13
 mul-b : tie.Need-mul-b
 mul-b c = search needs
 
--- src/stacks.rt:32:13
 element-copy-out-b : tie.Need-element-copy-out-b
 element-copy-out-b c = search needs
 
--- src/stacks.rt:33:9
 compute-requires : tie.Need-compute-requires
-compute-requires c κs = 
+compute-requires c κs =
     let st = c .before .before in
     let s = st .args .sums .now in
     let k = st .args .k in
@@ -59,25 +49,20 @@ compute-requires c κs =
       ),
     )
 
--- src/stacks.rt:34:10
 sub-v : tie.Need-sub-v
 sub-v c = search needs
 
--- src/stacks.rt:34:5
 mul-v : tie.Need-mul-v
 mul-v c = search needs
 
--- src/stacks.rt:34:5
 element-set-from-v : tie.Need-element-set-from-v
 element-set-from-v c = search needs
 
--- src/stacks.rt:35:5
 sub-result : tie.Need-sub-result
 sub-result c = search needs
 
--- src/stacks.rt:26:1
 returns : tie.Need-returns
-returns c = 
+returns c =
     let st = c .before .before .before in
     let s = st .args .sums .now in
     let k = st .args .k in

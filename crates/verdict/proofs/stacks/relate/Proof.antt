@@ -1,32 +1,24 @@
-use mir.ValLaws.{toZ-ofZ}
-use mir.Syntax.{w64}
-use mathlib.Core.Path.{_≡_, refl, sym, ap, _∙_}
-use borrow.Author.Needs.{sfits-of}
+-- `verdict::stacks::relate` meets its contract. Assumes nothing.
+use mathlib.Core.Path.{refl, _∙_}
+use borrow.Author.Needs.{sfits-of, needs}
 use lib.IntN.{pos}
 use lib.ListN.{getD}
-use native.Mathlib.Omega.{arith}
-use borrow.Author.Needs.{needs}
+use mir.ValLaws.{toZ-ofZ}
+use mir.Syntax.{w64}
 use Rattle.verdict.proofs.stacks.relate.Statement.{statement}
 use Rattle.verdict.proofs.stacks.relate.Tie as tie
-use Rattle.verdict.proofs.stacks.relate.Reads as reads
-use Rattle.verdict.proofs.stacks.relate.Lts as lts
-use Rattle.verdict.proofs.arithmetic.compare.Reads as compare-reads
 
--- src/stacks.rt:55:13
 element-copy-out-a : tie.Need-element-copy-out-a
 element-copy-out-a c = search needs
 
--- src/stacks.rt:56:13
 element-copy-out-b : tie.Need-element-copy-out-b
 element-copy-out-b c = search needs
 
--- src/stacks.rt:57:5
 compare-requires : tie.Need-compare-requires
 compare-requires c κs = search needs
 
--- src/stacks.rt:50:1
 returns : tie.Need-returns
-returns c = 
+returns c =
     let s = c .before .before .before .args .sums .now in (
       refl,
       c .compare .ensures

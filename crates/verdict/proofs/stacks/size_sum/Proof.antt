@@ -1,59 +1,48 @@
-use mir.ValLaws.{toZ-ofZ}
-use mir.Syntax.{w64}
-use mathlib.Core.Path.{_≡_, refl, sym, ap, _∙_}
-use borrow.Author.Needs.{sfits-of}
+-- `verdict::stacks::size_sum` meets its contract. Assumes nothing.
+use mathlib.Core.Path.{_≡_, sym, ap, _∙_}
 use Prim.Native.Nat.{_-_}
-use mir.Val.{toZ, ofZ}
+use native.Mathlib.Omega.{arith}
+use borrow.Author.Needs.{sfits-of, needs}
 use lib.IntN.{ℤ, pos}
 use lib.ListN.{getD, set, length-set}
+use mir.ValLaws.{toZ-ofZ}
+use mir.Syntax.{w64}
+use mir.Val.{toZ, ofZ}
 use Rattle.rule.specs.Build.{top1}
 use Rattle.rule.specs.Stack.{stackOf}
 use Rattle.rule.proofs.Stack.{stack-one, stack-top}
 use Rattle.verdict.specs.Value.{sizeOf}
-use native.Mathlib.Omega.{arith}
-use borrow.Author.Needs.{needs}
 use Rattle.verdict.proofs.stacks.size_sum.Statement.{statement}
 use Rattle.verdict.proofs.stacks.size_sum.Tie as tie
-use Rattle.verdict.proofs.stacks.size_sum.Reads as reads
-use Rattle.verdict.proofs.stacks.size_sum.Lts as lts
-use Rattle.verdict.proofs.arithmetic.size.Reads as size-reads
 
--- src/stacks.rt:43:18
 sub-a : tie.Need-sub-a
 sub-a c = search needs
 
--- src/stacks.rt:43:13
 mul-a : tie.Need-mul-a
 mul-a c = search needs
 
--- src/stacks.rt:43:13
 element-copy-out-a : tie.Need-element-copy-out-a
 element-copy-out-a c = search needs
 
--- src/stacks.rt:44:9
 size-requires : tie.Need-size-requires
-size-requires c κs = 
+size-requires c κs =
     let st = c .before in
     let s = st .args .sums .now in
     let k = st .args .k in
     let b = rw (stack-one (pos 0) s k (omega arith)) at (st .pre .1 .1 .1) in
     rw (toZ-ofZ w64 (getD s (k - 1) (pos 0)) (sfits-of (c .a .given))) (b .0)
 
--- src/stacks.rt:45:10
 sub-v : tie.Need-sub-v
 sub-v c = search needs
 
--- src/stacks.rt:45:5
 mul-v : tie.Need-mul-v
 mul-v c = search needs
 
--- src/stacks.rt:45:5
 element-set-from-v : tie.Need-element-set-from-v
 element-set-from-v c = search needs
 
--- src/stacks.rt:38:1
 returns : tie.Need-returns
-returns c = 
+returns c =
     let st = c .before .before in
     let s = st .args .sums .now in
     let k = st .args .k in

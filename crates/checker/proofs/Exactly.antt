@@ -1,0 +1,186 @@
+-- After every list of calls: exactly when a pull waits, exactly when a line is accepted or finds the window full, and what the
+-- window holds; exactly when opening is not refused. Assumes nothing.
+use mathlib.Core.Path.{_≡_, refl, sym, _∙_, ap, subst}
+use mathlib.Core.Bool.{Bool, true, false, _&&_, cond}
+use mathlib.Core.List.{List, [], _∷_}
+use mathlib.Core.Logic.{_↔_}
+use Prim.Native.Nat.{ℕ, _+_, _<_, _≤_}
+use native.Mathlib.Omega.{arith}
+use borrow.Author.Tests.{eq-eqb, eqb-true, le-leb, lt-leb, leb-true, leb-false, le-ltb, ltb-false}
+use lib.Dec.{ltb, leb}
+use lib.IntN.{ℤ, pos}
+use lib.ListN.{length, getD}
+use Rattle.rule.specs.Frames.{Bytes}
+use Rattle.rule.specs.Tree.{references}
+use Rattle.rule.specs.Build.{treeOf}
+use Rattle.rule.specs.Check.{checkedOf}
+use Rattle.rule.specs.Opening.{Proper}
+use Rattle.rule.specs.declared.Checked.{Checked}
+use Rattle.rule.specs.declared.Checked.the-variants.{Accepted, Refused}
+use Rattle.rule.proofs.Main.{frames-exactly}
+use Rattle.log.specs.Line.{lineOf}
+use Rattle.log.specs.Line as log
+use Rattle.numbers.proofs.Bools.{and-true, true-and}
+use Rattle.verdict.specs.Found.{foundIn}
+use Rattle.verdict.specs.Value.{value}
+use Rattle.verdict.specs.Settled.{settled}
+use Rattle.verdict.specs.Settled as settling
+use Rattle.verdict.specs.declared.Truth.{Truth}
+use Rattle.verdict.specs.declared.Truth.the-variants.{True, False, Unknown}
+use Rattle.verdict.specs.declared.Judgement.the-variants.{Unsettled}
+use Rattle.checker.specs.Limits.{widthLimit, windowWords, lineLimit, reportLeast}
+use Rattle.checker.specs.Answer.{Answer, opened, accepted, ignored, waiting, verdict, refused}
+use Rattle.checker.specs.Base.{referenced, base}
+use Rattle.checker.specs.State.{countOf, zeroState}
+use Rattle.checker.specs.Ring.{wordAt}
+use Rattle.checker.specs.Open.{widthFits, windowFits, openedAs, notOpened, afterFrames, openDef}
+use Rattle.checker.specs.Good.{goodRule, goodState}
+use Rattle.checker.specs.Feed.{turned, skipped, taken, feedEvent, feedRead, feedAnswer, feedDef}
+use Rattle.checker.specs.Pull.{short, offered, pullRead, pullAnswer, pullDef}
+use Rattle.checker.specs.Calls.{Call, feed, pull, end, Checker, checker}
+use Rattle.checker.specs.Machine.{Machine, atFirst, tallyOf, machineFor}
+use Rattle.checker.specs.Demand.{Unrefused, fresh, answerOf}
+use Rattle.checker.proofs.Simulation.{count-of, out-step}
+use Rattle.checker.proofs.Bases.{referenced-below}
+use Rattle.checker.proofs.Fresh.{opened-fine}
+use Rattle.checker.proofs.Lists.{in-step}
+
+-- ---- answers told apart by a number; a refusal has 5 more than its own
+abbrev codeOf : Answer → ℕ
+codeOf opened = 0
+codeOf accepted = 1
+codeOf ignored = 2
+codeOf waiting = 3
+codeOf (verdict v) = 4
+codeOf (refused number place) = 5 + number
+
+-- ---- when a pull waits
+waits-by : (t s : Bool) (v : Truth) → pullAnswer (cond t short (offered (cond s (settling.verdict v) Unsettled))) ≡ waiting → (t ≡ false) × (s ≡ false)
+waits-by true s v q = absurd (let z : 19 ≡ 3 = ap codeOf q in omega arith)
+waits-by false true True q = absurd (let z : 4 ≡ 3 = ap codeOf q in omega arith)
+waits-by false true False q = absurd (let z : 4 ≡ 3 = ap codeOf q in omega arith)
+waits-by false true Unknown q = absurd (let z : 4 ≡ 3 = ap codeOf q in omega arith)
+waits-by false false v q = (refl, refl)
+
+by-waits : (t s : Bool) (v : Truth) → t ≡ false → s ≡ false → pullAnswer (cond t short (offered (cond s (settling.verdict v) Unsettled))) ≡ waiting
+by-waits t s v p q = rw (p, q)
+
+-- ---- when a line is accepted, and when the window is full
+module _ (e : ℕ) (notes : List ℤ) where
+  abbrev answered : Bool → Bool → Bool → Answer
+  answered r a b = feedAnswer (cond r (cond a (turned 16 0) (cond b (turned 17 0) (taken e notes))) skipped)
+
+  accepted-by : (r a b : Bool) → answered r a b ≡ accepted → (r ≡ true) × (a ≡ false) × (b ≡ false)
+  accepted-by true true b q = absurd (let z : 21 ≡ 1 = ap codeOf q in omega arith)
+  accepted-by true false true q = absurd (let z : 22 ≡ 1 = ap codeOf q in omega arith)
+  accepted-by true false false q = (refl, refl, refl)
+  accepted-by false a b q = absurd (let z : 2 ≡ 1 = ap codeOf q in omega arith)
+
+  full-by : (r a b : Bool) → answered r a b ≡ refused 17 0 → (r ≡ true) × (a ≡ false) × (b ≡ true)
+  full-by true true b q = absurd (let z : 21 ≡ 22 = ap codeOf q in omega arith)
+  full-by true false true q = (refl, refl, refl)
+  full-by true false false q = absurd (let z : 1 ≡ 22 = ap codeOf q in omega arith)
+  full-by false a b q = absurd (let z : 2 ≡ 22 = ap codeOf q in omega arith)
+
+  by-accepted : (r a b : Bool) → r ≡ true → a ≡ false → b ≡ false → answered r a b ≡ accepted
+  by-accepted r a b p q h = rw (p, q, h)
+
+  by-full : (r a b : Bool) → r ≡ true → a ≡ false → b ≡ true → answered r a b ≡ refused 17 0
+  by-full r a b p q h = rw (p, q, h)
+
+module _ {frames : List ℕ} {w : ℕ} {win : List ℤ} (o : Unrefused frames w win) (cs : List Call) where
+  abbrev machineEnd : Machine
+  machineEnd = end (machineFor frames w) cs atFirst
+
+  abbrev checkerEnd : Checker
+  checkerEnd = end checker cs (fresh frames w win)
+
+  -- the answer to one call more
+  pull-answer : (buffer : List ℕ) → pullDef (end checker cs (fresh frames w win) .state) (end checker cs (fresh frames w win) .words) buffer .answer
+      ≡ pullAnswer (pullRead (treeOf frames) (machineEnd .next) (foundIn (machineEnd .lists) (machineEnd .next)) (length buffer))
+  pull-answer buffer = ap answerOf (out-step frames w (opened-fine o) machineEnd checkerEnd (in-step o cs) (pull buffer))
+
+  feed-answer : (line : List ℕ) → feedDef (end checker cs (fresh frames w win) .state) (end checker cs (fresh frames w win) .words) line .answer
+      ≡ feedAnswer (feedRead (references (treeOf frames)) w (tallyOf machineEnd) (lineOf line))
+  feed-answer line = ap answerOf (out-step frames w (opened-fine o) machineEnd checkerEnd (in-step o cs) (feed line))
+
+  pub waiting-exactly : (buffer : List ℕ) → (pullDef (end checker cs (fresh frames w win) .state) (end checker cs (fresh frames w win) .words) buffer .answer ≡ waiting)
+      ↔ ((reportLeast ≤ length buffer) × (settled (end (machineFor frames w) cs atFirst .next) (foundIn (end (machineFor frames w) cs atFirst .lists) (end (machineFor frames w) cs atFirst .next)) (treeOf frames) ≡ false))
+  unfolding pullRead
+  waiting-exactly buffer =
+      let a = pull-answer buffer in
+      let t = ltb (length buffer) reportLeast in
+      let f = foundIn (machineEnd .lists) (machineEnd .next) in
+      let s = settled (machineEnd .next) f (treeOf frames) in
+      let v = value (machineEnd .next) f (treeOf frames) in (
+        λ q. (let h = waits-by t s v (sym a ∙ q) in (ltb-false (length buffer) reportLeast (h .0), h .1)),
+        λ h. a ∙ by-waits t s v (le-ltb (length buffer) reportLeast (h .0)) (h .1),
+      )
+
+  module _ (line : List ℕ) (e : ℕ) (a b c d : ℤ) (l : lineOf line ≡ log.line e a b c d) where
+    line-answer : feedDef (end checker cs (fresh frames w win) .state) (end checker cs (fresh frames w win) .words) line .answer
+        ≡ answered e (a ∷ b ∷ c ∷ d ∷ []) (referenced (references (treeOf frames)) e) (leb lineLimit (countOf (tallyOf machineEnd) e)) (leb (base (references (treeOf frames)) e (machineEnd .next) + w) (countOf (tallyOf machineEnd) e))
+    unfolding feedEvent
+    line-answer = feed-answer line ∙ ap (λ x. feedAnswer (feedRead (references (treeOf frames)) w (tallyOf machineEnd) x)) l
+
+    count-e : referenced (references (treeOf frames)) e ≡ true → countOf (tallyOf machineEnd) e ≡ length (machineEnd .lists e)
+    count-e r = count-of machineEnd e (referenced-below 8 (references (treeOf frames)) e (λ x h. opened-fine o .limits x h .event) r)
+
+    pub accepted-exactly : (feedDef (end checker cs (fresh frames w win) .state) (end checker cs (fresh frames w win) .words) line .answer ≡ accepted)
+        ↔ ((referenced (references (treeOf frames)) e ≡ true) × (length (end (machineFor frames w) cs atFirst .lists e) < lineLimit)
+        × (length (end (machineFor frames w) cs atFirst .lists e) < base (references (treeOf frames)) e (end (machineFor frames w) cs atFirst .next) + w))
+    accepted-exactly =
+        let n = countOf (tallyOf machineEnd) e in
+        let B = base (references (treeOf frames)) e (machineEnd .next) + w in (
+          λ q. (let h = accepted-by e (a ∷ b ∷ c ∷ d ∷ []) (referenced (references (treeOf frames)) e) (leb lineLimit n) (leb B n) (sym line-answer ∙ q) in
+              (h .0, subst (λ (x : ℕ). x < lineLimit) (count-e (h .0)) (leb-false lineLimit n (h .1)), subst (λ (x : ℕ). x < B) (count-e (h .0)) (leb-false B n (h .2)))),
+          λ h. line-answer ∙ by-accepted e (a ∷ b ∷ c ∷ d ∷ []) (referenced (references (treeOf frames)) e) (leb lineLimit n) (leb B n) (h .0)
+              (lt-leb lineLimit n (subst (λ (x : ℕ). x < lineLimit) (sym (count-e (h .0))) (h .1))) (lt-leb B n (subst (λ (x : ℕ). x < B) (sym (count-e (h .0))) (h .2))),
+        )
+
+    pub full-exactly : (feedDef (end checker cs (fresh frames w win) .state) (end checker cs (fresh frames w win) .words) line .answer ≡ refused 17 0)
+        ↔ ((referenced (references (treeOf frames)) e ≡ true) × (length (end (machineFor frames w) cs atFirst .lists e) < lineLimit)
+        × (base (references (treeOf frames)) e (end (machineFor frames w) cs atFirst .next) + w ≤ length (end (machineFor frames w) cs atFirst .lists e)))
+    full-exactly =
+        let n = countOf (tallyOf machineEnd) e in
+        let B = base (references (treeOf frames)) e (machineEnd .next) + w in (
+          λ q. (let h = full-by e (a ∷ b ∷ c ∷ d ∷ []) (referenced (references (treeOf frames)) e) (leb lineLimit n) (leb B n) (sym line-answer ∙ q) in
+              (h .0, subst (λ (x : ℕ). x < lineLimit) (count-e (h .0)) (leb-false lineLimit n (h .1)), subst (λ (x : ℕ). B ≤ x) (count-e (h .0)) (leb-true B n (h .2)))),
+          λ h. line-answer ∙ by-full e (a ∷ b ∷ c ∷ d ∷ []) (referenced (references (treeOf frames)) e) (leb lineLimit n) (leb B n) (h .0)
+              (lt-leb lineLimit n (subst (λ (x : ℕ). x < lineLimit) (sym (count-e (h .0))) (h .1))) (le-leb B n (subst (λ (x : ℕ). B ≤ x) (sym (count-e (h .0))) (h .2))),
+        )
+
+  pub window-holds : (e k n : ℕ) → e < 8 → base (references (treeOf frames)) e (end (machineFor frames w) cs atFirst .next) ≤ k → k < length (end (machineFor frames w) cs atFirst .lists e) → n < 4
+      → getD (end checker cs (fresh frames w win) .words) (wordAt w e k n) (pos 0) ≡ getD (getD (end (machineFor frames w) cs atFirst .lists e) k []) n (pos 0)
+  window-holds = in-step o cs .sim .live
+
+-- ---- opening
+opens-by : (frames : List ℕ) (w : ℕ) (win : List ℤ) (t : Checked) → afterFrames frames w win t .answer ≡ opened → (t ≡ Accepted) × ((widthFits w && windowFits w win) ≡ true)
+opens-by frames w win (Refused r) q = absurd (let z : 5 + r .number ≡ 0 = ap codeOf q in omega arith)
+opens-by frames w win Accepted q = (refl, go (widthFits w && windowFits w win) q)
+  where
+    go : (t : Bool) → cond t (openedAs frames w) (notOpened win 11 0) .answer ≡ opened → t ≡ true
+    go true q = refl
+    go false q = absurd (let z : 16 ≡ 0 = ap codeOf q in omega arith)
+
+pub opens-exactly : {frames : List ℕ} (w : ℕ) (win : List ℤ) → Bytes frames
+    → (openDef frames w win .answer ≡ opened) ↔ (Proper frames × (1 ≤ w) × (w ≤ widthLimit) × (length win ≡ windowWords w))
+unfolding openDef
+opens-exactly {frames} w win b = (
+  λ q. (let h = opens-by frames w win (checkedOf frames) q in
+      let f = and-true (widthFits w) (windowFits w win) (h .1) in
+      let g = and-true (leb 1 w) (leb w widthLimit) (f .0) in
+      (frames-exactly b .0 (h .0), leb-true 1 w (g .0), leb-true w widthLimit (g .1), eqb-true (length win) (windowWords w) (f .1))),
+  λ h. ap (λ (t : Checked). afterFrames frames w win t .answer) (frames-exactly b .1 (h .0))
+      ∙ ap (λ (t : Bool). cond t (openedAs frames w) (notOpened win 11 0) .answer)
+      (true-and (widthFits w) (windowFits w win) (true-and (leb 1 w) (leb w widthLimit) (le-leb 1 w (h .1)) (le-leb w widthLimit (h .2))) (eq-eqb (length win) (windowWords w) (h .3))),
+)
+
+-- ---- the state of a refused opening
+pub zero-feed : (win : List ℤ) (line : List ℕ) → feedDef zeroState win line .answer ≡ refused 12 0
+unfolding feedDef goodState goodRule checkedOf
+zero-feed win line = refl
+
+pub zero-pull : (win : List ℤ) (buffer : List ℕ) → pullDef zeroState win buffer .answer ≡ refused 12 0
+unfolding pullDef goodState goodRule checkedOf
+zero-pull win buffer = refl

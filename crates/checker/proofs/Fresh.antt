@@ -1,0 +1,131 @@
+-- What an unrefused opening gives back is in step with the plain machine at first. Assumes nothing.
+use mathlib.Core.Path.{_≡_, refl, sym, _∙_, ap, subst}
+use mathlib.Core.Bool.{Bool, true, false, _&&_, cond}
+use mathlib.Core.List.{List, [], _∷_, List·Memᴰ, List·Memᴰ·cases-cons}
+use mathlib.Core.Logic.{⊎-elim}
+use Prim.Native.Nat.{ℕ, _*_, _-_, _/_, _≤_}
+use native.Mathlib.Omega.{arith}
+use borrow.Author.Tests.{le-leb}
+use lib.IntN.{ℤ, pos}
+use lib.ListN.{length, replicate, length-replicate}
+use lib.Seq.{take-at}
+use Rattle.rule.specs.Limits.{frameLimit, frameBytes}
+use Rattle.rule.specs.Frames.{Bytes}
+use Rattle.rule.specs.Tree.{Reference, IsRule, references, postfix, LimitsR}
+use Rattle.rule.specs.Build.{treeOf}
+use Rattle.rule.specs.Check.{checkedOf}
+use Rattle.rule.specs.Opening.{Proper}
+use Rattle.rule.specs.declared.Checked.{Checked}
+use Rattle.rule.specs.declared.Checked.the-variants.{Accepted, Refused}
+use Rattle.rule.proofs.Main.{frames-exactly, tree-of}
+use Rattle.rule.proofs.Count.{rule-length}
+use Rattle.rule.proofs.Facts.{AllWithin, references-within}
+use Rattle.numbers.proofs.Bools.{true-false, and-true}
+use Rattle.checker.specs.Limits.{windowWords}
+use Rattle.checker.specs.Answer.{Answer, opened, accepted, ignored, waiting, verdict, refused}
+use Rattle.checker.specs.State.{freshState}
+use Rattle.checker.specs.Open.{OpenResult, widthFits, windowFits, openedAs, notOpened, afterFrames, openDef}
+use Rattle.checker.specs.Calls.{Checker}
+use Rattle.checker.specs.Demand.{Unrefused, fresh}
+use Rattle.checker.specs.Machine.{tabulated, atFirst}
+use Rattle.checker.proofs.Simulation.{Fine, Both}
+
+-- ---- an opening that is not refused
+abbrev isOpened : Answer → Bool
+isOpened opened = true
+isOpened accepted = false
+isOpened ignored = false
+isOpened waiting = false
+isOpened (verdict v) = false
+isOpened (refused number place) = false
+
+not-opened : (number place : ℕ) → refused number place ≡ opened → ⊥
+not-opened number place q = true-false (sym (ap isOpened q))
+
+record Passed (frames : List ℕ) (w : ℕ) (win : List ℤ) : Type 0 where
+  pub accepted : checkedOf frames ≡ Accepted
+  pub width : widthFits w ≡ true
+  pub result : openDef frames w win ≡ openedAs frames w
+
+by-width : (frames : List ℕ) (w : ℕ) (win : List ℤ) (t : Bool) → (widthFits w && windowFits w win) ≡ t → cond t (openedAs frames w) (notOpened win 11 0) .answer ≡ opened
+    → (widthFits w ≡ true) × (cond t (openedAs frames w) (notOpened win 11 0) ≡ openedAs frames w)
+by-width frames w win true e h = (and-true (widthFits w) (windowFits w win) e .0, refl)
+by-width frames w win false e h = absurd (not-opened 11 0 h)
+
+by-check : (frames : List ℕ) (w : ℕ) (win : List ℤ) (c : Checked) → checkedOf frames ≡ c → afterFrames frames w win c .answer ≡ opened
+    → (c ≡ Accepted) × ((widthFits w ≡ true) × (afterFrames frames w win c ≡ openedAs frames w))
+by-check frames w win (Refused r) e h = absurd (not-opened (r .number) (r .place) h)
+by-check frames w win Accepted e h = (refl, by-width frames w win (widthFits w && windowFits w win) refl h)
+
+passed : (frames : List ℕ) (w : ℕ) (win : List ℤ) → openDef frames w win .answer ≡ opened → Passed frames w win
+unfolding openDef
+passed frames w win h =
+    let q = by-check frames w win (checkedOf frames) refl h in
+    record { accepted = q .0; width = q .1 .0; result = q .1 .1 }
+
+-- ---- accepted frames
+within-member : (rs : List Reference) → AllWithin rs → (r : Reference) → List·Memᴰ r rs → LimitsR r
+within-member [] a r m = elim m [ ]
+within-member (x ∷ xs) a r m =
+    ⊎-elim
+    (λ (p : r ≡ x). subst LimitsR (sym p) (a .0))
+    (λ (n : List·Memᴰ r xs). within-member xs (a .1) r n)
+    (List·Memᴰ·cases-cons m)
+
+abbrev rule-in : {s : List ℕ} → Proper s → IsRule s
+rule-in p = record { tree = p .tree; limits = p .limits; bytes = p .bytes }
+
+fine : (frames : List ℕ) (w : ℕ) (win : List ℤ) → Bytes frames → Passed frames w win → Fine frames w
+fine frames w win b o =
+    let p : Proper frames = frames-exactly b .0 (o .accepted) in
+    let t : treeOf frames ≡ p .tree = tree-of (rule-in p) in
+    record {
+      accepted = o .accepted;
+      width = o .width;
+      some = λ e. p .named (ap references (sym t) ∙ e);
+      limits = rw t (within-member (references (p .tree)) (references-within (p .tree) (p .limits)));
+    }
+
+-- as many bytes as frames have
+whole-length : (frames : List ℕ) → Bytes frames → checkedOf frames ≡ Accepted → (length frames ≡ length frames / frameBytes * frameBytes) × (length frames / frameBytes ≤ frameLimit)
+whole-length frames b e =
+    let p : Proper frames = frames-exactly b .0 e in
+    let l : length frames ≡ length (postfix (p .tree)) * 8 = rule-length (rule-in p) in
+    let s : length (postfix (p .tree)) ≤ 64 = p .short in
+    (omega arith, omega arith)
+
+abbrev holding : OpenResult → Checker
+holding x = record { state = x .state; words = x .words }
+
+both-fresh : (frames : List ℕ) (w : ℕ) → Bytes frames → checkedOf frames ≡ Accepted → Both frames w atFirst (holding (openedAs frames w))
+unfolding freshState tabulated
+both-fresh frames w b e =
+    let h = whole-length frames b e in
+    record {
+      inv =
+          record {
+            few = λ e. omega arith;
+            room = λ e q. omega arith;
+            empty = λ e q. refl;
+            low = omega arith;
+            sum = refl;
+          };
+      sim =
+          record {
+            rule = take-at frames (replicate (frameLimit * frameBytes - length frames) 0) (length frames / frameBytes * frameBytes) (h .0);
+            len = le-leb (length frames / frameBytes) frameLimit (h .1);
+            width = refl;
+            tally = refl;
+            long = length-replicate (windowWords w) (pos 0);
+            live = λ e k n he hb hk hn. absurd (omega arith);
+          };
+    }
+
+module _ {frames : List ℕ} {w : ℕ} {win : List ℤ} (o : Unrefused frames w win) where
+  pub opened-fine : Fine frames w
+  opened-fine = fine frames w win (o .bytes) (passed frames w win (o .answer))
+
+  pub both-opened : Both frames w atFirst (fresh frames w win)
+  both-opened =
+      let p = passed frames w win (o .answer) in
+      subst (λ (x : OpenResult). Both frames w atFirst (holding x)) (sym (p .result)) (both-fresh frames w (o .bytes) (p .accepted))

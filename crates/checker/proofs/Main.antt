@@ -1,0 +1,132 @@
+-- The headline statements of this crate, the third demand of document 01 above all. Each is proved where it is cited. Assumes nothing.
+use mathlib.Core.Path.{_≡_}
+use mathlib.Core.Bool.{true, false}
+use mathlib.Core.List.{List, [], map, List·Memᴰ}
+use mathlib.Core.Logic.{_↔_, _≢_}
+use Prim.Native.Nat.{ℕ, _+_, _≤_, _<_}
+use lib.IntN.{ℤ, pos}
+use lib.ListN.{length, getD}
+use Rattle.rule.specs.Frames.{Bytes}
+use Rattle.rule.specs.Tree.{references}
+use Rattle.rule.specs.Build.{treeOf}
+use Rattle.rule.specs.Opening.{Proper}
+use Rattle.log.specs.Line.{lineOf}
+use Rattle.log.specs.Line as log
+use Rattle.verdict.specs.Found.{foundIn}
+use Rattle.verdict.specs.Settled.{settled, judgement}
+use Rattle.verdict.specs.Settled as settling
+use Rattle.verdict.specs.Later.{MoreLines}
+use Rattle.verdict.specs.declared.Truth.{Truth}
+use Rattle.verdict.specs.declared.Truth.the-variants.{Unknown}
+use Rattle.checker.specs.Limits.{widthLimit, windowWords, lineLimit, reportLeast}
+use Rattle.checker.specs.Answer.{opened, accepted, waiting, verdict, refused}
+use Rattle.checker.specs.Base.{referenced, base, firstInstance}
+use Rattle.checker.specs.State.{tallyIn, zeroState}
+use Rattle.checker.specs.Ring.{wordAt}
+use Rattle.checker.specs.Open.{openDef}
+use Rattle.checker.specs.Feed.{feedDef}
+use Rattle.checker.specs.Pull.{pullDef}
+use Rattle.checker.specs.Calls.{Call, Out, outs, checker}
+use Rattle.checker.specs.Machine.{atFirst, tallyOf, machineFor}
+use Rattle.checker.specs.Demand.{Unrefused, fresh, answerOf, span, totalsOf, checkerAfter, machineAfter, handedOut, acceptedIn, Reordered}
+use Rattle.checker.specs.declared.State.{State}
+use Rattle.checker.proofs.Lists
+use Rattle.checker.proofs.Final
+use Rattle.checker.proofs.Sums
+use Rattle.checker.proofs.Never
+use Rattle.checker.proofs.Exactly
+use Rattle.checker.proofs.Agree
+use Rattle.checker.proofs.Order
+use Rattle.checker.proofs.Unchanged
+
+-- ---- a list of calls, whatever its lines and report buffers, from an unrefused opening, whatever W
+module _ {frames : List ℕ} {w : ℕ} {win : List ℤ} (o : Unrefused frames w win) (cs : List Call) where
+  -- each answer with its number and place, and each report buffer after its pull, is the plain machine's
+  pub third-answers : outs checker cs (fresh frames w win) ≡ outs (machineFor frames w) cs atFirst
+  third-answers = Lists.answers o cs
+
+  -- the counts, p and totals in the state are the machine's
+  pub third-state : tallyIn (checkerAfter frames w win cs .state) ≡ tallyOf (machineAfter frames w cs)
+  third-state = Lists.state o cs
+
+  -- the verdicts handed out are those of settled instances, from the first on, by the definition over the machine's lists after
+  -- the last call
+  pub third-final : map settling.verdict (handedOut frames w win cs)
+      ≡ span firstInstance (length (handedOut frames w win cs)) (λ (i : ℕ). judgement i (foundIn (machineAfter frames w cs .lists) i) (treeOf frames))
+  third-final = Final.final o cs
+
+  -- p and the totals in the state count them
+  pub third-totals : (checkerAfter frames w win cs .state .next .0 ≡ firstInstance + length (handedOut frames w win cs))
+      × (checkerAfter frames w win cs .state .totals ≡ totalsOf (handedOut frames w win cs))
+  third-totals = Sums.sums o cs
+
+  -- 12 and 13 never come
+  pub never-12-13 : (x : Out) → List·Memᴰ x (outs checker cs (fresh frames w win)) → (place : ℕ) → (answerOf x ≢ refused 12 place) × (answerOf x ≢ refused 13 place)
+  never-12-13 = Never.never o cs
+
+  -- one call more: 'waiting' exactly where the buffer is long enough and the next instance is not settled by the machine's lists
+  pub waiting-exactly : (buffer : List ℕ)
+      → (pullDef (checkerAfter frames w win cs .state) (checkerAfter frames w win cs .words) buffer .answer ≡ waiting)
+      ↔ ((reportLeast ≤ length buffer)
+      × (settled (machineAfter frames w cs .next) (foundIn (machineAfter frames w cs .lists) (machineAfter frames w cs .next)) (treeOf frames) ≡ false))
+  waiting-exactly = Exactly.waiting-exactly o cs
+
+  -- accepted exactly where the event is referenced, has fewer than 1,000,000 lines and has not reached base plus W
+  pub accepted-exactly : (line : List ℕ) (e : ℕ) (a b c d : ℤ) → lineOf line ≡ log.line e a b c d
+      → (feedDef (checkerAfter frames w win cs .state) (checkerAfter frames w win cs .words) line .answer ≡ accepted)
+      ↔ ((referenced (references (treeOf frames)) e ≡ true)
+      × (length (machineAfter frames w cs .lists e) < lineLimit)
+      × (length (machineAfter frames w cs .lists e) < base (references (treeOf frames)) e (machineAfter frames w cs .next) + w))
+  accepted-exactly = Exactly.accepted-exactly o cs
+
+  -- 'window full' exactly where it has reached base plus W
+  pub full-exactly : (line : List ℕ) (e : ℕ) (a b c d : ℤ) → lineOf line ≡ log.line e a b c d
+      → (feedDef (checkerAfter frames w win cs .state) (checkerAfter frames w win cs .words) line .answer ≡ refused 17 0)
+      ↔ ((referenced (references (treeOf frames)) e ≡ true)
+      × (length (machineAfter frames w cs .lists e) < lineLimit)
+      × (base (references (treeOf frames)) e (machineAfter frames w cs .next) + w ≤ length (machineAfter frames w cs .lists e)))
+  full-exactly = Exactly.full-exactly o cs
+
+  -- each accepted occurrence from base on is found in the window, all four notes
+  pub window-holds : (e k n : ℕ) → e < 8 → base (references (treeOf frames)) e (machineAfter frames w cs .next) ≤ k → k < length (machineAfter frames w cs .lists e) → n < 4
+      → getD (checkerAfter frames w win cs .words) (wordAt w e k n) (pos 0) ≡ getD (getD (machineAfter frames w cs .lists e) k []) n (pos 0)
+  window-holds = Exactly.window-holds o cs
+
+-- ---- two lists for one rule, with any two windows
+module _ {frames : List ℕ} {w w′ : ℕ} {win win′ : List ℤ} (o : Unrefused frames w win) (o′ : Unrefused frames w′ win′) (cs cs′ : List Call) where
+  -- where one's accepted lines begin the other's, event by event, verdicts that both hand out are equal
+  pub third-agree : MoreLines (machineAfter frames w cs .lists) (machineAfter frames w′ cs′ .lists) → (i : ℕ)
+      → i < length (handedOut frames w win cs) → i < length (handedOut frames w′ win′ cs′)
+      → getD (handedOut frames w win cs) i Unknown ≡ getD (handedOut frames w′ win′ cs′) i Unknown
+  third-agree = Agree.agree o o′ cs cs′
+
+  -- so it is after another order of lines between events and with later lines, whenever verdicts are pulled
+  pub third-order : Reordered (acceptedIn frames w cs atFirst) (acceptedIn frames w′ cs′ atFirst) → (i : ℕ)
+      → i < length (handedOut frames w win cs) → i < length (handedOut frames w′ win′ cs′)
+      → getD (handedOut frames w win cs) i Unknown ≡ getD (handedOut frames w′ win′ cs′) i Unknown
+  third-order = Order.order o o′ cs cs′
+
+-- ---- opening is not refused exactly where the frames are a rule's within the limits, W is 1 to 256 and the window 32 × W words
+pub opens-exactly : {frames : List ℕ} (w : ℕ) (win : List ℤ) → Bytes frames
+    → (openDef frames w win .answer ≡ opened) ↔ (Proper frames × (1 ≤ w) × (w ≤ widthLimit) × (length win ≡ windowWords w))
+opens-exactly = Exactly.opens-exactly
+
+-- ---- every call, whatever its arguments: what is refused, ignored or waiting leaves state and lent words as they were
+pub refused-unchanged-open : (frames : List ℕ) (w : ℕ) (win : List ℤ) → openDef frames w win .answer ≢ opened
+    → (openDef frames w win .state ≡ zeroState) × (openDef frames w win .words ≡ win)
+refused-unchanged-open = Unchanged.open-unchanged
+
+pub refused-unchanged-feed : (s : State) (win : List ℤ) (line : List ℕ) → feedDef s win line .answer ≢ accepted
+    → (feedDef s win line .state ≡ s) × (feedDef s win line .words ≡ win)
+refused-unchanged-feed = Unchanged.feed-unchanged
+
+pub refused-unchanged-pull : (s : State) (win : List ℤ) (buffer : List ℕ) → ((v : Truth) → pullDef s win buffer .answer ≢ verdict v)
+    → (pullDef s win buffer .state ≡ s) × (pullDef s win buffer .report ≡ buffer)
+refused-unchanged-pull = Unchanged.pull-unchanged
+
+-- the state that a refused opening hands back is refused with 12
+pub zero-feed : (win : List ℤ) (line : List ℕ) → feedDef zeroState win line .answer ≡ refused 12 0
+zero-feed = Exactly.zero-feed
+
+pub zero-pull : (win : List ℤ) (buffer : List ℕ) → pullDef zeroState win buffer .answer ≡ refused 12 0
+zero-pull = Exactly.zero-pull

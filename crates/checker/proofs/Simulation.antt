@@ -1,0 +1,412 @@
+-- One call: the checker in step with the plain machine gives what the machine gives, and stays in step. Assumes nothing.
+use mathlib.Core.Path.{_≡_, refl, sym, _∙_, ap, ap₂, subst, fun-ext}
+use mathlib.Core.Bool.{Bool, true, false, cond}
+use mathlib.Core.List.{List, [], _∷_, _++_, List·Memᴰ, List·Memᴰ·head, List·Memᴰ·tail}
+use mathlib.Core.Logic.{⊎-elim, _≢_}
+use Prim.Native.Nat.{ℕ, _+_, _<_, _≤_}
+use native.Mathlib.Omega.{arith}
+use borrow.Author.Tests.{eq-eqb, le-leb, leb-true, leb-false, ltb-true, eqb-true}
+use lib.Dec.{ltb, leb, eqb}
+use lib.IntN.{ℤ, pos, negsuc}
+use lib.ListN.{length, getD, set, length-append, List·getD-append}
+use lib.Seq.{getD-append-seam}
+use Rattle.rule.specs.Limits.{frameLimit}
+use Rattle.rule.specs.Tree.{Reference, Cond, references, LimitsR}
+use Rattle.rule.specs.Build.{treeOf}
+use Rattle.rule.specs.Check.{checkedOf}
+use Rattle.rule.specs.declared.Checked.the-variants.{Accepted}
+use Rattle.log.specs.Line.{Told, lineOf}
+use Rattle.log.specs.Line as log
+use Rattle.numbers.proofs.Bools.{true-false, and-true, true-and}
+use Rattle.verdict.specs.Found.{instanceLimit, Found, present, pending, occurrence, foundAt, foundIn, isPresent, isPending, someOf}
+use Rattle.verdict.specs.Value.{value}
+use Rattle.verdict.specs.Settled.{settledBy, judgement}
+use Rattle.verdict.specs.Settled as settling
+use Rattle.verdict.specs.declared.Truth.{Truth}
+use Rattle.verdict.specs.declared.Truth.the-variants as truths
+use Rattle.verdict.specs.declared.Judgement.{Judgement}
+use Rattle.verdict.specs.declared.Judgement.the-variants.{Unsettled, True, False, Unknown}
+use Rattle.verdict.proofs.Main.{own-references}
+use Rattle.checker.specs.Limits.{windowWords, lineLimit, reportLeast}
+use Rattle.checker.specs.Base.{referenced, orZero, base}
+use Rattle.checker.specs.State.{counted, sumOf, Tally, countOf, tallyIn, stateFrames, refsIn, withCount, withPulled}
+use Rattle.checker.specs.Ring.{wordAt, kept}
+use Rattle.checker.specs.Found.{windowAt, foundInWindow}
+use Rattle.checker.specs.Open.{widthFits, windowFits}
+use Rattle.checker.specs.Good.{isAccepted, goodRule, goodCount, goodTally, goodState}
+use Rattle.checker.specs.Feed.{FeedRead, turned, skipped, taken, feedEvent, feedRead, feedAnswer, FeedResult, fedBy, feedDef}
+use Rattle.checker.specs.Pull.{PullRead, short, waits, gave, offered, pullRead, pullAnswer, pullReport, PullResult, stateAfter, pullDef}
+use Rattle.checker.specs.Calls.{Call, feed, pull, fed, pulled, Checker, checker}
+use Rattle.checker.specs.Machine.{Machine, tabulated, tallyOf, joined, moved, afterFeed, afterPull, machineFeed, machinePull, machineFor}
+use Rattle.checker.specs.declared.Totals.{Totals}
+use Rattle.checker.proofs.Choices.{cond-case, cond-true, less-or, same-or, allTo-true, map-own, getD-tabulated, updated, set-tabulated}
+use Rattle.checker.proofs.Ring.{length-kept, kept-other, kept-old, kept-new}
+use Rattle.checker.proofs.Bases.{referenced-below, base-le, base-mono, late-pending}
+
+-- what opening has checked of the frames and of W
+pub record Fine (frames : List ℕ) (w : ℕ) : Type 0 where
+  pub accepted : checkedOf frames ≡ Accepted
+  pub width : widthFits w ≡ true
+  pub some : references (treeOf frames) ≡ [] → ⊥
+  pub limits : (r : Reference) → List·Memᴰ r (references (treeOf frames)) → LimitsR r
+
+-- what holds of the plain machine after any calls
+pub record Inv (refs : List Reference) (w : ℕ) (m : Machine) : Type 0 where
+  pub few : (e : ℕ) → length (m .lists e) ≤ lineLimit
+  pub room : (e : ℕ) → referenced refs e ≡ true → length (m .lists e) ≤ base refs e (m .next) + w
+  pub empty : (e : ℕ) → referenced refs e ≡ false → length (m .lists e) ≡ 0
+  pub low : m .next ≤ instanceLimit
+  pub sum : sumOf (m .totals) ≡ m .next
+
+-- "Each accepted occurrence from base on is found there, all four notes"
+abbrev pub Live : List Reference → ℕ → Machine → List ℤ → Type 0
+Live refs w m words =
+    (e k n : ℕ) → e < 8 → base refs e (m .next) ≤ k → k < length (m .lists e) → n < 4
+    → getD words (wordAt w e k n) (pos 0) ≡ getD (getD (m .lists e) k []) n (pos 0)
+
+-- a checker in step with the machine
+pub record Sim (frames : List ℕ) (w : ℕ) (m : Machine) (k : Checker) : Type 0 where
+  pub rule : stateFrames (k .state) ≡ frames
+  pub len : leb (k .state .len) frameLimit ≡ true
+  pub width : k .state .width ≡ w
+  pub tally : tallyIn (k .state) ≡ tallyOf m
+  pub long : length (k .words) ≡ windowWords w
+  pub live : Live (references (treeOf frames)) w m (k .words)
+
+pub record Both (frames : List ℕ) (w : ℕ) (m : Machine) (k : Checker) : Type 0 where
+  pub inv : Inv (references (treeOf frames)) w m
+  pub sim : Sim frames w m k
+
+-- both say the same of each of the references
+abbrev SameOn : List Reference → (Reference → Found) → (Reference → Found) → Type 0
+SameOn rs found found′ = (r : Reference) → List·Memᴰ r rs → found r ≡ found′ r
+
+-- ---- counts
+pub count-of : (m : Machine) (e : ℕ) → e < 8 → countOf (tallyOf m) e ≡ length (m .lists e)
+count-of m e h = getD-tabulated 8 (λ (f : ℕ). length (m .lists f)) e 0 h
+
+-- ---- a state in step passes 12
+good-count : (refs : List Reference) (w : ℕ) (m : Machine) → Inv refs w m → (e : ℕ) → e < 8 → goodCount refs w (tallyOf m) e ≡ true
+unfolding goodCount
+good-count refs w m i e h =
+    rw (count-of m e h)
+    (true-and (leb (length (m .lists e)) lineLimit) _ (le-leb (length (m .lists e)) lineLimit (i .few e))
+    (cond-case (λ (b : Bool). b ≡ true) (referenced refs e) _ _
+    (λ q. le-leb (length (m .lists e)) (base refs e (m .next) + w) (i .room e q))
+    (λ q. eq-eqb (length (m .lists e)) 0 (i .empty e q))))
+
+good-tally : (refs : List Reference) (w : ℕ) (m : Machine) → Inv refs w m → goodTally refs w (tallyOf m) ≡ true
+unfolding goodTally
+good-tally refs w m i =
+    rw (allTo-true 8 (goodCount refs w (tallyOf m)) (good-count refs w m i))
+    (rw (le-leb (m .next) instanceLimit (i .low)) (eq-eqb (sumOf (m .totals)) (m .next) (i .sum)))
+
+-- ---- what is known of a line that is taken
+abbrev Took : List Reference → ℕ → Tally → FeedRead → Type 0
+Took refs w t (turned number place) = Unit {0}
+Took refs w t skipped = Unit {0}
+Took refs w t (taken e notes) = (referenced refs e ≡ true) × (countOf t e < lineLimit) × (countOf t e < base refs e (t .next) + w)
+
+took : (refs : List Reference) (w : ℕ) (t : Tally) (l : Told) → Took refs w t (feedRead refs w t l)
+unfolding feedEvent
+took refs w t (log.refused number place) = tt
+took refs w t (log.line e n₀ n₁ n₂ n₃) =
+    cond-case (Took refs w t) (referenced refs e) _ _
+    (λ q. cond-case (Took refs w t) (leb lineLimit (countOf t e)) _ _
+    (λ _. tt)
+    (λ a. cond-case (Took refs w t) (leb (base refs e (t .next) + w) (countOf t e)) _ _
+    (λ _. tt)
+    (λ b. (q, leb-false lineLimit (countOf t e) a, leb-false (base refs e (t .next) + w) (countOf t e) b))))
+    (λ _. tt)
+
+-- ---- a line is taken: the machine
+grown : Tally → ℕ → Tally
+grown t e = record { counts = set (t .counts) e (getD (t .counts) e 0 + 1); next = t .next; totals = t .totals }
+
+tally-joined : (m : Machine) (e : ℕ) (notes : List ℤ) → e < 8 → grown (tallyOf m) e ≡ tallyOf (joined m e notes)
+unfolding grown joined
+tally-joined m e notes h =
+    ap (λ (cs : List ℕ). record { counts = cs; next = m .next; totals = m .totals })
+    (ap (set (tabulated 8 (λ (f : ℕ). length (m .lists f))) e) (ap (λ (n : ℕ). n + 1) (count-of m e h))
+    ∙ set-tabulated 8 (λ (f : ℕ). length (m .lists f)) e (length (m .lists e) + 1) 0 h
+    ∙ ap (tabulated 8) (fun-ext same))
+  where
+    same : (f : ℕ) → updated (λ (g : ℕ). length (m .lists g)) e (length (m .lists e) + 1) f ≡ length (cond (eqb f e) (m .lists f ++ (notes ∷ [])) (m .lists f))
+    same f =
+        cond-case (λ (b : ℕ). b ≡ length (cond (eqb f e) (m .lists f ++ (notes ∷ [])) (m .lists f))) (eqb f e) (length (m .lists e) + 1) (length (m .lists f))
+        (λ q. rw q (ap (λ (g : ℕ). length (m .lists g) + 1) (sym (eqb-true f e q)) ∙ sym (length-append (m .lists f) (notes ∷ []))))
+        (λ q. rw q)
+
+list-same : (m : Machine) (e : ℕ) (notes : List ℤ) → joined m e notes .lists e ≡ m .lists e ++ (notes ∷ [])
+unfolding joined
+list-same m e notes = rw (eq-eqb e e refl)
+
+list-other : (m : Machine) (e f : ℕ) (notes : List ℤ) → f ≢ e → joined m e notes .lists f ≡ m .lists f
+unfolding joined
+list-other m e f notes h = cond-case (λ (l : List (List ℤ)). l ≡ m .lists f) (eqb f e) _ _ (λ q. absurd (h (eqb-true f e q))) (λ _. refl)
+
+joined-next : (m : Machine) (e : ℕ) (notes : List ℤ) → joined m e notes .next ≡ m .next
+unfolding joined
+joined-next m e notes = refl
+
+length-same : (m : Machine) (e : ℕ) (notes : List ℤ) → length (joined m e notes .lists e) ≡ length (m .lists e) + 1
+length-same m e notes = rw (list-same m e notes) (length-append (m .lists e) (notes ∷ []))
+
+inv-joined : (refs : List Reference) (w : ℕ) (m : Machine) (e : ℕ) (notes : List ℤ) → Inv refs w m → referenced refs e ≡ true
+    → length (m .lists e) < lineLimit → length (m .lists e) < base refs e (m .next) + w → Inv refs w (joined m e notes)
+inv-joined refs w m e notes i r h₁ h₂ =
+    record {
+      few = λ f. ⊎-elim (λ (q : f ≡ e). rw (q, length-same m e notes) (omega arith)) (λ (q : f ≢ e). rw (list-other m e f notes q) (i .few f)) (same-or f e);
+      room = λ f g. rw (joined-next m e notes)
+          (⊎-elim (λ (q : f ≡ e). rw (q, length-same m e notes) (omega arith)) (λ (q : f ≢ e). rw (list-other m e f notes q) (i .room f g)) (same-or f e));
+      empty = λ f g. ⊎-elim (λ (q : f ≡ e). absurd (true-false (sym r ∙ ap (referenced refs) (sym q) ∙ g))) (λ (q : f ≢ e). rw (list-other m e f notes q) (i .empty f g)) (same-or f e);
+      low = unfold joined in i .low;
+      sum = unfold joined in i .sum;
+    }
+
+-- ---- a line is taken: the window
+module _ (refs : List Reference) (w : ℕ) (m : Machine) (words : List ℤ) (wide : 0 < w) (long : length words ≡ windowWords w) (live : Live refs w m words) where
+  live-joined : (e : ℕ) (notes : List ℤ) → e < 8 → length (m .lists e) < base refs e (m .next) + w
+      → Live refs w (joined m e notes) (kept words w e (base refs e (m .next)) (length (m .lists e)) notes)
+  live-joined e notes he hw f k n hf hb hk hn = ⊎-elim same other (same-or f e)
+    where
+      old : k < length (m .lists e) → base refs e (m .next) ≤ k → getD (kept words w e (base refs e (m .next)) (length (m .lists e)) notes) (wordAt w e k n) (pos 0) ≡ getD (getD (m .lists e ++ (notes ∷ [])) k []) n (pos 0)
+      old l b =
+          kept-old w words notes wide e (base refs e (m .next)) (length (m .lists e)) k n l (omega arith) hn
+          ∙ live e k n he b l hn
+          ∙ ap (λ (x : List ℤ). getD x n (pos 0)) (sym (List·getD-append (m .lists e) (notes ∷ []) [] k l))
+
+      new : k ≡ length (m .lists e) → base refs e (m .next) ≤ k → getD (kept words w e (base refs e (m .next)) (length (m .lists e)) notes) (wordAt w e k n) (pos 0) ≡ getD (getD (m .lists e ++ (notes ∷ [])) k []) n (pos 0)
+      new q b =
+          rw q
+          (kept-new w words notes wide e (base refs e (m .next)) (length (m .lists e)) n he (omega arith) hn long
+          ∙ ap (λ (x : List ℤ). getD x n (pos 0)) (sym (getD-append-seam (m .lists e) notes [] [])))
+
+      same : f ≡ e → getD (kept words w e (base refs e (m .next)) (length (m .lists e)) notes) (wordAt w f k n) (pos 0) ≡ getD (getD (joined m e notes .lists f) k []) n (pos 0)
+      same q =
+          let b : base refs e (m .next) ≤ k = rw (q, joined-next m e notes) at hb in
+          let h : k < length (m .lists e) + 1 = rw (q, length-same m e notes) at hk in
+          rw (q, list-same m e notes) (⊎-elim (λ l. old l b) (λ (l : length (m .lists e) ≤ k). new (omega arith) b) (less-or k (length (m .lists e))))
+
+      other : f ≢ e → getD (kept words w e (base refs e (m .next)) (length (m .lists e)) notes) (wordAt w f k n) (pos 0) ≡ getD (getD (joined m e notes .lists f) k []) n (pos 0)
+      other q =
+          kept-other w words notes wide e f (base refs e (m .next)) (length (m .lists e)) k n q hn
+          ∙ live f k n hf (rw (joined-next m e notes) at hb) (rw (list-other m e f notes q) at hk) hn
+          ∙ ap (λ (l : List (List ℤ)). getD (getD l k []) n (pos 0)) (sym (list-other m e f notes q))
+
+-- ---- a verdict is pulled
+no-present : (rs : List Reference) (found : Reference → Found) → ((r : Reference) → List·Memᴰ r rs → found r ≡ pending) → someOf isPresent found rs ≡ false
+no-present [] found h = refl
+no-present (x ∷ xs) found h = rw (h x (List·Memᴰ·head refl)) (no-present xs found (λ r m. h r (List·Memᴰ·tail m)))
+
+one-pending : (rs : List Reference) (found : Reference → Found) → (rs ≡ [] → ⊥) → ((r : Reference) → List·Memᴰ r rs → found r ≡ pending) → someOf isPending found rs ≡ true
+one-pending [] found l h = absurd (l refl)
+one-pending (x ∷ xs) found l h = rw (h x (List·Memᴰ·head refl))
+
+all-pending : (rule : Cond) (i : ℕ) (found : Reference → Found) → (references rule ≡ [] → ⊥) → ((r : Reference) → List·Memᴰ r (references rule) → found r ≡ pending)
+    → judgement i found rule ≡ Unsettled
+all-pending rule i found l h =
+    ap₂ (λ (a b : Bool). cond (settledBy a b (value i found rule)) (settling.verdict (value i found rule)) Unsettled)
+    (one-pending (references rule) found l h) (no-present (references rule) found h)
+
+abbrev isUnsettled : Judgement → Bool
+isUnsettled Unsettled = true
+isUnsettled True = false
+isUnsettled False = false
+isUnsettled Unknown = false
+
+pub verdict-settled : (v : Truth) → settling.verdict v ≡ Unsettled → ⊥
+verdict-settled truths.True q = true-false (sym (ap isUnsettled q))
+verdict-settled truths.False q = true-false (sym (ap isUnsettled q))
+verdict-settled truths.Unknown q = true-false (sym (ap isUnsettled q))
+
+-- what is known of a verdict that is given
+abbrev pub Gave : Cond → ℕ → (Reference → Found) → PullRead → Type 0
+Gave rule i found short = Unit {0}
+Gave rule i found waits = Unit {0}
+Gave rule i found (gave v) = judgement i found rule ≡ settling.verdict v
+
+gave-by : (rule : Cond) (i : ℕ) (found : Reference → Found) (j : Judgement) → judgement i found rule ≡ j → Gave rule i found (offered j)
+gave-by rule i found Unsettled q = tt
+gave-by rule i found True q = q
+gave-by rule i found False q = q
+gave-by rule i found Unknown q = q
+
+pub gave-judged : (rule : Cond) (i : ℕ) (found : Reference → Found) (n : ℕ) → Gave rule i found (pullRead rule i found n)
+unfolding pullRead
+gave-judged rule i found n =
+    cond-case (Gave rule i found) (ltb n reportLeast) short (offered (judgement i found rule)) (λ _. tt) (λ _. gave-by rule i found (judgement i found rule) refl)
+
+sum-counted : (t : Totals) (v : Truth) → sumOf (counted t v) ≡ sumOf t + 1
+sum-counted t truths.True = omega arith
+sum-counted t truths.False = omega arith
+sum-counted t truths.Unknown = omega arith
+
+inv-moved : (refs : List Reference) (w : ℕ) (m : Machine) (v : Truth) → Inv refs w m → m .next < instanceLimit → Inv refs w (moved m v)
+unfolding moved
+inv-moved refs w m v i l =
+    record {
+      few = i .few;
+      room = λ e q. omega (arith, i .room e q, base-mono refs e (m .next) (m .next + 1) (omega arith));
+      empty = i .empty;
+      low = omega arith;
+      sum = sum-counted (m .totals) v ∙ ap (λ (n : ℕ). n + 1) (i .sum);
+    }
+
+module _ (frames : List ℕ) (w : ℕ) (ok : Fine frames w) where
+  abbrev refs : List Reference
+  refs = references (treeOf frames)
+
+  wide : 0 < w
+  wide = leb-true 1 w (and-true (leb 1 w) _ (ok .width) .0)
+
+  -- an instance with a verdict is not the last
+  gave-low : (m : Machine) (v : Truth) → Inv (references (treeOf frames)) w m → judgement (m .next) (foundIn (m .lists) (m .next)) (treeOf frames) ≡ settling.verdict v → m .next < instanceLimit
+  gave-low m v i q =
+      ⊎-elim
+      (λ l. l)
+      (λ (l : instanceLimit ≤ m .next). absurd (verdict-settled v (sym q ∙ all-pending (treeOf frames) (m .next) (foundIn (m .lists) (m .next)) (ok .some)
+      (λ r h. late-pending (m .lists (r .event)) r (m .next) (ok .limits r h .least) (ok .limits r h .offset) (i .few (r .event)) l))))
+      (less-or (m .next) instanceLimit)
+
+  module _ (m : Machine) (k : Checker) (b : Both frames w m k) where
+    -- what goes by the rule, W and the counts goes as in the machine
+    as-machine : {A : Type 0} (f : List Reference → ℕ → Tally → A) → f (refsIn (k .state)) (k .state .width) (tallyIn (k .state)) ≡ f (references (treeOf frames)) w (tallyOf m)
+    as-machine f =
+        ap (λ (x : List ℕ). f (references (treeOf x)) (k .state .width) (tallyIn (k .state))) (b .sim .rule)
+        ∙ ap₂ (f (references (treeOf frames))) (b .sim .width) (b .sim .tally)
+
+    -- ---- 12 and 13 do not come
+    good : goodState (k .state) ≡ true
+    unfolding goodState goodRule
+    good =
+        true-and _ _
+        (true-and _ _
+        (true-and _ _ (b .sim .len) (ap (λ (x : List ℕ). isAccepted (checkedOf x)) (b .sim .rule) ∙ ap isAccepted (ok .accepted)))
+        (ap widthFits (b .sim .width) ∙ ok .width))
+        (as-machine goodTally ∙ good-tally (references (treeOf frames)) w m (b .inv))
+
+    fits : windowFits (k .state .width) (k .words) ≡ true
+    fits = eq-eqb (length (k .words)) (windowWords (k .state .width)) (b .sim .long ∙ ap windowWords (sym (b .sim .width)))
+
+    -- ---- feeding
+    feed-eq : (line : List ℕ) → feedDef (k .state) (k .words) line ≡ fedBy (k .state) (k .words) (machineFeed (treeOf frames) w m line)
+    unfolding feedDef
+    feed-eq line =
+        cond-true _ _ _ good ∙ cond-true _ _ _ fits
+        ∙ ap (fedBy (k .state) (k .words)) (as-machine (λ (rs : List Reference) (v : ℕ) (t : Tally). feedRead rs v t (lineOf line)))
+
+    sim-taken : (e : ℕ) (notes : List ℤ) → e < 8 → length (m .lists e) < base (references (treeOf frames)) e (m .next) + w
+        → Sim frames w (joined m e notes) (record { state = fedBy (k .state) (k .words) (taken e notes) .state; words = fedBy (k .state) (k .words) (taken e notes) .words })
+    sim-taken e notes he hw =
+        record {
+          rule = unfold withCount in b .sim .rule;
+          len = unfold withCount in b .sim .len;
+          width = unfold withCount in b .sim .width;
+          tally = unfold withCount in unfold grown in (ap (λ (t : Tally). grown t e) (b .sim .tally) ∙ tally-joined m e notes he);
+          long = rw words-kept (length-kept w (k .words) notes wide e (base refs e (m .next)) (length (m .lists e)) ∙ b .sim .long);
+          live = rw words-kept (live-joined refs w m (k .words) wide (b .sim .long) (b .sim .live) e notes he hw);
+        }
+      where
+        words-kept : fedBy (k .state) (k .words) (taken e notes) .words ≡ kept (k .words) w e (base (references (treeOf frames)) e (m .next)) (length (m .lists e)) notes
+        words-kept =
+            as-machine (λ (rs : List Reference) (v : ℕ) (t : Tally). kept (k .words) v e (base rs e (t .next)) (countOf t e) notes)
+            ∙ ap (λ (c : ℕ). kept (k .words) w e (base (references (treeOf frames)) e (m .next)) c notes) (count-of m e he)
+
+    both-fed : (f : FeedRead) → Took (references (treeOf frames)) w (tallyOf m) f
+        → Both frames w (afterFeed m f) (record { state = fedBy (k .state) (k .words) f .state; words = fedBy (k .state) (k .words) f .words })
+    both-fed (turned number place) t = b
+    both-fed skipped t = b
+    both-fed (taken e notes) t =
+        let he : e < 8 = referenced-below 8 refs e (λ r h. ok .limits r h .event) (t .0) in
+        let h₁ : length (m .lists e) < lineLimit = omega (arith, t .1, count-of m e he) in
+        let h₂ : length (m .lists e) < base refs e (m .next) + w = omega (arith, t .2, count-of m e he) in
+        record {
+          inv = inv-joined refs w m e notes (b .inv) (t .0) h₁ h₂;
+          sim = sim-taken e notes he h₂;
+        }
+
+    -- ---- pulling
+    found-at : (e n : ℕ) (z : ℤ) → e < 8 → n < 4 → base (references (treeOf frames)) e (m .next) ≤ orZero z
+        → windowAt w (k .words) (countOf (tallyOf m) e) e n z ≡ foundAt (m .lists e) n z
+    found-at e n (negsuc j) he hn h = refl
+    found-at e n (pos j) he hn h =
+        rw (count-of m e he)
+        (cond-case (λ (v : Found). v ≡ cond (ltb j (length (m .lists e))) (present (getD (getD (m .lists e) j []) n (pos 0))) pending) (ltb j (length (m .lists e))) (present (getD (k .words) (wordAt w e j n) (pos 0))) pending
+        (λ q. rw q (ap present (b .sim .live e j n he h (ltb-true j (length (m .lists e)) q) hn)))
+        (λ q. rw q))
+
+    -- the window says of each reference what the lists say
+    found-same : SameOn (references (treeOf frames)) (foundInWindow w (tallyOf m) (k .words) (m .next)) (foundIn (m .lists) (m .next))
+    found-same r h =
+        found-at (r .event) (r .note) (occurrence (r .factor) (r .offset) (m .next)) (ok .limits r h .event) (ok .limits r h .note)
+        (base-le (references (treeOf frames)) (m .next) r h)
+
+    abbrev resultOf : ℕ → Cond → (Reference → Found) → List ℕ → PullRead → PullResult
+    resultOf p t found buffer x =
+        record { answer = pullAnswer x; state = stateAfter (k .state) x; report = pullReport p (references t) found buffer x }
+
+    abbrev resultAt : ℕ → Cond → (Reference → Found) → List ℕ → PullResult
+    resultAt p t found buffer = resultOf p t found buffer (pullRead t p found (length buffer))
+
+    report-own : (p : ℕ) (t : Cond) (found found′ : Reference → Found) (buffer : List ℕ) → SameOn (references t) found found′ → (x : PullRead)
+        → pullReport p (references t) found buffer x ≡ pullReport p (references t) found′ buffer x
+    report-own p t found found′ buffer s short = refl
+    report-own p t found found′ buffer s waits = refl
+    report-own p t found found′ buffer s (gave truths.True) = refl
+    report-own p t found found′ buffer s (gave truths.False) = rw (map-own found found′ (references t) s)
+    report-own p t found found′ buffer s (gave truths.Unknown) = refl
+
+    read-own : (p : ℕ) (t : Cond) (found found′ : Reference → Found) (n : ℕ) → SameOn (references t) found found′ → pullRead t p found n ≡ pullRead t p found′ n
+    unfolding pullRead
+    read-own p t found found′ n s = ap (λ (j : Judgement). cond (ltb n reportLeast) short (offered j)) (own-references p found found′ t s)
+
+    result-own : (p : ℕ) (t : Cond) (found found′ : Reference → Found) (buffer : List ℕ) → SameOn (references t) found found′ → resultAt p t found buffer ≡ resultAt p t found′ buffer
+    result-own p t found found′ buffer s =
+        ap (λ (x : PullRead). resultOf p t found buffer x) (read-own p t found found′ (length buffer) s)
+        ∙ ap (λ (l : List ℕ). record { answer = pullAnswer (pullRead t p found′ (length buffer)); state = stateAfter (k .state) (pullRead t p found′ (length buffer)); report = l })
+        (report-own p t found found′ buffer s (pullRead t p found′ (length buffer)))
+
+    pull-eq : (buffer : List ℕ) → pullDef (k .state) (k .words) buffer ≡ resultAt (m .next) (treeOf frames) (foundIn (m .lists) (m .next)) buffer
+    unfolding pullDef
+    pull-eq buffer =
+        cond-true _ _ _ good ∙ cond-true _ _ _ fits
+        ∙ ap (λ (x : List ℕ). resultAt (k .state .next .0) (treeOf x) (foundInWindow (k .state .width) (tallyIn (k .state)) (k .words) (k .state .next .0)) buffer) (b .sim .rule)
+        ∙ ap₂ (λ (v : ℕ) (t : Tally). resultAt (t .next) (treeOf frames) (foundInWindow v t (k .words) (t .next)) buffer) (b .sim .width) (b .sim .tally)
+        ∙ result-own (m .next) (treeOf frames) (foundInWindow w (tallyOf m) (k .words) (m .next)) (foundIn (m .lists) (m .next)) buffer found-same
+
+    both-pulled : (x : PullRead) → Gave (treeOf frames) (m .next) (foundIn (m .lists) (m .next)) x
+        → Both frames w (afterPull m x) (record { state = stateAfter (k .state) x; words = k .words })
+    both-pulled short t = b
+    both-pulled waits t = b
+    both-pulled (gave v) t =
+        record {
+          inv = inv-moved refs w m v (b .inv) (gave-low m v (b .inv) t);
+          sim =
+              record {
+                rule = unfold withPulled in b .sim .rule;
+                len = unfold withPulled in b .sim .len;
+                width = unfold withPulled in b .sim .width;
+                tally = unfold withPulled in unfold moved in ap (λ (y : Tally). record { counts = y .counts; next = y .next + 1; totals = counted (y .totals) v }) (b .sim .tally);
+                long = b .sim .long;
+                live = unfold moved in λ e j n he hb hk hn. b .sim .live e j n he (omega (arith, base-mono refs e (m .next) (m .next + 1) (omega arith))) hk hn;
+              };
+        }
+
+    -- ---- one call
+    pub out-step : (c : Call) → checker k c .out ≡ machineFor frames w m c .out
+    out-step (feed line) = ap (λ (x : FeedResult). fed (x .answer)) (feed-eq line) ∙ answer-eq (machineFeed (treeOf frames) w m line)
+      where
+        answer-eq : (f : FeedRead) → fed (fedBy (k .state) (k .words) f .answer) ≡ fed (feedAnswer f)
+        answer-eq (turned number place) = refl
+        answer-eq skipped = refl
+        answer-eq (taken e notes) = refl
+    out-step (pull buffer) = ap (λ (x : PullResult). pulled (x .answer) (x .report)) (pull-eq buffer)
+
+    pub next-step : (c : Call) → Both frames w (machineFor frames w m c .next) (checker k c .next)
+    next-step (feed line) =
+        subst (λ (x : FeedResult). Both frames w (afterFeed m (machineFeed (treeOf frames) w m line)) (record { state = x .state; words = x .words })) (sym (feed-eq line))
+        (both-fed (machineFeed (treeOf frames) w m line) (took refs w (tallyOf m) (lineOf line)))
+    next-step (pull buffer) =
+        subst (λ (x : PullResult). Both frames w (afterPull m (machinePull (treeOf frames) w m buffer)) (record { state = x .state; words = k .words })) (sym (pull-eq buffer))
+        (both-pulled (machinePull (treeOf frames) w m buffer) (gave-judged (treeOf frames) (m .next) (foundIn (m .lists) (m .next)) (length buffer)))

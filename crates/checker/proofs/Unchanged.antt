@@ -1,0 +1,73 @@
+-- A refused call, an ignored line and 'waiting' change nothing. Assumes nothing.
+use mathlib.Core.Path.{_≡_, refl}
+use mathlib.Core.Bool.{_&&_}
+use mathlib.Core.List.{List}
+use mathlib.Core.Logic.{_≢_}
+use Prim.Native.Nat.{ℕ}
+use lib.IntN.{ℤ}
+use lib.ListN.{length}
+use Rattle.rule.specs.Check.{checkedOf}
+use Rattle.rule.specs.declared.Checked.{Checked}
+use Rattle.rule.specs.declared.Checked.the-variants.{Accepted, Refused}
+use Rattle.log.specs.Line.{lineOf}
+use Rattle.verdict.specs.declared.Truth.{Truth}
+use Rattle.checker.specs.Answer.{opened, accepted, verdict}
+use Rattle.checker.specs.State.{tallyIn, zeroState, ruleIn, refsIn}
+use Rattle.checker.specs.Open.{OpenResult, widthFits, windowFits, openedAs, notOpened, afterFrames, openDef}
+use Rattle.checker.specs.Good.{goodState}
+use Rattle.checker.specs.Feed.{FeedRead, turned, skipped, taken, feedRead, FeedResult, fedBy, feedDef}
+use Rattle.checker.specs.Pull.{PullRead, short, waits, gave, pullRead, PullResult, foundHere, pulledBy, pullDef}
+use Rattle.checker.specs.declared.State.{State}
+use Rattle.checker.proofs.Choices.{cond-case}
+
+-- ---- opening
+module _ (frames : List ℕ) (w : ℕ) (win : List ℤ) where
+  abbrev KeptO : OpenResult → Type 0
+  KeptO x = x .answer ≢ opened → (x .state ≡ zeroState) × (x .words ≡ win)
+
+  open-by : (c : Checked) → KeptO (afterFrames frames w win c)
+  open-by (Refused r) = λ h. (refl, refl)
+  open-by Accepted =
+      cond-case KeptO (widthFits w && windowFits w win) (openedAs frames w) (notOpened win 11 0) (λ _ h. absurd (h refl)) (λ _ h. (refl, refl))
+
+  pub open-unchanged : KeptO (openDef frames w win)
+  unfolding openDef
+  open-unchanged = open-by (checkedOf frames)
+
+-- ---- feeding
+module _ (s : State) (win : List ℤ) (line : List ℕ) where
+  abbrev KeptF : FeedResult → Type 0
+  KeptF x = x .answer ≢ accepted → (x .state ≡ s) × (x .words ≡ win)
+
+  fed-by : (f : FeedRead) → KeptF (fedBy s win f)
+  fed-by (turned number place) h = (refl, refl)
+  fed-by skipped h = (refl, refl)
+  fed-by (taken e notes) h = absurd (h refl)
+
+  pub feed-unchanged : KeptF (feedDef s win line)
+  unfolding feedDef
+  feed-unchanged =
+      cond-case KeptF (goodState s) _ _
+      (λ _. cond-case KeptF (windowFits (s .width) win) _ _
+      (λ _. fed-by (feedRead (refsIn s) (s .width) (tallyIn s) (lineOf line)))
+      (λ _ h. (refl, refl)))
+      (λ _ h. (refl, refl))
+
+-- ---- pulling
+module _ (s : State) (win : List ℤ) (buffer : List ℕ) where
+  abbrev KeptP : PullResult → Type 0
+  KeptP x = ((v : Truth) → x .answer ≢ verdict v) → (x .state ≡ s) × (x .report ≡ buffer)
+
+  pulled-by : (x : PullRead) → KeptP (pulledBy s win buffer x)
+  pulled-by short h = (refl, refl)
+  pulled-by waits h = (refl, refl)
+  pulled-by (gave v) h = absurd (h v refl)
+
+  pub pull-unchanged : KeptP (pullDef s win buffer)
+  unfolding pullDef
+  pull-unchanged =
+      cond-case KeptP (goodState s) _ _
+      (λ _. cond-case KeptP (windowFits (s .width) win) _ _
+      (λ _. pulled-by (pullRead (ruleIn s) (s .next .0) (foundHere s win) (length buffer)))
+      (λ _ h. (refl, refl)))
+      (λ _ h. (refl, refl))

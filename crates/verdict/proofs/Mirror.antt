@@ -1,0 +1,309 @@
+-- The pass over frames holds the values of the trees that the frames build. Assumes nothing.
+use mathlib.Core.Path.{_≡_, refl, sym, ap, ap₂, _∙_, subst}
+use mathlib.Core.Bool.{Bool, true, false, not, cond, _||_}
+use mathlib.Core.Logic.{⊎-elim}
+use mathlib.Core.List.{List, [], _∷_, _++_, map}
+use Prim.Native.Nat.{ℕ, zero, suc, _≤_, _<_}
+use native.Mathlib.Omega.{arith}
+use lib.Dec.{T, eqb}
+use lib.IntN.{ℤ, pos}
+use lib.ListN.{length, getD}
+use Rattle.numbers.proofs.Bools.{true-false}
+use Rattle.rule.specs.Frames.{Source, Arithmetic, Relation, Connective, Kind, kindByte, kindOf, frameAt, frameCount, fieldsOf}
+use Rattle.rule.specs.Tree.{Reference, Sum, literal, instance, reference, arithmetic, abs, Cond, relation, connective, referencesS, references}
+use Rattle.rule.specs.References.{referenceByte, referenceOf}
+use Rattle.rule.specs.Order.{Prefix, viable, stuck, prefixAt, InOrder}
+use Rattle.rule.specs.Build.{Trees, trees, top1, top2, leaf, builtBy, built, treesAt, firstC, treeOf}
+use Rattle.rule.specs.Stack.{Ready}
+use Rattle.rule.specs.declared.Frame.{Frame}
+use Rattle.rule.proofs.KindBytes.{byte-kind}
+use Rattle.rule.proofs.Prefix.{Live, sumsOf, live, one-left}
+use Rattle.rule.proofs.Link.{found}
+use Rattle.rule.proofs.Parse.{literal-value}
+use Rattle.verdict.specs.Found.{Found, present, pending, void, isPresent, isPending, isMissing, someOf}
+use Rattle.verdict.specs.Kleene.{notK, joined, truth}
+use Rattle.verdict.specs.Value.{computed, sizeOf, noteOf, holds, valueS, value}
+use Rattle.verdict.specs.Settled.{judgement}
+use Rattle.verdict.specs.Marks.{presentMark, pendingMark, Tells, Told}
+use Rattle.verdict.specs.Pass.{Pass, related, operandBy, passBy, passAt, firstT, judgedBy, judgementOf}
+use Rattle.verdict.specs.declared.Truth.{Truth}
+use Rattle.verdict.specs.declared.Truth.the-variants.{Unknown}
+use Rattle.verdict.proofs.Built.{AsMany, as-many}
+
+-- ---- what a mark says
+module _ (f : Found) (mark : ℕ) (note : ℤ) (h : Tells f mark note) where
+  tells-missing : not (eqb mark presentMark) ≡ isMissing f
+  tells-missing = go f h
+    where
+      go : (g : Found) → Tells g mark note → not (eqb mark presentMark) ≡ isMissing g
+      go (present z) t = rw (t .0)
+      go pending t = rw t
+      go void t = rw t
+
+  tells-pending : eqb mark pendingMark ≡ isPending f
+  tells-pending = go f h
+    where
+      go : (g : Found) → Tells g mark note → eqb mark pendingMark ≡ isPending g
+      go (present z) t = rw (t .0)
+      go pending t = rw t
+      go void t = rw t
+
+  tells-present : eqb mark presentMark ≡ isPresent f
+  tells-present = go f h
+    where
+      go : (g : Found) → Tells g mark note → eqb mark presentMark ≡ isPresent g
+      go (present z) t = rw (t .0)
+      go pending t = rw t
+      go void t = rw t
+
+  tells-note : isMissing f ≡ false → note ≡ noteOf f
+  tells-note = go f h
+    where
+      go : (g : Found) → Tells g mark note → isMissing g ≡ false → note ≡ noteOf g
+      go (present z) t e = t .1
+      go pending t e = absurd (true-false e)
+      go void t e = absurd (true-false e)
+
+-- ---- alternatives
+or-left : (a b : Bool) → (a || b) ≡ false → a ≡ false
+or-left true b e = e
+or-left false b e = refl
+
+or-right : (a b : Bool) → (a || b) ≡ false → b ≡ false
+or-right true b e = absurd (true-false e)
+or-right false b e = e
+
+or-last : (a b : Bool) → (a || b) ≡ ((b || false) || a)
+or-last true true = refl
+or-last true false = refl
+or-last false true = refl
+or-last false false = refl
+
+or-into : (a b c : Bool) → ((a || b) || c) ≡ (a || ((c || false) || b))
+or-into true b c = refl
+or-into false b c = or-last b c
+
+or-two : (a b c : Bool) → (b || (a || c)) ≡ ((a || b) || c)
+or-two true true c = refl
+or-two true false c = refl
+or-two false true c = refl
+or-two false false c = refl
+
+or-move : (a b c : Bool) → (c || (b || (a || false))) ≡ (((a || b) || c) || false)
+or-move true true true = refl
+or-move true true false = refl
+or-move true false true = refl
+or-move true false false = refl
+or-move false true true = refl
+or-move false true false = refl
+or-move false false true = refl
+or-move false false false = refl
+
+some-append : (is : Found → Bool) (at : Reference → Found) (xs ys : List Reference) → someOf is at (xs ++ ys) ≡ (someOf is at xs || someOf is at ys)
+some-append is at [] ys = refl
+some-append is at (r ∷ xs) ys = ap (λ (t : Bool). is (at r) || t) (some-append is at xs ys) ∙ join (is (at r)) (someOf is at xs) (someOf is at ys)
+  where
+    join : (a b c : Bool) → (a || (b || c)) ≡ ((a || b) || c)
+    join true b c = refl
+    join false b c = refl
+
+-- ---- lists of trees
+module _ (is : Found → Bool) (at : Reference → Found) where
+  abbrev someS : List Sum → Bool
+  someS [] = false
+  someS (a ∷ ss) = someOf is at (referencesS a) || someS ss
+
+  abbrev someC : List Cond → Bool
+  someC [] = false
+  someC (t ∷ cs) = someOf is at (references t) || someC cs
+
+  some-arithmetic : (o : Arithmetic) (ss : List Sum) → someS ss ≡ someS (top2 (arithmetic o) ss)
+  some-arithmetic o [] = refl
+  some-arithmetic o (b ∷ []) = refl
+  some-arithmetic o (b ∷ (a ∷ ss)) =
+      or-two (someOf is at (referencesS a)) (someOf is at (referencesS b)) (someS ss)
+      ∙ ap (λ (t : Bool). t || someS ss) (sym (some-append is at (referencesS a) (referencesS b)))
+
+  some-abs : (ss : List Sum) → someS ss ≡ someS (top1 abs ss)
+  some-abs [] = refl
+  some-abs (a ∷ ss) = refl
+
+  some-not : (cs : List Cond) → someC cs ≡ someC (top1 Cond.not cs)
+  some-not [] = refl
+  some-not (t ∷ cs) = refl
+
+  some-connective : (j : Connective) (cs : List Cond) → someC cs ≡ someC (top2 (connective j) cs)
+  some-connective j [] = refl
+  some-connective j (q ∷ []) = refl
+  some-connective j (q ∷ (p ∷ cs)) =
+      or-two (someOf is at (references p)) (someOf is at (references q)) (someC cs)
+      ∙ ap (λ (t : Bool). t || someC cs) (sym (some-append is at (references p) (references q)))
+
+map-one : {A B : Type 0} (f : A → B) (g : A → A) (g′ : B → B) → ((a : A) → g′ (f a) ≡ f (g a)) → (l : List A) → top1 g′ (map f l) ≡ map f (top1 g l)
+map-one f g g′ h [] = refl
+map-one f g g′ h (a ∷ l) = ap (λ (x : _). x ∷ map f l) (h a)
+
+map-two : {A B : Type 0} (f : A → B) (g : A → A → A) (g′ : B → B → B) → ((a b : A) → g′ (f a) (f b) ≡ f (g a b)) → (l : List A) → top2 g′ (map f l) ≡ map f (top2 g l)
+map-two f g g′ h [] = refl
+map-two f g g′ h (b ∷ []) = refl
+map-two f g g′ h (b ∷ (a ∷ l)) = ap (λ (x : _). x ∷ map f l) (h a b)
+
+-- ---- the pass holds the values of the trees, of the sums only while no reference is missing
+module _ (i : ℕ) (at : Reference → Found) where
+  record Holds (cs : List Cond) (ss : List Sum) (p : Pass) : Type 0 where
+    missing : p .missing ≡ someS isMissing at ss
+    sums : p .missing ≡ false → p .sums ≡ map (valueS i at) ss
+    conds : p .conds ≡ map (value i at) cs
+    pending : p .pending ≡ (someC isPending at cs || someS isPending at ss)
+    present : p .present ≡ (someC isPresent at cs || someS isPresent at ss)
+
+  abbrev HoldsIn : Trees → Pass → Type 0
+  HoldsIn (trees cs ss) p = Holds cs ss p
+
+  related-away : (r : Relation) (vs : List ℤ) → related r true vs ≡ Unknown
+  related-away r [] = refl
+  related-away r (y ∷ []) = refl
+  related-away r (y ∷ (x ∷ vs)) = refl
+
+  related-by : (r : Relation) (a b : Sum) (m : Bool) (vs : List ℤ) → m ≡ someOf isMissing at (referencesS a ++ referencesS b)
+      → (m ≡ false → vs ≡ valueS i at b ∷ (valueS i at a ∷ [])) → related r m vs ≡ value i at (relation r a b)
+  related-by r a b true vs e h = related-away r vs ∙ ap (λ (t : Bool). cond t Unknown (truth (holds r (valueS i at a) (valueS i at b)))) e
+  related-by r a b false vs e h =
+      ap (related r false) (h refl) ∙ ap (λ (t : Bool). cond t Unknown (truth (holds r (valueS i at a) (valueS i at b)))) e
+
+  module _ (x : Frame) (mark : ℕ) (note : ℤ) (cs : List Cond) (p : Pass) where
+    holds-operand : (s : Source) (ss : List Sum) → T (fieldsOf (Kind.operand s) x) → (s ≡ Source.reference → Tells (at (referenceOf x)) mark note)
+        → Holds cs ss p → Holds cs (leaf s x ∷ ss) (operandBy s (x .value) i mark note p)
+    holds-operand Source.literal ss f t h =
+        record {
+          missing = h .missing;
+          sums = λ e. ap₂ _∷_ (literal-value x f) (h .sums e);
+          conds = h .conds;
+          pending = h .pending;
+          present = h .present;
+        }
+    holds-operand Source.instance ss f t h =
+        record { missing = h .missing; sums = λ e. ap (λ (vs : List ℤ). pos i ∷ vs) (h .sums e); conds = h .conds; pending = h .pending; present = h .present }
+    holds-operand Source.reference ss f t h =
+        let q = at (referenceOf x) in
+        let w : Tells q mark note = t refl in
+        let m : not (eqb mark presentMark) ≡ isMissing q = tells-missing q mark note w in
+        record {
+          missing = ap₂ _||_ (h .missing) m ∙ or-last (someS isMissing at ss) (isMissing q);
+          sums = λ e. ap₂ _∷_ (tells-note q mark note w (sym m ∙ or-right (p .missing) (not (eqb mark presentMark)) e)) (h .sums (or-left (p .missing) (not (eqb mark presentMark)) e));
+          conds = h .conds;
+          pending = ap₂ _||_ (h .pending) (tells-pending q mark note w) ∙ or-into (someC isPending at cs) (someS isPending at ss) (isPending q);
+          present = ap₂ _||_ (h .present) (tells-present q mark note w) ∙ or-into (someC isPresent at cs) (someS isPresent at ss) (isPresent q);
+        }
+
+    holds-relation : (r : Relation) (ss : List Sum) → length ss ≡ 2 → Holds cs ss p → HoldsIn (builtBy (Kind.relation r) x cs ss) (passBy (Kind.relation r) (x .value) i mark note p)
+    holds-relation r [] n h = absurd (omega arith)
+    holds-relation r (b ∷ []) n h = absurd (omega arith)
+    holds-relation r (b ∷ (a ∷ [])) n h =
+        record {
+          missing = refl;
+          sums = λ e. refl;
+          conds = ap₂ _∷_
+              (related-by r a b (p .missing) (p .sums)
+              (h .missing ∙ or-pair (someOf isMissing at (referencesS a)) (someOf isMissing at (referencesS b)) ∙ sym (some-append isMissing at (referencesS a) (referencesS b))) (h .sums))
+              (h .conds);
+          pending = h .pending ∙ moved isPending;
+          present = h .present ∙ moved isPresent;
+        }
+      where
+        or-pair : (u v : Bool) → (v || (u || false)) ≡ (u || v)
+        or-pair true true = refl
+        or-pair true false = refl
+        or-pair false true = refl
+        or-pair false false = refl
+
+        moved : (is : Found → Bool) → (someC is at cs || (someOf is at (referencesS b) || (someOf is at (referencesS a) || false)))
+            ≡ ((someOf is at (referencesS a ++ referencesS b) || someC is at cs) || false)
+        moved is =
+            or-move (someOf is at (referencesS a)) (someOf is at (referencesS b)) (someC is at cs)
+            ∙ ap (λ (t : Bool). (t || someC is at cs) || false) (sym (some-append is at (referencesS a) (referencesS b)))
+    holds-relation r (b ∷ (a ∷ (d ∷ ss))) n h = absurd (omega arith)
+
+    holds-by : (o : Kind) (ss : List Sum) → T (fieldsOf o x) → (o ≡ Kind.operand Source.reference → Tells (at (referenceOf x)) mark note) → Ready o (length ss)
+        → Holds cs ss p → HoldsIn (builtBy o x cs ss) (passBy o (x .value) i mark note p)
+    holds-by (Kind.operand s) ss f t n h = holds-operand s ss f (λ e. t (ap Kind.operand e)) h
+    holds-by (Kind.arithmetic o) ss f t n h =
+        record {
+          missing = h .missing ∙ some-arithmetic isMissing at o ss;
+          sums = λ e. ap (top2 (computed o)) (h .sums e) ∙ map-two (valueS i at) (arithmetic o) (computed o) (λ a b. refl) ss;
+          conds = h .conds;
+          pending = h .pending ∙ ap (λ (t : Bool). someC isPending at cs || t) (some-arithmetic isPending at o ss);
+          present = h .present ∙ ap (λ (t : Bool). someC isPresent at cs || t) (some-arithmetic isPresent at o ss);
+        }
+    holds-by Kind.absolute ss f t n h =
+        record {
+          missing = h .missing ∙ some-abs isMissing at ss;
+          sums = λ e. ap (top1 sizeOf) (h .sums e) ∙ map-one (valueS i at) abs sizeOf (λ a. refl) ss;
+          conds = h .conds;
+          pending = h .pending ∙ ap (λ (t : Bool). someC isPending at cs || t) (some-abs isPending at ss);
+          present = h .present ∙ ap (λ (t : Bool). someC isPresent at cs || t) (some-abs isPresent at ss);
+        }
+    holds-by (Kind.relation r) ss f t n h = holds-relation r ss n h
+    holds-by Kind.negation ss f t n h =
+        record {
+          missing = h .missing;
+          sums = h .sums;
+          conds = ap (top1 notK) (h .conds) ∙ map-one (value i at) Cond.not notK (λ a. refl) cs;
+          pending = h .pending ∙ ap (λ (t : Bool). t || someS isPending at ss) (some-not isPending at cs);
+          present = h .present ∙ ap (λ (t : Bool). t || someS isPresent at ss) (some-not isPresent at cs);
+        }
+    holds-by (Kind.connective j) ss f t n h =
+        record {
+          missing = h .missing;
+          sums = h .sums;
+          conds = ap (top2 (joined j)) (h .conds) ∙ map-two (value i at) (connective j) (joined j) (λ a b. refl) cs;
+          pending = h .pending ∙ ap (λ (t : Bool). t || someS isPending at ss) (some-connective isPending at j cs);
+          present = h .present ∙ ap (λ (t : Bool). t || someS isPresent at ss) (some-connective isPresent at j cs);
+        }
+    holds-by Kind.none ss f t n h = absurd n
+
+  -- at the end one condition is left, the rule
+  alone : (a : Bool) → ((a || false) || false) ≡ a
+  alone true = refl
+  alone false = refl
+
+  judged-last : (z : Trees) (p : Pass) → AsMany (viable 1 0) z → HoldsIn z p → judgedBy (p .pending) (p .present) (firstT (p .conds)) ≡ judgement i at (firstC z)
+  judged-last (trees [] ss) p n h = absurd (omega (arith, n .0))
+  judged-last (trees (t ∷ []) []) p n h =
+      ap₂ (λ (a b : Bool). judgedBy a b (firstT (p .conds))) (h .pending ∙ alone (someOf isPending at (references t))) (h .present ∙ alone (someOf isPresent at (references t)))
+      ∙ ap (λ (cs : List Truth). judgedBy (someOf isPending at (references t)) (someOf isPresent at (references t)) (firstT cs)) (h .conds)
+  judged-last (trees (t ∷ []) (a ∷ ss)) p n h = absurd (omega (arith, n .1))
+  judged-last (trees (t ∷ (u ∷ cs)) ss) p n h = absurd (omega (arith, n .0))
+
+-- ---- over the frames
+-- a kind's byte has that kind, and no other
+byte-of : (b : ℕ) → kindOf b ≡ Kind.operand Source.reference → b ≡ referenceByte
+byte-of b e =
+    ⊎-elim
+    (λ (n : kindOf b ≡ Kind.none). absurd (let z : 3 ≡ 0 = ap kindByte (sym e ∙ n) in omega arith))
+    (λ (q : b ≡ kindByte (kindOf b)). q ∙ ap kindByte e)
+    (byte-kind b)
+
+sums-of : (p : Prefix) (cs : List Cond) (ss : List Sum) → Live p → AsMany p (trees cs ss) → sumsOf p ≡ length ss
+sums-of (viable c k) cs ss l h = sym (h .1)
+sums-of (stuck q) cs ss l h = absurd l
+
+module _ (s : List ℕ) (i : ℕ) (at : Reference → Found) (marks : List ℕ) (notes : List ℤ) (f : InOrder s) (told : Told s at marks notes) where
+  holds-next : (k : ℕ) → k < frameCount s → (z : Trees) → treesAt s k ≡ z → HoldsIn i at z (passAt s i marks notes k) → HoldsIn i at (treesAt s (suc k)) (passAt s i marks notes (suc k))
+  holds-next k l (trees cs ss) e h =
+      let x = frameAt s k in
+      let q = found s k l f in
+      let n : sumsOf (prefixAt s k) ≡ length ss = sums-of (prefixAt s k) cs ss (live s k (omega arith) f) (subst (AsMany (prefixAt s k)) e (as-many s k)) in
+      subst (λ (z : Trees). HoldsIn i at (built x z) (passAt s i marks notes (suc k))) (sym e)
+      (holds-by i at x (getD marks k 0) (getD notes k (pos 0)) cs (passAt s i marks notes k) (kindOf (x .kind)) ss (q .fields)
+      (λ o. told k l (byte-of (x .kind) o)) (subst (Ready (kindOf (x .kind))) n (q .sums)) h)
+
+  holds-at : (k : ℕ) → k ≤ frameCount s → HoldsIn i at (treesAt s k) (passAt s i marks notes k)
+  holds-at zero l = record { missing = refl; sums = λ e. refl; conds = refl; pending = refl; present = refl }
+  holds-at (suc k) l = holds-next k l (treesAt s k) refl (holds-at k (omega arith))
+
+  pub judge-tree : judgementOf s i marks notes ≡ judgement i at (treeOf s)
+  unfolding judgementOf treeOf
+  judge-tree =
+      judged-last i at (treesAt s (frameCount s)) (passAt s i marks notes (frameCount s))
+      (subst (λ (p : _). AsMany p (treesAt s (frameCount s))) (one-left s f) (as-many s (frameCount s))) (holds-at (frameCount s) (omega arith))
