@@ -12,4 +12,8 @@ pub mod Never
 pub mod Exactly
 pub mod Unchanged
 pub mod Marked
+pub mod CodeCopy
+pub mod CodeBase
+pub mod CodeRing
+pub mod CodeFeed
 pub mod Main

@@ -11,4 +11,6 @@ pub mod Report
 pub mod Pull
 pub mod Calls
 pub mod Machine
+pub mod Within
+pub mod Lows
 pub mod Demand

@@ -1,0 +1,15 @@
+-- Bounds of the window's words, for the code's sums and indices. Assumes nothing.
+use Prim.Native.Nat.{ℕ, _+_, _*_, _%_, _<_, _≤_}
+use native.Mathlib.Nat.{mod-lt, mul-le-mul, mul-le-mul-right, suc-mul, le-of-lt}
+use native.Mathlib.Omega.{arith}
+use Rattle.checker.specs.Limits.{windowWords}
+use Rattle.checker.specs.Ring.{wordAt}
+
+pub row-most : (w e : ℕ) → w ≤ 256 → e < 8 → e * w ≤ 2048
+row-most w e hw he = let h : e * w ≤ 8 * 256 = mul-le-mul (le-of-lt he) hw in omega arith
+
+row-end : (w e : ℕ) → e < 8 → e * w + w ≤ 8 * w
+row-end w e h = rw (← suc-mul e w) (mul-le-mul-right w h)
+
+pub word-most : (w e k n : ℕ) → 1 ≤ w → e < 8 → n < 4 → wordAt w e k n < windowWords w
+word-most w e k n hw he hn = omega (arith, mod-lt k hw, row-end w e he)

@@ -1,0 +1,19 @@
+use mathlib.Core.Path.{_≡_, refl, sym, ap, _∙_}
+use Rattle.checker.specs.State.{freshState}
+use borrow.Author.Needs.{needs}
+use native.Mathlib.Omega.{arith}
+use Rattle.checker.proofs.opening.fresh.Statement.{statement}
+use Rattle.checker.proofs.opening.fresh.Tie as tie
+
+cast-n : tie.Need-cast-n
+cast-n c = search needs
+
+copied-requires : tie.Need-copied-requires
+copied-requires c κs = search needs
+
+returns : tie.Need-returns
+unfolding freshState
+returns c = rw (c .copied .ensures)
+
+pub fresh-spec : {M : Type 1} → statement M
+fresh-spec = tie.close (tie.spec cast-n copied-requires returns)

@@ -1,0 +1,11 @@
+-- What inner functions require of widths, events and notes. No public contract cites it. Assumes nothing: definitions.
+use mathlib.Core.Path.{_≡_}
+use Prim.Native.Nat.{ℕ, _≤_, _<_}
+use Rattle.rule.specs.Limits.{eventLimit, noteLimit}
+use Rattle.checker.specs.Limits.{widthLimit}
+
+pub record InWindow (w e n : ℕ) : Type 0 where
+  pub some : 1 ≤ w
+  pub most : w ≤ widthLimit
+  pub event : e < eventLimit
+  pub note : n < noteLimit

@@ -1,0 +1,123 @@
+// 12: the states that are turned down.
+use crate::State;
+use crate::Totals;
+use crate::bases;
+use crate::opening;
+use rule::Checked;
+use verdict::Instance;
+ghost use mathlib.Core.Path.{_≡_};
+ghost use mathlib.Core.Bool.{Bool, true, _&&_};
+ghost use Prim.Native.Nat.{_*_, _≤_};
+ghost use lib.Dec.{leb, eqb};
+ghost use lib.ListN.{length, getD, take};
+ghost use Rattle.rule.specs.Limits.{eventLimit, frameLimit, frameBytes};
+ghost use Rattle.rule.specs.Check.{checkedOf};
+ghost use Rattle.rule.specs.declared.Checked.{Checked};
+ghost use Rattle.verdict.specs.Found.{instanceLimit};
+ghost use Rattle.checker.specs.State.{sumOf};
+ghost use Rattle.checker.specs.Open.{widthFits};
+ghost use Rattle.checker.specs.Good.{isAccepted, allTo, goodState};
+ghost use Rattle.checker.specs.Lows.{countFits, ruleFits, tallyFits};
+
+// At most 64 frames of 8 bytes.
+const FRAMES: u32 = 64;
+
+const FRAME_BYTES: usize = 8;
+
+// An event has at most 1,000,000 lines.
+pub const LINES: u32 = 1000000;
+
+// No instance number is larger.
+const INSTANCES: u32 = 1009999;
+
+fn accepted(c: Checked) -> bool
+    ensures { λ r. ⌜ r ≡ isAccepted c ⌝ }
+{
+    match c {
+        Checked::Accepted => true,
+        Checked::Refused(_) => false,
+    }
+}
+
+// Whether opening would take the frames and W of a state.
+fn rule_fits(frames: &[u8], len: u32, width: u32) -> bool
+    requires { ⌜ length (now frames) ≡ frameLimit * frameBytes ⌝ }
+    ensures { λ r. ⌜ r ≡ ruleFits (now (frames .entry)) len width ⌝ }
+{
+    if len <= FRAMES {
+        let n = len as usize * FRAME_BYTES;
+        accepted(rule::check(&frames[..n])) & opening::width_fits(width)
+    } else {
+        false
+    }
+}
+
+// Whether a count fits its event's base and W.
+fn count_fits(width: u32, low: u32, count: u32) -> bool
+    ensures { λ r. ⌜ r ≡ countFits width low count ⌝ }
+{
+    if low == bases::NO_BASE {
+        (count <= LINES) & (count == 0)
+    } else {
+        (count <= LINES) & (count as u64 <= low as u64 + width as u64)
+    }
+}
+
+// Whether each count does.
+fn counts_fit(width: u32, lows: [u32; 8], counts: [u32; 8]) -> bool
+    ensures { λ r. ⌜ r ≡ allTo eventLimit (λ e. countFits width (getD lows e 0) (getD counts e 0)) ⌝ }
+{
+    let mut e: usize = 0;
+    while e < 8 {
+        if count_fits(width, lows[e], counts[e]) {
+            e += 1;
+        } else {
+            return false;
+        }
+    }
+    true
+}
+
+// Whether the totals sum to p.
+fn totals_fit(totals: Totals, p: Instance) -> bool
+    ensures { λ r. ⌜ r ≡ eqb (sumOf totals) (p .0) ⌝ }
+{
+    totals.held as u64 + totals.failed as u64 + totals.unknown as u64 == p.0 as u64
+}
+
+// Whether counts, p and totals are those of a checker with these frames.
+fn tally_fits(
+    frames: &[u8],
+    len: u32,
+    width: u32,
+    counts: [u32; 8],
+    p: Instance,
+    totals: Totals,
+) -> bool
+    requires { ⌜ (length (now frames) ≡ frameLimit * frameBytes) × ((len ≤ frameLimit) × (checkedOf (take (len * frameBytes) (now frames)) ≡ Checked.Accepted)) ⌝ }
+    ensures { λ r. ⌜ r ≡ tallyFits (take (len * frameBytes) (now (frames .entry))) width counts (p .0) totals ⌝ }
+{
+    if p.0 <= INSTANCES {
+        let n = len as usize * FRAME_BYTES;
+        let lows = bases::lows(&frames[..n], p);
+        counts_fit(width, lows, counts) & totals_fit(totals, p)
+    } else {
+        false
+    }
+}
+
+// Whether 12 lets a state through.
+pub fn good(s: State) -> bool
+    ensures { λ r. ⌜ r ≡ goodState s ⌝ }
+{
+    let len = s.len;
+    let width = s.width;
+    if rule_fits(&s.frames, len, width) {
+        let counts = s.counts;
+        let p = s.next;
+        let totals = s.totals;
+        tally_fits(&s.frames, len, width, counts, p, totals)
+    } else {
+        false
+    }
+}

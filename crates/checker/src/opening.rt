@@ -1,0 +1,148 @@
+// Opening: 9, 10, 7 and 8 by the check of frames, then 11; a fresh state and a cleared window.
+use crate::OpenAnswer;
+use crate::Opened;
+use crate::State;
+use crate::Totals;
+use rule::Checked;
+use rule::Refusal;
+use verdict::Instance;
+ghost use mathlib.Core.Path.{_≡_};
+ghost use mathlib.Core.List.{_++_};
+ghost use Prim.Native.Nat.{_-_, _*_, _≤_};
+ghost use lib.Dec.{eqb};
+ghost use lib.IntN.{pos};
+ghost use lib.ListN.{length, replicate};
+ghost use Rattle.rule.specs.Limits.{frameLimit, frameBytes};
+ghost use Rattle.rule.specs.declared.Refusal.{Refusal};
+ghost use Rattle.checker.specs.Limits.{windowWords};
+ghost use Rattle.checker.specs.Answer.{openTold};
+ghost use Rattle.checker.specs.State.{zeroState, freshState};
+ghost use Rattle.checker.specs.Open.{widthFits, openDef};
+
+// W is 1 to 256.
+const WIDTH_LIMIT: u32 = 256;
+
+// A window has 32 × W words.
+const WORDS: usize = 32;
+
+// A frame has 8 bytes.
+const FRAME_BYTES: usize = 8;
+
+// The number of the first instance.
+const FIRST_INSTANCE: u32 = 0;
+
+pub fn width_fits(width: u32) -> bool
+    ensures { λ r. ⌜ r ≡ widthFits width ⌝ }
+{
+    (1 <= width) & (width <= WIDTH_LIMIT)
+}
+
+// Whether a window of n words is as long as W asks.
+pub fn window_fits(width: u32, n: usize) -> bool
+    ensures { λ r. ⌜ r ≡ eqb n (windowWords width) ⌝ }
+{
+    n == WORDS * width as usize
+}
+
+// Sets all words to 0.
+fn clear(window: &mut [i32])
+    ensures { λ r. ⌜ now (window .exit) ≡ replicate (length (now (window .entry))) (pos 0) ⌝ }
+{
+    let mut i = 0;
+    let z: i32 = 0;
+    while i < window.len() {
+        window[i] = z;
+        i += 1;
+    }
+}
+
+// The frames, and zero after the last.
+fn copied(frames: &[u8]) -> [u8; 512]
+    requires { ⌜ length (now frames) ≤ frameLimit * frameBytes ⌝ }
+    ensures { λ r. ⌜ r ≡ now (frames .entry) ++ replicate (frameLimit * frameBytes - length (now (frames .entry))) 0 ⌝ }
+{
+    let mut out = [0u8; 512];
+    let mut k = 0;
+    while k < frames.len() {
+        out[k] = frames[k];
+        k += 1;
+    }
+    out
+}
+
+// The state that an unrefused opening gives back.
+fn fresh(frames: &[u8], width: u32) -> State
+    requires { ⌜ length (now frames) ≤ frameLimit * frameBytes ⌝ }
+    ensures { λ r. ⌜ r ≡ freshState (now (frames .entry)) width ⌝ }
+{
+    let n = (frames.len() / FRAME_BYTES) as u32;
+    let bytes = copied(frames);
+    let counts = [0u32; 8];
+    let totals = Totals {
+        held: 0,
+        failed: 0,
+        unknown: 0,
+    };
+    State {
+        frames: bytes,
+        len: n,
+        width,
+        counts,
+        next: Instance(FIRST_INSTANCE),
+        totals,
+    }
+}
+
+// The state that is zero throughout.
+fn zero() -> State
+    ensures { λ r. ⌜ r ≡ zeroState ⌝ }
+{
+    let bytes = [0u8; 512];
+    let counts = [0u32; 8];
+    let totals = Totals {
+        held: 0,
+        failed: 0,
+        unknown: 0,
+    };
+    State {
+        frames: bytes,
+        len: 0,
+        width: 0,
+        counts,
+        next: Instance(0),
+        totals,
+    }
+}
+
+fn refuse(why: Refusal) -> Opened
+    ensures { λ r. ⌜ r ≡ record { answer = OpenAnswer.Refused why; state = zeroState } ⌝ }
+{
+    Opened {
+        answer: OpenAnswer::Refused(why),
+        state: zero(),
+    }
+}
+
+// Opens a checker, for every slice of frames, every W and every window.
+pub fn open(frames: &[u8], width: u32, window: &mut [i32]) -> Opened
+    ensures { λ r. ⌜ (openTold (r .answer) ≡ openDef (now (frames .entry)) width (now (window .entry)) .answer) × ((r .state ≡ openDef (now (frames .entry)) width (now (window .entry)) .state) × (now (window .exit) ≡ openDef (now (frames .entry)) width (now (window .entry)) .words)) ⌝ }
+{
+    let checked = rule::check(frames);
+    match checked {
+        Checked::Refused(why) => refuse(why),
+        Checked::Accepted => {
+            if width_fits(width) & window_fits(width, window.len()) {
+                clear(window);
+                Opened {
+                    answer: OpenAnswer::Opened,
+                    state: fresh(frames, width),
+                }
+            } else {
+                refuse(Refusal {
+                    number: 11,
+                    place: 0,
+                })
+            }
+        }
+    }
+}

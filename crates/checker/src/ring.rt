@@ -1,0 +1,52 @@
+// The window's words. Only here an occurrence number becomes an index.
+use log::Notes;
+use verdict::Occurrence;
+ghost use mathlib.Core.Path.{_≡_};
+ghost use mathlib.Core.List.{[], _∷_};
+ghost use Prim.Native.Nat.{_<_};
+ghost use lib.ListN.{length};
+ghost use Rattle.checker.specs.Limits.{windowWords};
+ghost use Rattle.checker.specs.Ring.{wordAt, stored, kept};
+ghost use Rattle.checker.specs.Within.{InWindow};
+
+// A place has a word for each of 4 notes.
+const NOTES: usize = 4;
+
+// The word of a note of an occurrence.
+pub fn word(width: u32, event: u8, k: Occurrence, note: u8) -> usize
+    requires { ⌜ InWindow width event note ⌝ }
+    ensures { λ r. ⌜ r ≡ wordAt width event (k .0) note ⌝ }
+{
+    let w = width as usize;
+    let row = event as usize * w;
+    (row + k.0 as usize % w) * NOTES + note as usize
+}
+
+// Stores the four notes of an occurrence.
+fn store(window: &mut [i32], width: u32, event: u8, k: Occurrence, notes: Notes)
+    requires { ⌜ InWindow width event 0 × (length (now window) ≡ windowWords width) ⌝ }
+    ensures { λ r. ⌜ now (window .exit) ≡ stored (now (window .entry)) width event (k .0) (notes .0 ∷ (notes .1 ∷ (notes .2 ∷ (notes .3 ∷ [])))) ⌝ }
+{
+    let a = word(width, event, k, 0);
+    let b = word(width, event, k, 1);
+    let c = word(width, event, k, 2);
+    let d = word(width, event, k, 3);
+    let n0 = notes.0;
+    let n1 = notes.1;
+    let n2 = notes.2;
+    let n3 = notes.3;
+    window[a] = n0;
+    window[b] = n1;
+    window[c] = n2;
+    window[d] = n3;
+}
+
+// An occurrence from base on is stored; one below base is not.
+pub fn keep(window: &mut [i32], width: u32, event: u8, base: u32, k: Occurrence, notes: Notes)
+    requires { ⌜ InWindow width event 0 × (length (now window) ≡ windowWords width) ⌝ }
+    ensures { λ r. ⌜ now (window .exit) ≡ kept (now (window .entry)) width event base (k .0) (notes .0 ∷ (notes .1 ∷ (notes .2 ∷ (notes .3 ∷ [])))) ⌝ }
+{
+    if base <= k.0 {
+        store(window, width, event, k, notes);
+    }
+}
