@@ -43,4 +43,5 @@ pub mod Exactly
 pub mod Facts
 pub mod Examples
 pub mod FrameExamples
+pub mod ReadExamples
 pub mod Main
