@@ -10,30 +10,28 @@ use borrow.Author.Tests.{eqb-true, eqb-false, eq-eqb, ne-eqb, leb-true}
 use lib.Dec.{eqb, leb}
 use lib.IntN.{ℤ, pos, negsuc, natAbs, _+ℤ_}
 use lib.ListN.{length, getD, set, take, replicate, length-set}
-use lib.Seq.{getD-set-same, getD-set-other, getD-take}
-use Rattle.numbers.proofs.Bools.{true-false, and-true}
-use Rattle.rule.specs.Limits.{eventLimit, frameLimit, frameBytes}
+use lib.Seq.{getD-set-same, getD-set-other}
+use Rattle.rule.specs.Limits.{eventLimit}
 use Rattle.rule.specs.Frames.{Bytes, frameAt, frameCount}
 use Rattle.rule.specs.Tree.{Reference, Cond, LimitsR, IsRule, references}
 use Rattle.rule.specs.Build.{treeOf}
 use Rattle.rule.specs.References.{overReferences}
 use Rattle.rule.specs.Check.{checkedOf}
-use Rattle.rule.specs.declared.Checked.{Checked}
-use Rattle.rule.specs.declared.Checked.the-variants.{Accepted, Refused}
+use Rattle.rule.specs.declared.Checked.the-variants.{Accepted}
 use Rattle.rule.specs.declared.Frame.{Frame}
 use Rattle.rule.proofs.Facts.{AllWithin, references-within, reference-at, passed}
 use Rattle.rule.proofs.Count.{over-references}
 use Rattle.rule.proofs.Accept.{tree-of}
 use Rattle.rule.proofs.Exactly.{accepted-iff}
 use Rattle.rule.proofs.Fold.{bytes-by}
-use Rattle.verdict.specs.Found.{instanceLimit, occurrence, meantBy}
+use Rattle.verdict.specs.Found.{instanceLimit, meantBy}
 use Rattle.verdict.specs.declared.Occurrence.{Occurrence}
 use Rattle.verdict.specs.declared.Meant.the-variants.{Void, At}
 use Rattle.verdict.proofs.Numbers.{natAbs-add}
 use Rattle.checker.specs.Limits.{lineLimit}
 use Rattle.checker.specs.Base.{ofEvent, isSome, referenced, orZero, startAt, smallest, base}
-use Rattle.checker.specs.State.{Tally, countOf, sumOf}
-use Rattle.checker.specs.Good.{isAccepted, allTo, goodCount, goodTally}
+use Rattle.checker.specs.State.{Tally, sumOf}
+use Rattle.checker.specs.Good.{allTo, goodCount, goodTally}
 use Rattle.checker.specs.Lows.{noBase, lowered, loweredBy, lowsTo, lowsOf, Startable, Passable, countFits, tallyFits}
 use Rattle.checker.specs.declared.Totals.{Totals}
 

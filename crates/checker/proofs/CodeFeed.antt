@@ -1,6 +1,6 @@
 -- What a good state gives the code: bounds, and which way a line of an event goes. Assumes nothing.
-use mathlib.Core.Path.{_≡_, refl, sym, ap, _∙_, subst}
-use mathlib.Core.Bool.{Bool, true, false, _&&_, cond}
+use mathlib.Core.Path.{_≡_, refl, sym, ap, _∙_}
+use mathlib.Core.Bool.{Bool, true, false, _&&_}
 use mathlib.Core.List.{List}
 use Prim.Native.Nat.{ℕ, _+_, _*_, _<_, _≤_}
 use native.Mathlib.Omega.{arith}
@@ -19,10 +19,10 @@ use Rattle.log.specs.Line.{Told, lineOf}
 use Rattle.checker.specs.Limits.{widthLimit, windowWords, lineLimit}
 use Rattle.checker.specs.Answer.{refused}
 use Rattle.checker.specs.Base.{referenced, base}
-use Rattle.checker.specs.State.{sumOf, countOf, tallyIn, stateFrames, refsIn}
+use Rattle.checker.specs.State.{sumOf, tallyIn, stateFrames, refsIn}
 use Rattle.checker.specs.Open.{widthFits}
 use Rattle.checker.specs.Good.{isAccepted, allTo, goodCount, goodRule, goodTally, goodState}
-use Rattle.checker.specs.Feed.{FeedRead, turned, skipped, taken, feedEvent, feedRead, notFed, fedBy, feedDef}
+use Rattle.checker.specs.Feed.{turned, skipped, taken, feedEvent, feedRead, notFed, fedBy, feedDef}
 use Rattle.checker.specs.Lows.{noBase, lowsOf, Passable, countFits, ruleFits, tallyFits}
 use Rattle.checker.specs.declared.Totals.{Totals}
 use Rattle.checker.specs.declared.State.{State}

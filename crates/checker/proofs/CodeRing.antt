@@ -1,5 +1,5 @@
 -- Bounds of the window's words, for the code's sums and indices. Assumes nothing.
-use Prim.Native.Nat.{ℕ, _+_, _*_, _%_, _<_, _≤_}
+use Prim.Native.Nat.{ℕ, _+_, _*_, _<_, _≤_}
 use native.Mathlib.Nat.{mod-lt, mul-le-mul, mul-le-mul-right, suc-mul, le-of-lt}
 use native.Mathlib.Omega.{arith}
 use Rattle.checker.specs.Limits.{windowWords}

@@ -2,10 +2,10 @@
 use crate::Fed;
 use crate::FeedAnswer;
 use crate::State;
-use crate::bases;
+use crate::base;
 use crate::good;
 use crate::opening;
-use crate::ring;
+use crate::words;
 use log::Line;
 use log::Notes;
 use rule::Refusal;
@@ -54,7 +54,7 @@ fn base_of(frames: &[u8], len: u32, p: Instance, event: u8) -> u32
     ensures { λ r. ⌜ r ≡ getD (lowsOf (take (len * frameBytes) (now (frames .entry))) (p .0)) event 0 ⌝ }
 {
     let n = len as usize * FRAME_BYTES;
-    let lows = bases::lows(&frames[..n], p);
+    let lows = base::lows(&frames[..n], p);
     let e = event as usize;
     lows[e]
 }
@@ -82,8 +82,8 @@ fn feed_event(s: State, window: &mut [i32], event: u8, notes: Notes) -> Fed
     let len = s.len;
     let width = s.width;
     let p = s.next;
-    let base = base_of(&s.frames, len, p, event);
-    if base == bases::NO_BASE {
+    let low = base_of(&s.frames, len, p, event);
+    if low == base::NO_BASE {
         return ignore(s);
     }
     let e = event as usize;
@@ -91,10 +91,10 @@ fn feed_event(s: State, window: &mut [i32], event: u8, notes: Notes) -> Fed
     if good::LINES <= c {
         return refuse(s, 16, 0);
     }
-    if base + width <= c {
+    if low + width <= c {
         return refuse(s, 17, 0);
     }
-    ring::keep(window, width, event, base, Occurrence(c), notes);
+    words::keep(window, width, event, low, Occurrence(c), notes);
     Fed {
         answer: FeedAnswer::Accepted,
         state: with_count(s, event),

@@ -1,7 +1,7 @@
 // 12: the states that are turned down.
 use crate::State;
 use crate::Totals;
-use crate::bases;
+use crate::base;
 use crate::opening;
 use rule::Checked;
 use verdict::Instance;
@@ -56,7 +56,7 @@ fn rule_fits(frames: &[u8], len: u32, width: u32) -> bool
 fn count_fits(width: u32, low: u32, count: u32) -> bool
     ensures { λ r. ⌜ r ≡ countFits width low count ⌝ }
 {
-    if low == bases::NO_BASE {
+    if low == base::NO_BASE {
         (count <= LINES) & (count == 0)
     } else {
         (count <= LINES) & (count as u64 <= low as u64 + width as u64)
@@ -99,7 +99,7 @@ fn tally_fits(
 {
     if p.0 <= INSTANCES {
         let n = len as usize * FRAME_BYTES;
-        let lows = bases::lows(&frames[..n], p);
+        let lows = base::lows(&frames[..n], p);
         counts_fit(width, lows, counts) & totals_fit(totals, p)
     } else {
         false

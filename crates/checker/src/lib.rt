@@ -1,9 +1,9 @@
 // Opening, feeding and pulling over a state by value and a lent window.
-mod bases; // bases.rt: the base of each event
+mod base; // base.rt: the base of each event
 mod feeding; // feeding.rt: 12, 13, 15, ignored, 16, 17
 mod good; // good.rt: 12
 mod opening; // opening.rt: 9, 10, 7, 8, 11; a fresh checker
-mod ring; // ring.rt: the window's words
+mod words; // words.rt: the window's words
 
 pub use feeding::feed;
 pub use opening::open;

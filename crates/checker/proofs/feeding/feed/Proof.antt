@@ -1,4 +1,4 @@
-use mathlib.Core.Path.{_≡_, refl, sym, ap, _∙_}
+use mathlib.Core.Path.{_≡_, sym, ap, _∙_}
 use mathlib.Core.Bool.{true, false}
 use mathlib.Core.List.{List}
 use Prim.Native.Nat.{ℕ}
@@ -16,7 +16,6 @@ use Rattle.checker.specs.Feed.{FeedResult, feedRead, fedBy, notFed, feed
 use Rattle.checker.specs.declared.Fed.{Fed}
 use Rattle.checker.proofs.CodeFeed.{fed-by, fed-13, fed-12}
 use borrow.Author.Needs.{needs}
-use native.Mathlib.Omega.{arith}
 use Rattle.checker.proofs.feeding.feed.Statement.{statement}
 use Rattle.checker.proofs.feeding.feed.Tie as tie
 

@@ -1,6 +1,5 @@
 use Rattle.checker.specs.State.{withCount}
 use borrow.Author.Needs.{needs}
-use native.Mathlib.Omega.{arith}
 use Rattle.checker.proofs.feeding.with_count.Statement.{statement}
 use Rattle.checker.proofs.feeding.with_count.Tie as tie
 

@@ -1,8 +1,6 @@
-use mathlib.Core.Path.{_≡_, refl, sym, ap, _∙_}
 use borrow.Author.Tests.{eq-eqb, ne-eqb}
 use Rattle.checker.specs.Lows.{noBase}
 use borrow.Author.Needs.{needs}
-use native.Mathlib.Omega.{arith}
 use Rattle.checker.proofs.good.count_fits.Statement.{statement}
 use Rattle.checker.proofs.good.count_fits.Tie as tie
 

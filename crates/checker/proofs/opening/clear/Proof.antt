@@ -1,5 +1,5 @@
 use Prim.Native.Nat.{ℕ}
-use Prim.Native.Nat.{_+_, _-_, _<_, _≤_}
+use Prim.Native.Nat.{_+_, _-_, _≤_}
 use mathlib.Core.Path.{_≡_, refl, sym, _∙_, ap}
 use native.Mathlib.Omega.{arith}
 use borrow.Author.Needs.{needs}
@@ -9,8 +9,6 @@ use lib.Seq.{take-all}
 use Rattle.checker.proofs.CodeCopy.{clear-step}
 use Rattle.checker.proofs.opening.clear.Statement.{statement}
 use Rattle.checker.proofs.opening.clear.Tie as tie
-use Rattle.checker.proofs.opening.clear.Reads as reads
-use Rattle.checker.proofs.opening.clear.Lts as lts
 
 abbrev Inv-loop : tie.InvT-loop
 Inv-loop window₀ i₀ z window i = (length window ≡ length window₀) × (i ≤ length window) × (z ≡ 0) × (take i window ≡ replicate i (pos 0))

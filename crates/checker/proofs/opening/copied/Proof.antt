@@ -1,13 +1,11 @@
-use Prim.Native.Nat.{_+_, _-_, _<_, _≤_}
-use mathlib.Core.Path.{_≡_, refl, sym, _∙_, ap}
+use Prim.Native.Nat.{_-_, _≤_}
+use mathlib.Core.Path.{_≡_, refl, _∙_}
 use native.Mathlib.Omega.{arith}
 use borrow.Author.Needs.{needs}
-use lib.ListN.{length, take, replicate, length-set}
+use lib.ListN.{length}
 use Rattle.checker.proofs.CodeCopy.{part, part-step, part-all}
 use Rattle.checker.proofs.opening.copied.Statement.{statement}
 use Rattle.checker.proofs.opening.copied.Tie as tie
-use Rattle.checker.proofs.opening.copied.Reads as reads
-use Rattle.checker.proofs.opening.copied.Lts as lts
 
 abbrev Inv-loop : tie.InvT-loop
 Inv-loop frames out₀ i₀ out i = (i ≤ length frames) × (out ≡ part frames 512 i 0)

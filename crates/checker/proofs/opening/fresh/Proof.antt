@@ -1,7 +1,5 @@
-use mathlib.Core.Path.{_≡_, refl, sym, ap, _∙_}
 use Rattle.checker.specs.State.{freshState}
 use borrow.Author.Needs.{needs}
-use native.Mathlib.Omega.{arith}
 use Rattle.checker.proofs.opening.fresh.Statement.{statement}
 use Rattle.checker.proofs.opening.fresh.Tie as tie
 

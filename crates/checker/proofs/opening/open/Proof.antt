@@ -1,5 +1,5 @@
-use mathlib.Core.Path.{_≡_, refl, sym, ap, _∙_}
-use mathlib.Core.Bool.{Bool, true, false, _&&_}
+use mathlib.Core.Path.{_≡_, sym, ap, _∙_}
+use mathlib.Core.Bool.{true, false, _&&_}
 use Prim.Native.Nat.{ℕ}
 use borrow.Author.Tests.{eqb-true}
 use lib.Dec.{eqb}
@@ -14,7 +14,6 @@ use Rattle.checker.specs.Answer.{openTold}
 use Rattle.checker.specs.Open.{widthFits, openDef}
 use Rattle.checker.specs.declared.Opened.{Opened}
 use borrow.Author.Needs.{needs}
-use native.Mathlib.Omega.{arith}
 use Rattle.checker.proofs.opening.open.Statement.{statement}
 use Rattle.checker.proofs.opening.open.Tie as tie
 

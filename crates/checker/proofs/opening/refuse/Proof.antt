@@ -1,6 +1,4 @@
-use mathlib.Core.Path.{_≡_, refl, sym, ap, _∙_}
 use borrow.Author.Needs.{needs}
-use native.Mathlib.Omega.{arith}
 use Rattle.checker.proofs.opening.refuse.Statement.{statement}
 use Rattle.checker.proofs.opening.refuse.Tie as tie
 

@@ -1,17 +1,15 @@
-use mathlib.Core.Path.{_≡_, refl, sym, ap, _∙_}
-use lib.IntN.{ℤ}
+use mathlib.Core.Path.{_≡_, sym, _∙_}
 use mir.Syntax.{w32}
 use mir.Val.{toZ, ofZ}
 use mir.ValLaws.{toZ-ofZ}
-use borrow.Author.Needs.{needs, sfits-of}
+use borrow.Author.Needs.{needs}
 use Rattle.verdict.specs.Found.{occurrence, meantBy}
-use Rattle.verdict.specs.declared.Meant.the-variants.{Void, At}
 use Rattle.checker.specs.Base.{orZero}
 use Rattle.checker.proofs.CodeBase.{void-zero, at-zero}
 use borrow.Author.Needs.{needs}
 use native.Mathlib.Omega.{arith}
-use Rattle.checker.proofs.bases.lower.Statement.{statement}
-use Rattle.checker.proofs.bases.lower.Tie as tie
+use Rattle.checker.proofs.base.lower.Statement.{statement}
+use Rattle.checker.proofs.base.lower.Tie as tie
 
 occurrence-of-requires : tie.Need-occurrence-of-requires
 occurrence-of-requires c κs = search needs

@@ -1,6 +1,6 @@
-use mathlib.Core.Path.{_≡_, refl, sym, ap, _∙_}
+use mathlib.Core.Path.{_≡_}
 use borrow.Author.Tests.{eq-eqb, ne-eqb}
-use lib.ListN.{length, length-set}
+use lib.ListN.{length-set}
 use mir.Syntax.{w32}
 use mir.Val.{toZ, ofZ}
 use mir.ValLaws.{toZ-ofZ}
@@ -8,8 +8,8 @@ use borrow.Author.Needs.{needs, sfits-of}
 use Rattle.rule.specs.References.{referenceByte}
 use borrow.Author.Needs.{needs}
 use native.Mathlib.Omega.{arith}
-use Rattle.checker.proofs.bases.lower_by.Statement.{statement}
-use Rattle.checker.proofs.bases.lower_by.Tie as tie
+use Rattle.checker.proofs.base.lower_by.Statement.{statement}
+use Rattle.checker.proofs.base.lower_by.Tie as tie
 
 cast-e : tie.Need-cast-e
 cast-e c = search needs

@@ -1,15 +1,14 @@
-use mathlib.Core.Path.{_≡_, refl, sym, ap, _∙_}
-use Rattle.checker.proofs.CodeRing.{row-most, word-most}
-use lib.IntN.{ℤ}
-use lib.ListN.{length, length-set}
+use mathlib.Core.Path.{_≡_}
+use Rattle.checker.proofs.CodeRing.{word-most}
+use lib.ListN.{length-set}
 use mir.Syntax.{w32}
 use mir.Val.{toZ, ofZ}
 use mir.Facts.{toZ-ofZ}
 use Rattle.checker.specs.Ring.{stored}
 use borrow.Author.Needs.{needs}
 use native.Mathlib.Omega.{arith}
-use Rattle.checker.proofs.ring.store.Statement.{statement}
-use Rattle.checker.proofs.ring.store.Tie as tie
+use Rattle.checker.proofs.words.store.Statement.{statement}
+use Rattle.checker.proofs.words.store.Tie as tie
 
 word-requires : tie.Need-word-requires
 word-requires c κs = search needs

@@ -1,9 +1,8 @@
-use mathlib.Core.Path.{_≡_, refl, sym, ap, _∙_}
 use Rattle.checker.proofs.CodeRing.{row-most, word-most}
 use borrow.Author.Needs.{needs}
 use native.Mathlib.Omega.{arith}
-use Rattle.checker.proofs.ring.word.Statement.{statement}
-use Rattle.checker.proofs.ring.word.Tie as tie
+use Rattle.checker.proofs.words.word.Statement.{statement}
+use Rattle.checker.proofs.words.word.Tie as tie
 
 mul-row : tie.Need-mul-row
 mul-row c = omega (arith, row-most (c .args .width) (c .args .event) (c .pre .most) (c .pre .event))

@@ -1,10 +1,9 @@
-use mathlib.Core.Path.{_≡_, refl, sym, ap, _∙_}
 use borrow.Author.Tests.{le-leb, lt-leb}
 use Rattle.checker.specs.Ring.{kept}
 use borrow.Author.Needs.{needs}
 use native.Mathlib.Omega.{arith}
-use Rattle.checker.proofs.ring.keep.Statement.{statement}
-use Rattle.checker.proofs.ring.keep.Tie as tie
+use Rattle.checker.proofs.words.keep.Statement.{statement}
+use Rattle.checker.proofs.words.keep.Tie as tie
 
 store-requires : tie.Need-store-requires
 store-requires c κs = search needs

@@ -1,13 +1,13 @@
-use mathlib.Core.Path.{_≡_, refl, sym, ap, _∙_}
-use Prim.Native.Nat.{ℕ, _≤_, _-_, _/_}
+use mathlib.Core.Path.{_≡_, refl, ap, _∙_}
+use Prim.Native.Nat.{_≤_, _-_}
 use lib.ListN.{length}
 use Rattle.rule.specs.Frames.{frameCount}
 use Rattle.checker.specs.Lows.{lowsTo, lowsOf}
 use Rattle.checker.proofs.CodeBase.{startable, lows-next}
 use borrow.Author.Needs.{needs}
 use native.Mathlib.Omega.{arith}
-use Rattle.checker.proofs.bases.lows.Statement.{statement}
-use Rattle.checker.proofs.bases.lows.Tie as tie
+use Rattle.checker.proofs.base.lows.Statement.{statement}
+use Rattle.checker.proofs.base.lows.Tie as tie
 
 abbrev Inv-loop : tie.InvT-loop
 Inv-loop frames p n out₀ k₀ out k = (k ≤ n) × ((length out ≡ 8) × (out ≡ lowsTo frames (p .0) k))
