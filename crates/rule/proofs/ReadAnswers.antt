@@ -32,11 +32,12 @@ use Rattle.rule.proofs.ReadExactly.{Read, tree-read, tree-refused}
 
 -- ---- two trees of one text are alike
 pub unambiguous : (x y : Rule) (ts : List Token) → yield x ≡ words ts → yield y ≡ words ts → (frames x ≡ frames y) × (names x ≡ names y) × (numbers x ≡ numbers y) × (min 17 (depth x) ≡ min 17 (depth y))
-unambiguous x y ts e f =
-    (sym (frames-read x) ∙ (alike (List Draft) note-frame 0 [] x y ts e f ∙ frames-read y),
-    sym (names-read x) ∙ (alike (List Named) note-name 0 [] x y ts e f ∙ names-read y),
-    sym (numbers-read x) ∙ (alike (List Sized) note-number 0 [] x y ts e f ∙ numbers-read y),
-    sym (depth-read x) ∙ (alike ℕ note-depth 0 0 x y ts e f ∙ depth-read y))
+unambiguous x y ts e f = (
+  sym (frames-read x) ∙ (alike (List Draft) note-frame 0 [] x y ts e f ∙ frames-read y),
+  sym (names-read x) ∙ (alike (List Named) note-name 0 [] x y ts e f ∙ names-read y),
+  sym (numbers-read x) ∙ (alike (List Sized) note-number 0 [] x y ts e f ∙ numbers-read y),
+  sym (depth-read x) ∙ (alike ℕ note-depth 0 0 x y ts e f ∙ depth-read y),
+)
 
 -- ---- the answers
 module _ (text b : List ℕ) (fit : length b ≡ 512) (size : answers.Sized (length text)) where

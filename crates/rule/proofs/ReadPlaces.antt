@@ -103,9 +103,10 @@ module _ (text b : List ℕ) where
 
   -- 4: the first bad name of the tree
   pub place-4 : length b ≡ 512 → (x : Rule) → Spelled text x → (p : ℕ) → (readOf text b .0 ≡ refusedAs 4 p) ↔ BadName x p
-  place-4 h x y p =
-      (from-4 (readOf text b) (answered text b) x y p,
-      λ (q, e, s). ap (λ (z : Reading × List ℕ). z .0) (as-judged text b h (y .sized .some-bytes) (y .sized .few-bytes) x (y .spells) 4 p (ap (λ (o : Option Place). after-name (codeAt text) (valueAt text) x o) e ∙ rw s) (λ z. omega arith)))
+  place-4 h x y p = (
+    from-4 (readOf text b) (answered text b) x y p,
+    λ (q, e, s). ap (λ (z : Reading × List ℕ). z .0) (as-judged text b h (y .sized .some-bytes) (y .sized .few-bytes) x (y .spells) 4 p (ap (λ (o : Option Place). after-name (codeAt text) (valueAt text) x o) e ∙ rw s) (λ z. omega arith)),
+  )
 
   from-5 : (a : Reading × List ℕ) → Answered text b a → (x : Rule) → Spelled text x → (p : ℕ) → a .0 ≡ refusedAs 5 p → BadNumber x p
   from-5 a (refused-1 h) x y p e = absurd (let z = same-number 1 5 0 p e in omega arith)
@@ -120,6 +121,7 @@ module _ (text b : List ℕ) where
 
   -- 5: the first number of the tree that is beyond its limit, where no name is bad
   pub place-5 : length b ≡ 512 → (x : Rule) → Spelled text x → first-name (codeAt text) (valueAt text) [] (names x) ≡ none → (p : ℕ) → (readOf text b .0 ≡ refusedAs 5 p) ↔ BadNumber x p
-  place-5 h x y n p =
-      (from-5 (readOf text b) (answered text b) x y p,
-      λ (q, e, s). ap (λ (z : Reading × List ℕ). z .0) (as-judged text b h (y .sized .some-bytes) (y .sized .few-bytes) x (y .spells) 5 p (ap (λ (o : Option Place). after-name (codeAt text) (valueAt text) x o) n ∙ (ap (λ (o : Option Place). after-number (codeAt text) (valueAt text) x o) e ∙ rw s)) (λ z. omega arith)))
+  place-5 h x y n p = (
+    from-5 (readOf text b) (answered text b) x y p,
+    λ (q, e, s). ap (λ (z : Reading × List ℕ). z .0) (as-judged text b h (y .sized .some-bytes) (y .sized .few-bytes) x (y .spells) 5 p (ap (λ (o : Option Place). after-name (codeAt text) (valueAt text) x o) n ∙ (ap (λ (o : Option Place). after-number (codeAt text) (valueAt text) x o) e ∙ rw s)) (λ z. omega arith)),
+  )

@@ -22,14 +22,23 @@ ghost use Rattle.rule.specs.Memory.{mem};
 ghost use Rattle.rule.specs.Does.{relByte, Does};
 
 const EQUAL: u8 = 0x21;
+
 const OTHER: u8 = 0x22;
+
 const LESS: u8 = 0x23;
+
 const NOT_MORE: u8 = 0x24;
+
 const MORE: u8 = 0x25;
+
 const NOT_LESS: u8 = 0x26;
+
 const NOT: u8 = 0x31;
+
 const AND: u8 = 0x32;
+
 const OR: u8 = 0x33;
+
 const IMPLIES: u8 = 0x34;
 
 // The kind of frame of a relation, 0 of any other token.
@@ -55,7 +64,14 @@ fn rel_kind(k: u8) -> u8
 }
 
 // rel sum, and the frame of the relation.
-fn compare(text: &[u8], names: &[u64; 12], at: usize, d: usize, m: Tally, buf: &mut [u8; 512]) -> Step
+fn compare(
+    text: &[u8],
+    names: &[u64; 12],
+    at: usize,
+    d: usize,
+    m: Tally,
+    buf: &mut [u8; 512],
+) -> Step
     requires { ⌜ at ≤ length (now text) ⌝ }
     ensures { λ r. ⌜ Does (λ s. rel d ∷ s) (now (text .entry)) at (at + 1) (mem m (now (names .entry)) (now (buf .entry))) r (now (names .entry)) (now (buf .exit)) ⌝ }
 {
@@ -71,7 +87,14 @@ fn compare(text: &[u8], names: &[u64; 12], at: usize, d: usize, m: Tally, buf: &
 }
 
 // sum rel sum
-fn relation(text: &[u8], names: &[u64; 12], at: usize, d: usize, m: Tally, buf: &mut [u8; 512]) -> Step
+fn relation(
+    text: &[u8],
+    names: &[u64; 12],
+    at: usize,
+    d: usize,
+    m: Tally,
+    buf: &mut [u8; 512],
+) -> Step
     requires { ⌜ at ≤ length (now text) ⌝ }
     ensures { λ r. ⌜ Does (λ s. sum d (rel d ∷ s)) (now (text .entry)) at (at + 1) (mem m (now (names .entry)) (now (buf .entry))) r (now (names .entry)) (now (buf .exit)) ⌝ }
 {
@@ -82,7 +105,14 @@ fn relation(text: &[u8], names: &[u64; 12], at: usize, d: usize, m: Tally, buf: 
 }
 
 // cond "}", the rest of a group.
-fn braces(text: &[u8], names: &[u64; 12], at: usize, d: usize, m: Tally, buf: &mut [u8; 512]) -> Step
+fn braces(
+    text: &[u8],
+    names: &[u64; 12],
+    at: usize,
+    d: usize,
+    m: Tally,
+    buf: &mut [u8; 512],
+) -> Step
     requires { ⌜ at ≤ length (now text) ⌝ }
     ensures { λ r. ⌜ Does (λ s. condition d (want 125 ∷ s)) (now (text .entry)) at (at + 1) (mem m (now (names .entry)) (now (buf .entry))) r (now (names .entry)) (now (buf .exit)) ⌝ }
 {
@@ -93,7 +123,14 @@ fn braces(text: &[u8], names: &[u64; 12], at: usize, d: usize, m: Tally, buf: &m
 }
 
 // cond: disj ["->" cond]; disj: conj {"||" conj}
-pub fn condition(text: &[u8], names: &[u64; 12], at: usize, d: usize, m: Tally, buf: &mut [u8; 512]) -> Step
+pub fn condition(
+    text: &[u8],
+    names: &[u64; 12],
+    at: usize,
+    d: usize,
+    m: Tally,
+    buf: &mut [u8; 512],
+) -> Step
     requires { ⌜ at ≤ length (now text) ⌝ }
     ensures { λ r. ⌜ Does (λ s. condition d s) (now (text .entry)) at (at + 1) (mem m (now (names .entry)) (now (buf .entry))) r (now (names .entry)) (now (buf .exit)) ⌝ }
 {

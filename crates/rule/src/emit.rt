@@ -21,8 +21,11 @@ ghost use Rattle.rule.specs.Memory.{codeAt, valueAt, factorOf, offsetOf,
 ghost use Rattle.rule.specs.Does.{Inside, InsideScale, InsideShift};
 
 const FRAMES: usize = 64;
+
 const LITERAL: u8 = 0x01;
+
 const INSTANCE: u8 = 0x02;
+
 const REFERENCE: u8 = 0x03;
 
 // Puts a frame at its place, if there is room, and counts it.
@@ -150,7 +153,16 @@ fn offset_of(text: &[u8], o: Shift) -> u32
 }
 
 // The frame of a reference: the note at `n` of the event at `e`.
-pub fn emit_reference(text: &[u8], names: &[u64; 12], buf: &mut [u8; 512], m: Tally, n: Place, e: Place, f: Scale, o: Shift) -> Tally
+pub fn emit_reference(
+    text: &[u8],
+    names: &[u64; 12],
+    buf: &mut [u8; 512],
+    m: Tally,
+    n: Place,
+    e: Place,
+    f: Scale,
+    o: Shift,
+) -> Tally
     requires { ⌜ Inside (length (now text)) n × Inside (length (now text)) e × InsideScale (length (now text)) f × InsideShift (length (now text)) o ⌝ }
     ensures { λ r. ⌜ mem r (now (names .entry)) (now (buf .exit)) ≡ acts (now (text .entry)) (out (ref n e f o)) (mem m (now (names .entry)) (now (buf .entry))) ⌝ }
 {

@@ -63,7 +63,14 @@ fn name_list(text: &[u8], names: &mut [u64; 12], at: usize, role: Role, m: Tally
 }
 
 // A reserved word, and the list that it begins.
-pub fn declarations(text: &[u8], names: &mut [u64; 12], at: usize, word: u8, role: Role, m: Tally) -> Step
+pub fn declarations(
+    text: &[u8],
+    names: &mut [u64; 12],
+    at: usize,
+    word: u8,
+    role: Role,
+    m: Tally,
+) -> Step
     requires { ⌜ (at ≤ length (now text)) × (length (now names) ≡ 12) × (0 < word) ⌝ }
     ensures { λ r. ⌜ ((b : List ℕ) → Does (λ s. want word ∷ name-of role ∷ names-of role ∷ want 59 ∷ s) (now (text .entry)) at at (mem m (now (names .entry)) b) r (now (names .exit)) b) × (length (now (names .exit)) ≡ 12) ⌝ }
 {

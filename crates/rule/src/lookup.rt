@@ -18,6 +18,7 @@ ghost use Rattle.rule.specs.Memory.{table, position, acts, listed, mem};
 ghost use Rattle.rule.specs.Does.{Inside};
 
 const EVENTS: u8 = 8;
+
 const NOTES: u8 = 4;
 
 fn least(a: u8, b: u8) -> u8

@@ -15,8 +15,11 @@ ghost use Rattle.rule.specs.Memory.{first, blame, codeAt, valueAt, acts,
 ghost use Rattle.rule.specs.Does.{Inside};
 
 pub const DEPTH: usize = 16;
+
 const LITERAL: u32 = 2147483647;
+
 const FACTOR: u32 = 9;
+
 const OFFSET: u32 = 9999;
 
 // Registers: frames so far, at most 65; whether a depth was over 16; the first bad number's place plus 1, and the first bad

@@ -22,7 +22,9 @@ ghost use Rattle.rule.specs.Does.{runFrom};
 ghost use Rattle.rule.specs.Reading.{refusedAs, settled, readOf, unread, answerOf};
 
 const BUFFER: usize = 512;
+
 const LONGEST: usize = 1024;
+
 const FRAMES: usize = 64;
 
 fn refuse(number: u8, place: u32) -> Reading

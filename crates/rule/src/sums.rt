@@ -30,8 +30,11 @@ ghost use Rattle.rule.specs.Memory.{mem};
 ghost use Rattle.rule.specs.Does.{signByte, Does, Inside, InsideScale};
 
 const ADD: u8 = 0x11;
+
 const SUBTRACT: u8 = 0x12;
+
 const MULTIPLY: u8 = 0x13;
+
 const ABSOLUTE: u8 = 0x14;
 
 // The kind of frame of "+" and "-", 0 of any other token.
@@ -57,7 +60,17 @@ pub fn expect(text: &[u8], at: usize, m: Tally, k: u8) -> Step
 }
 
 // The number of an offset, and the frame of its reference.
-fn ref_by(text: &[u8], names: &[u64; 12], at: usize, n: Place, e: Place, f: Scale, g: Sign, m: Tally, buf: &mut [u8; 512]) -> Step
+fn ref_by(
+    text: &[u8],
+    names: &[u64; 12],
+    at: usize,
+    n: Place,
+    e: Place,
+    f: Scale,
+    g: Sign,
+    m: Tally,
+    buf: &mut [u8; 512],
+) -> Step
     requires { ⌜ (at ≤ length (now text)) × Inside (length (now text)) n × Inside (length (now text)) e × InsideScale (length (now text)) f ⌝ }
     ensures { λ r. ⌜ Does (λ s. ref-by n e f g ∷ s) (now (text .entry)) at (at + 1) (mem m (now (names .entry)) (now (buf .entry))) r (now (names .entry)) (now (buf .exit)) ⌝ }
 {
@@ -70,11 +83,23 @@ fn ref_by(text: &[u8], names: &[u64; 12], at: usize, n: Place, e: Place, f: Scal
         end: t.end,
     };
     let k = sized(text, Limit::OfOffset, p, m);
-    Step::Go(t.end, emit_reference(text, names, buf, k, n, e, f, Shift::By(g, p)))
+    Step::Go(
+        t.end,
+        emit_reference(text, names, buf, k, n, e, f, Shift::By(g, p)),
+    )
 }
 
 // [("+" or "-") number], and the frame of the reference.
-fn ref_shift(text: &[u8], names: &[u64; 12], at: usize, n: Place, e: Place, f: Scale, m: Tally, buf: &mut [u8; 512]) -> Step
+fn ref_shift(
+    text: &[u8],
+    names: &[u64; 12],
+    at: usize,
+    n: Place,
+    e: Place,
+    f: Scale,
+    m: Tally,
+    buf: &mut [u8; 512],
+) -> Step
     requires { ⌜ (at ≤ length (now text)) × Inside (length (now text)) n × Inside (length (now text)) e × InsideScale (length (now text)) f ⌝ }
     ensures { λ r. ⌜ Does (λ s. ref-shift n e f ∷ s) (now (text .entry)) at at (mem m (now (names .entry)) (now (buf .entry))) r (now (names .entry)) (now (buf .exit)) ⌝ }
 {
@@ -85,11 +110,23 @@ fn ref_shift(text: &[u8], names: &[u64; 12], at: usize, n: Place, e: Place, f: S
     if t.kind == b'-' {
         return ref_by(text, names, t.end, n, e, f, Sign::Minus, m, buf);
     }
-    Step::Go(at, emit_reference(text, names, buf, m, n, e, f, Shift::Unshifted))
+    Step::Go(
+        at,
+        emit_reference(text, names, buf, m, n, e, f, Shift::Unshifted),
+    )
 }
 
 // "*" "i", after a number, and the rest of the index.
-fn ref_scaled(text: &[u8], names: &[u64; 12], at: usize, n: Place, e: Place, p: Place, m: Tally, buf: &mut [u8; 512]) -> Step
+fn ref_scaled(
+    text: &[u8],
+    names: &[u64; 12],
+    at: usize,
+    n: Place,
+    e: Place,
+    p: Place,
+    m: Tally,
+    buf: &mut [u8; 512],
+) -> Step
     requires { ⌜ (at ≤ length (now text)) × Inside (length (now text)) n × Inside (length (now text)) e × Inside (length (now text)) p ⌝ }
     ensures { λ r. ⌜ Does (λ s. want 42 ∷ want 5 ∷ ref-shift n e (Scale.Times p) ∷ s) (now (text .entry)) at at (mem m (now (names .entry)) (now (buf .entry))) r (now (names .entry)) (now (buf .exit)) ⌝ }
 {
@@ -103,7 +140,15 @@ fn ref_scaled(text: &[u8], names: &[u64; 12], at: usize, n: Place, e: Place, p: 
 }
 
 // index: [number "*"] "i" [("+" or "-") number]
-fn ref_index(text: &[u8], names: &[u64; 12], at: usize, n: Place, e: Place, m: Tally, buf: &mut [u8; 512]) -> Step
+fn ref_index(
+    text: &[u8],
+    names: &[u64; 12],
+    at: usize,
+    n: Place,
+    e: Place,
+    m: Tally,
+    buf: &mut [u8; 512],
+) -> Step
     requires { ⌜ (at ≤ length (now text)) × Inside (length (now text)) n × Inside (length (now text)) e ⌝ }
     ensures { λ r. ⌜ Does (λ s. ref-index n e ∷ s) (now (text .entry)) at (at + 1) (mem m (now (names .entry)) (now (buf .entry))) r (now (names .entry)) (now (buf .exit)) ⌝ }
 {
@@ -134,7 +179,15 @@ fn ref_end(text: &[u8], at: usize, m: Tally) -> Step
 }
 
 // "[" index "]" ")"
-fn ref_brackets(text: &[u8], names: &[u64; 12], at: usize, n: Place, e: Place, m: Tally, buf: &mut [u8; 512]) -> Step
+fn ref_brackets(
+    text: &[u8],
+    names: &[u64; 12],
+    at: usize,
+    n: Place,
+    e: Place,
+    m: Tally,
+    buf: &mut [u8; 512],
+) -> Step
     requires { ⌜ (at ≤ length (now text)) × Inside (length (now text)) n × Inside (length (now text)) e ⌝ }
     ensures { λ r. ⌜ Does (λ s. want 91 ∷ ref-index n e ∷ want 93 ∷ want 41 ∷ s) (now (text .entry)) at at (mem m (now (names .entry)) (now (buf .entry))) r (now (names .entry)) (now (buf .exit)) ⌝ }
 {
@@ -148,7 +201,14 @@ fn ref_brackets(text: &[u8], names: &[u64; 12], at: usize, n: Place, e: Place, m
 }
 
 // The event of a reference, and what follows.
-fn ref_event(text: &[u8], names: &[u64; 12], at: usize, n: Place, m: Tally, buf: &mut [u8; 512]) -> Step
+fn ref_event(
+    text: &[u8],
+    names: &[u64; 12],
+    at: usize,
+    n: Place,
+    m: Tally,
+    buf: &mut [u8; 512],
+) -> Step
     requires { ⌜ (at ≤ length (now text)) × Inside (length (now text)) n ⌝ }
     ensures { λ r. ⌜ Does (λ s. ref-event n ∷ s) (now (text .entry)) at (at + 1) (mem m (now (names .entry)) (now (buf .entry))) r (now (names .entry)) (now (buf .exit)) ⌝ }
 {
@@ -165,7 +225,14 @@ fn ref_event(text: &[u8], names: &[u64; 12], at: usize, n: Place, m: Tally, buf:
 }
 
 // "(" name "[" index "]" ")", after the note.
-fn reference(text: &[u8], names: &[u64; 12], at: usize, n: Place, m: Tally, buf: &mut [u8; 512]) -> Step
+fn reference(
+    text: &[u8],
+    names: &[u64; 12],
+    at: usize,
+    n: Place,
+    m: Tally,
+    buf: &mut [u8; 512],
+) -> Step
     requires { ⌜ (at ≤ length (now text)) × Inside (length (now text)) n ⌝ }
     ensures { λ r. ⌜ Does (λ s. want 40 ∷ ref-event n ∷ s) (now (text .entry)) at at (mem m (now (names .entry)) (now (buf .entry))) r (now (names .entry)) (now (buf .exit)) ⌝ }
 {
@@ -176,7 +243,14 @@ fn reference(text: &[u8], names: &[u64; 12], at: usize, n: Place, m: Tally, buf:
 }
 
 // sum ")", the rest of a group.
-fn parens(text: &[u8], names: &[u64; 12], at: usize, d: usize, m: Tally, buf: &mut [u8; 512]) -> Step
+fn parens(
+    text: &[u8],
+    names: &[u64; 12],
+    at: usize,
+    d: usize,
+    m: Tally,
+    buf: &mut [u8; 512],
+) -> Step
     requires { ⌜ at ≤ length (now text) ⌝ }
     ensures { λ r. ⌜ Does (λ s. sum d (want 41 ∷ s)) (now (text .entry)) at (at + 1) (mem m (now (names .entry)) (now (buf .entry))) r (now (names .entry)) (now (buf .exit)) ⌝ }
 {
@@ -187,7 +261,14 @@ fn parens(text: &[u8], names: &[u64; 12], at: usize, d: usize, m: Tally, buf: &m
 }
 
 // sum: prod {("+" or "-") prod}
-pub fn sum(text: &[u8], names: &[u64; 12], at: usize, d: usize, m: Tally, buf: &mut [u8; 512]) -> Step
+pub fn sum(
+    text: &[u8],
+    names: &[u64; 12],
+    at: usize,
+    d: usize,
+    m: Tally,
+    buf: &mut [u8; 512],
+) -> Step
     requires { ⌜ at ≤ length (now text) ⌝ }
     ensures { λ r. ⌜ Does (λ s. sum d s) (now (text .entry)) at (at + 1) (mem m (now (names .entry)) (now (buf .entry))) r (now (names .entry)) (now (buf .exit)) ⌝ }
 {
@@ -246,7 +327,14 @@ fn muls(text: &[u8], names: &[u64; 12], at: usize, d: usize, m: Tally, buf: &mut
 }
 
 // "(" sum ")" and the frame of abs, after "abs".
-fn absolute(text: &[u8], names: &[u64; 12], at: usize, d: usize, m: Tally, buf: &mut [u8; 512]) -> Step
+fn absolute(
+    text: &[u8],
+    names: &[u64; 12],
+    at: usize,
+    d: usize,
+    m: Tally,
+    buf: &mut [u8; 512],
+) -> Step
     requires { ⌜ at ≤ length (now text) ⌝ }
     ensures { λ r. ⌜ Does (λ s. want 40 ∷ sum d (want 41 ∷ doing (out (plain 0x14)) ∷ s)) (now (text .entry)) at at (mem m (now (names .entry)) (now (buf .entry))) r (now (names .entry)) (now (buf .exit)) ⌝ }
 {
@@ -260,7 +348,14 @@ fn absolute(text: &[u8], names: &[u64; 12], at: usize, d: usize, m: Tally, buf: 
 }
 
 // factor: number, "i", "(" sum ")", "abs" "(" sum ")", or reference
-fn factor(text: &[u8], names: &[u64; 12], at: usize, d: usize, m: Tally, buf: &mut [u8; 512]) -> Step
+fn factor(
+    text: &[u8],
+    names: &[u64; 12],
+    at: usize,
+    d: usize,
+    m: Tally,
+    buf: &mut [u8; 512],
+) -> Step
     requires { ⌜ at ≤ length (now text) ⌝ }
     ensures { λ r. ⌜ Does (λ s. factor d ∷ s) (now (text .entry)) at (at + 1) (mem m (now (names .entry)) (now (buf .entry))) r (now (names .entry)) (now (buf .exit)) ⌝ }
 {

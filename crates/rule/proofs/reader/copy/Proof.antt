@@ -21,7 +21,7 @@ abbrev μ-loop : tie.MeasureT-loop
 
 -- one element more is copied
 copied : (to from : List ℕ) (i : ℕ) → i < length to → ((k : ℕ) → k < i → getD to k 0 ≡ getD from k 0)
-  → (k : ℕ) → k < i + 1 → getD (set to i (getD from i 0)) k 0 ≡ getD from k 0
+    → (k : ℕ) → k < i + 1 → getD (set to i (getD from i 0)) k 0 ≡ getD from k 0
 copied to from i h up k l = go (eqb k i) refl
   where
     go : (q : Bool) → eqb k i ≡ q → getD (set to i (getD from i 0)) k 0 ≡ getD from k 0
@@ -44,7 +44,7 @@ loop-less : tie.Need-loop-less Inv-loop μ-loop
 loop-less c = search needs
 
 loop-again : tie.Need-loop-again Inv-loop μ-loop
-loop-again c = 
+loop-again c =
     let i = c .before .before .loop .i in
     let to = c .before .before .loop .to in
     let from = c .before .before .before .args .from .now in
