@@ -35,15 +35,18 @@ abbrev pub foundAt : List (List ℤ) → ℕ → ℤ → Found
 foundAt lines note (negsuc k) = void
 foundAt lines note (pos k) = cond (ltb k (length lines)) (present (getD (getD lines k []) note (pos 0))) pending
 
+-- a reference of instance i, over the accepted lines of every event
 abbrev pub foundIn : (ℕ → List (List ℤ)) → ℕ → Reference → Found
 foundIn lines i r = foundAt (lines (r .event)) (r .note) (occurrence (r .factor) (r .offset) i)
 
 -- ---- tests
+-- "present"
 abbrev pub isPresent : Found → Bool
 isPresent (present z) = true
 isPresent pending = false
 isPresent void = false
 
+-- "pending"
 abbrev pub isPending : Found → Bool
 isPending (present z) = false
 isPending pending = true

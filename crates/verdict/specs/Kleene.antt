@@ -4,12 +4,13 @@ use Rattle.rule.specs.Frames.{Connective, and, or, implies}
 use Rattle.verdict.specs.declared.Truth.{Truth}
 use Rattle.verdict.specs.declared.Truth.the-variants.{True, False, Unknown}
 
--- "Not, and, or follow Kleene's tables (unknown or true is true; unknown and false is false)"
+-- "Not, and, or follow Kleene's tables (unknown or true is true; unknown and false is false)": not
 abbrev pub notK : Truth → Truth
 notK True = False
 notK False = True
 notK Unknown = Unknown
 
+-- and
 abbrev pub andK : Truth → Truth → Truth
 andK True True = True
 andK True False = False
@@ -21,6 +22,7 @@ andK Unknown True = Unknown
 andK Unknown False = False
 andK Unknown Unknown = Unknown
 
+-- or
 abbrev pub orK : Truth → Truth → Truth
 orK True True = True
 orK True False = True

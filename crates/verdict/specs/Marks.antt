@@ -12,13 +12,15 @@ use Rattle.rule.specs.Check.{checkedOf}
 use Rattle.rule.specs.declared.Checked.the-variants.{Accepted}
 use Rattle.verdict.specs.Found.{instanceLimit, Found, present, pending, void}
 
--- "00 present, 01 pending, 02 void"
+-- "00 present, 01 pending, 02 void": 00
 abbrev pub presentMark : ℕ
 presentMark = 0
 
+-- 01
 abbrev pub pendingMark : ℕ
 pendingMark = 1
 
+-- 02
 abbrev pub voidMark : ℕ
 voidMark = 2
 

@@ -26,12 +26,15 @@ pub record Pass : Type 0 where
   pub pending : Bool
   pub present : Bool
 
+-- before the first frame
 abbrev pub atStart : Pass
 atStart = record { sums = []; missing = false; conds = []; pending = false; present = false }
 
+-- with other sums
 abbrev pub withSums : Pass → List ℤ → Pass
 withSums p vs = record { sums = vs; missing = p .missing; conds = p .conds; pending = p .pending; present = p .present }
 
+-- with other conditions
 abbrev pub withConds : Pass → List Truth → Pass
 withConds p cs = record { sums = p .sums; missing = p .missing; conds = cs; pending = p .pending; present = p .present }
 
@@ -46,15 +49,17 @@ withReference p mark note =
       present = p .present || eqb mark presentMark;
     }
 
--- a relation of the two sums that are there
+-- the truth value of a relation of the two sums that are there
 abbrev pub related : Relation → Bool → List ℤ → Truth
 related r missing [] = Unknown
 related r missing (y ∷ []) = Unknown
 related r missing (y ∷ (x ∷ vs)) = cond missing Unknown (truth (holds r x y))
 
+-- with a relation, which takes the sums; the next one begins with no reference
 abbrev pub withRelation : Pass → Relation → Pass
 withRelation p r = record { sums = []; missing = false; conds = related r (p .missing) (p .sums) ∷ p .conds; pending = p .pending; present = p .present }
 
+-- with a literal, i or a reference
 abbrev pub operandBy : Source → ℤ → ℕ → ℕ → ℤ → Pass → Pass
 operandBy literal v i mark note p = withSums p (v ∷ p .sums)
 operandBy instance v i mark note p = withSums p (pos i ∷ p .sums)
@@ -70,10 +75,12 @@ passBy negation v i mark note p = withConds p (top1 notK (p .conds))
 passBy (connective j) v i mark note p = withConds p (top2 (joined j) (p .conds))
 passBy none v i mark note p = p
 
+-- the rule's value: of a rule one condition is left
 abbrev pub firstT : List Truth → Truth
 firstT [] = Unknown
 firstT (t ∷ cs) = t
 
+-- what is said of an instance: its verdict where it is settled
 abbrev pub judgedBy : Bool → Bool → Truth → Judgement
 judgedBy somePending somePresent t = cond (settledBy somePending somePresent t) (verdict t) Unsettled
 
@@ -83,6 +90,7 @@ module _ (s : List ℕ) (i : ℕ) (marks : List ℕ) (notes : List ℤ) where
   passAt zero = atStart
   passAt (suc k) = passBy (kindOf (frameAt s k .kind)) (frameAt s k .value) i (getD marks k 0) (getD notes k (pos 0)) (passAt k)
 
+  -- what judge answers
   unfoldable pub judgementOf : Judgement
   judgementOf =
       judgedBy (passAt (frameCount s) .pending) (passAt (frameCount s) .present) (firstT (passAt (frameCount s) .conds))

@@ -21,6 +21,7 @@ verdict truths.False = False
 verdict truths.Unknown = Unknown
 
 module _ (i : ℕ) (found : Reference → Found) (t : Cond) where
+  -- of an instance of a rule
   abbrev pub settled : Bool
   settled = settledBy (someOf isPending found (references t)) (someOf isPresent found (references t)) (value i found t)
 

@@ -17,7 +17,8 @@ use Rattle.verdict.specs.declared.Truth.{Truth}
 use Rattle.verdict.specs.declared.Truth.the-variants.{True, False, Unknown}
 use Rattle.verdict.specs.declared.evaluate.Top.{Top}
 
--- ---- what a kind byte asks for; some value where it asks for nothing of the sort
+-- ---- what a kind asks for; some value where it asks for nothing of the sort
+-- of two sums
 abbrev pub computedBy : Kind → ℤ → ℤ → ℤ
 computedBy (operand s) x y = x
 computedBy (arithmetic o) x y = computed o x y
@@ -27,6 +28,7 @@ computedBy negation x y = x
 computedBy (connective j) x y = x
 computedBy none x y = x
 
+-- a relation of two sums
 abbrev pub holdsBy : Kind → ℤ → ℤ → Bool
 holdsBy (operand s) x y = false
 holdsBy (arithmetic o) x y = false
@@ -36,6 +38,7 @@ holdsBy negation x y = false
 holdsBy (connective j) x y = false
 holdsBy none x y = false
 
+-- of two conditions
 abbrev pub joinedBy : Kind → Truth → Truth → Truth
 joinedBy (operand s) p q = p
 joinedBy (arithmetic o) p q = p
@@ -45,10 +48,11 @@ joinedBy negation p q = p
 joinedBy (connective j) p q = joined j p q
 joinedBy none p q = p
 
--- ---- conditions as bytes
+-- ---- conditions as bytes: 0 false, 1 true, else unknown
 abbrev pub truthOf : ℕ → Truth
 truthOf b = cond (eqb b 0) False (cond (eqb b 1) True Unknown)
 
+-- the c conditions that an array holds, the last first
 abbrev pub truthsOf : List ℕ → ℕ → List Truth
 truthsOf cells c = map truthOf (stackOf 0 cells c)
 

@@ -13,11 +13,13 @@ use Rattle.verdict.specs.declared.Truth.{Truth}
 use Rattle.verdict.specs.declared.Truth.the-variants.{Unknown}
 
 -- ---- sums
+-- kinds 11 to 13: add, subtract, multiply, exactly
 abbrev pub computed : Arithmetic → ℤ → ℤ → ℤ
 computed add x y = x +ℤ y
 computed subtract x y = x -ℤ y
 computed multiply x y = x *ℤ y
 
+-- kind 14: abs
 abbrev pub sizeOf : ℤ → ℤ
 sizeOf x = pos (natAbs x)
 
@@ -27,13 +29,15 @@ noteOf (present z) = z
 noteOf pending = pos 0
 noteOf void = pos 0
 
--- ---- relations: = != < <= > >=
+-- ---- relations
+-- the same number
 abbrev pub eqZ : ℤ → ℤ → Bool
 eqZ (pos x) (pos y) = eqb x y
 eqZ (pos x) (negsuc y) = false
 eqZ (negsuc x) (pos y) = false
 eqZ (negsuc x) (negsuc y) = eqb x y
 
+-- kinds 21 to 26: = != < <= > >=
 abbrev pub holds : Relation → ℤ → ℤ → Bool
 holds equal x y = eqZ x y
 holds unequal x y = not (eqZ x y)
@@ -44,6 +48,7 @@ holds atLeast x y = leZ y x
 
 -- ---- i is the instance number, found says what each reference is at that instance
 module _ (i : ℕ) (found : Reference → Found) where
+  -- the value of a sum
   abbrev pub valueS : Sum → ℤ
   valueS (literal n) = pos n
   valueS instance = pos i
