@@ -39,12 +39,12 @@ fn refuse(s: State, number: u8, place: u32) -> Fed
     }
 }
 
-fn ignore(s: State) -> Fed
-    ensures { λ r. ⌜ r ≡ record { answer = FeedAnswer.Ignored; state = s } ⌝ }
+fn ignore(state: State) -> Fed
+    ensures { λ r. ⌜ r ≡ record { answer = FeedAnswer.Ignored; state = state } ⌝ }
 {
     Fed {
         answer: FeedAnswer::Ignored,
-        state: s,
+        state,
     }
 }
 

@@ -22,7 +22,11 @@ ghost use Rattle.checker.specs.Lows.{countFits, ruleFits, tallyFits};
 // At most 64 frames of 8 bytes.
 const FRAMES: u32 = 64;
 
+// A frame has 8 bytes.
 const FRAME_BYTES: usize = 8;
+
+// At most 8 events, numbered from 0.
+const EVENTS: usize = 8;
 
 // An event has at most 1,000,000 lines.
 pub const LINES: u32 = 1000000;
@@ -68,7 +72,7 @@ fn counts_fit(width: u32, lows: [u32; 8], counts: [u32; 8]) -> bool
     ensures { λ r. ⌜ r ≡ allTo eventLimit (λ e. countFits width (getD lows e 0) (getD counts e 0)) ⌝ }
 {
     let mut e: usize = 0;
-    while e < 8 {
+    while e < EVENTS {
         if count_fits(width, lows[e], counts[e]) {
             e += 1;
         } else {
