@@ -27,6 +27,27 @@ rule-read : readOf (101 ∷ 118 ∷ 101 ∷ 110 ∷ 116 ∷ 115 ∷ 32 ∷ 105 �
 unfolding classOf span same wordKind markOf markWidth tokenKind widthOf tokenHere tokenAt tokensIn tokensFrom code nameCode decimalFrom decimal numberValue startFactor step finish run deeper position negated put acts judged readOf checkedOf orderOf referenceCount sizesFit frameKind
 rule-read = refl
 
+-- the five kinds of rules of the literature: latency is document 01's own rule, above
+-- events display; notes t; t(display[i+1]) - t(display[i]) = 10
+rate-read : readOf (101 ∷ 118 ∷ 101 ∷ 110 ∷ 116 ∷ 115 ∷ 32 ∷ 100 ∷ 105 ∷ 115 ∷ 112 ∷ 108 ∷ 97 ∷ 121 ∷ 59 ∷ 32 ∷ 110 ∷ 111 ∷ 116 ∷ 101 ∷ 115 ∷ 32 ∷ 116 ∷ 59 ∷ 32 ∷ 116 ∷ 40 ∷ 100 ∷ 105 ∷ 115 ∷ 112 ∷ 108 ∷ 97 ∷ 121 ∷ 91 ∷ 105 ∷ 43 ∷ 49 ∷ 93 ∷ 41 ∷ 32 ∷ 45 ∷ 32 ∷ 116 ∷ 40 ∷ 100 ∷ 105 ∷ 115 ∷ 112 ∷ 108 ∷ 97 ∷ 121 ∷ 91 ∷ 105 ∷ 93 ∷ 41 ∷ 32 ∷ 61 ∷ 32 ∷ 49 ∷ 48 ∷ []) zeros .0 ≡ reading.Frames 5
+unfolding classOf span same wordKind markOf markWidth tokenKind widthOf tokenHere tokenAt tokensIn tokensFrom code nameCode decimalFrom decimal numberValue startFactor step finish run deeper position negated put acts judged readOf checkedOf orderOf referenceCount sizesFit frameKind
+rate-read = refl
+
+-- events display; notes t; abs(t(display[i]) - (i + 1) * 10) <= 4
+jitter-read : readOf (101 ∷ 118 ∷ 101 ∷ 110 ∷ 116 ∷ 115 ∷ 32 ∷ 100 ∷ 105 ∷ 115 ∷ 112 ∷ 108 ∷ 97 ∷ 121 ∷ 59 ∷ 32 ∷ 110 ∷ 111 ∷ 116 ∷ 101 ∷ 115 ∷ 32 ∷ 116 ∷ 59 ∷ 32 ∷ 97 ∷ 98 ∷ 115 ∷ 40 ∷ 116 ∷ 40 ∷ 100 ∷ 105 ∷ 115 ∷ 112 ∷ 108 ∷ 97 ∷ 121 ∷ 91 ∷ 105 ∷ 93 ∷ 41 ∷ 32 ∷ 45 ∷ 32 ∷ 40 ∷ 105 ∷ 32 ∷ 43 ∷ 32 ∷ 49 ∷ 41 ∷ 32 ∷ 42 ∷ 32 ∷ 49 ∷ 48 ∷ 41 ∷ 32 ∷ 60 ∷ 61 ∷ 32 ∷ 52 ∷ []) zeros .0 ≡ reading.Frames 10
+unfolding classOf span same wordKind markOf markWidth tokenKind widthOf tokenHere tokenAt tokensIn tokensFrom code nameCode decimalFrom decimal numberValue startFactor step finish run deeper position negated put acts judged readOf checkedOf orderOf referenceCount sizesFit frameKind
+jitter-read = refl
+
+-- events display; notes t; t(display[i+100]) - t(display[i]) <= 1001
+throughput-read : readOf (101 ∷ 118 ∷ 101 ∷ 110 ∷ 116 ∷ 115 ∷ 32 ∷ 100 ∷ 105 ∷ 115 ∷ 112 ∷ 108 ∷ 97 ∷ 121 ∷ 59 ∷ 32 ∷ 110 ∷ 111 ∷ 116 ∷ 101 ∷ 115 ∷ 32 ∷ 116 ∷ 59 ∷ 32 ∷ 116 ∷ 40 ∷ 100 ∷ 105 ∷ 115 ∷ 112 ∷ 108 ∷ 97 ∷ 121 ∷ 91 ∷ 105 ∷ 43 ∷ 49 ∷ 48 ∷ 48 ∷ 93 ∷ 41 ∷ 32 ∷ 45 ∷ 32 ∷ 116 ∷ 40 ∷ 100 ∷ 105 ∷ 115 ∷ 112 ∷ 108 ∷ 97 ∷ 121 ∷ 91 ∷ 105 ∷ 93 ∷ 41 ∷ 32 ∷ 60 ∷ 61 ∷ 32 ∷ 49 ∷ 48 ∷ 48 ∷ 49 ∷ []) zeros .0 ≡ reading.Frames 5
+unfolding classOf span same wordKind markOf markWidth tokenKind widthOf tokenHere tokenAt tokensIn tokensFrom code nameCode decimalFrom decimal numberValue startFactor step finish run deeper position negated put acts judged readOf checkedOf orderOf referenceCount sizesFit frameKind
+throughput-read = refl
+
+-- events display; notes t; t(display[i+1000]) - t(display[i]) > 9999
+burstiness-read : readOf (101 ∷ 118 ∷ 101 ∷ 110 ∷ 116 ∷ 115 ∷ 32 ∷ 100 ∷ 105 ∷ 115 ∷ 112 ∷ 108 ∷ 97 ∷ 121 ∷ 59 ∷ 32 ∷ 110 ∷ 111 ∷ 116 ∷ 101 ∷ 115 ∷ 32 ∷ 116 ∷ 59 ∷ 32 ∷ 116 ∷ 40 ∷ 100 ∷ 105 ∷ 115 ∷ 112 ∷ 108 ∷ 97 ∷ 121 ∷ 91 ∷ 105 ∷ 43 ∷ 49 ∷ 48 ∷ 48 ∷ 48 ∷ 93 ∷ 41 ∷ 32 ∷ 45 ∷ 32 ∷ 116 ∷ 40 ∷ 100 ∷ 105 ∷ 115 ∷ 112 ∷ 108 ∷ 97 ∷ 121 ∷ 91 ∷ 105 ∷ 93 ∷ 41 ∷ 32 ∷ 62 ∷ 32 ∷ 57 ∷ 57 ∷ 57 ∷ 57 ∷ []) zeros .0 ≡ reading.Frames 5
+unfolding classOf span same wordKind markOf markWidth tokenKind widthOf tokenHere tokenAt tokensIn tokensFrom code nameCode decimalFrom decimal numberValue startFactor step finish run deeper position negated put acts judged readOf checkedOf orderOf referenceCount sizesFit frameKind
+burstiness-read = refl
+
 -- 3: no sum begins with <
 -- events a; notes t; t(a[i]) < <
 refused-3 : readOf (101 ∷ 118 ∷ 101 ∷ 110 ∷ 116 ∷ 115 ∷ 32 ∷ 97 ∷ 59 ∷ 32 ∷ 110 ∷ 111 ∷ 116 ∷ 101 ∷ 115 ∷ 32 ∷ 116 ∷ 59 ∷ 32 ∷ 116 ∷ 40 ∷ 97 ∷ 91 ∷ 105 ∷ 93 ∷ 41 ∷ 32 ∷ 60 ∷ 32 ∷ 60 ∷ []) zeros .0 ≡ refusedAs 3 29
