@@ -1,8 +1,10 @@
 -- From marks and notes to what a pull gives. Assumes nothing.
 use mathlib.Core.Path.{_≡_, ap, _∙_}
+use mathlib.Core.Bool.{true, false}
 use mathlib.Core.List.{List, map}
 use Prim.Native.Nat.{ℕ, _≤_}
 use native.Mathlib.Omega.{arith}
+use lib.Dec.{eqb, ltb}
 use lib.IntN.{ℤ}
 use lib.ListN.{length, getD}
 use Rattle.rule.specs.Frames.{frameCount, Bytes}
@@ -22,7 +24,8 @@ use Rattle.checker.specs.Limits.{windowWords, reportLeast}
 use Rattle.checker.specs.State.{stateFrames, ruleIn, refsIn}
 use Rattle.checker.specs.Good.{goodState}
 use Rattle.checker.specs.Report.{reportBytes}
-use Rattle.checker.specs.Pull.{offered, foundHere, pulledBy}
+use Rattle.checker.specs.Answer.{refused}
+use Rattle.checker.specs.Pull.{pullRead, offered, foundHere, notPulled, pulledBy, pullDef}
 use Rattle.checker.specs.Sights.{foundBy, Looked, Lookable, Fillable, headerOf, reportTo}
 use Rattle.checker.specs.Offer.{Countable, Offerable, offeredBy}
 use Rattle.checker.specs.declared.State.{State}
@@ -81,3 +84,23 @@ module _ (s : State) (fs : List ℕ) (n m : ℕ) (o : Offerable s fs n m) where
     offer-report b =
         report-is (foundHere s win) b offer-accepted marks notes (s .next .0) (l .shown)
         ∙ ap (λ (f : List ℕ). reportBytes (s .next .0) (map (foundHere s win) (references (treeOf f)))) (o .own)
+
+-- ---- a pull by its tests
+module _ (s : State) (win : List ℤ) (buffer : List ℕ) where
+  pub pull-12 : goodState s ≡ false → notPulled s buffer (refused 12 0) ≡ pullDef s win buffer
+  unfolding pullDef
+  pull-12 g = rw g
+
+  pub pull-13 : goodState s ≡ true → eqb (length win) (windowWords (s .width)) ≡ false → notPulled s buffer (refused 13 0) ≡ pullDef s win buffer
+  unfolding pullDef
+  pull-13 g l = rw (g, l)
+
+  pub pull-14 : goodState s ≡ true → eqb (length win) (windowWords (s .width)) ≡ true → ltb (length buffer) reportLeast ≡ true
+      → notPulled s buffer (refused 14 0) ≡ pullDef s win buffer
+  unfolding pullDef pullRead
+  pull-14 g l r = rw (g, l, r)
+
+  pub pull-offers : goodState s ≡ true → eqb (length win) (windowWords (s .width)) ≡ true → ltb (length buffer) reportLeast ≡ false
+      → offeredBy s win buffer ≡ pullDef s win buffer
+  unfolding pullDef pullRead
+  pull-offers g l r = rw (g, l, r)

@@ -10,6 +10,7 @@ mod words; // words.rt: the window's words
 
 pub use feeding::feed;
 pub use opening::open;
+pub use pulling::pull;
 use rule::Refusal;
 use verdict::Instance;
 

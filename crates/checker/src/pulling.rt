@@ -4,6 +4,8 @@ use crate::Pulled;
 use crate::State;
 use crate::Totals;
 use crate::found;
+use crate::good;
+use crate::opening;
 use crate::report;
 use rule::Refusal;
 use verdict::Instance;
@@ -13,7 +15,14 @@ ghost use mathlib.Core.Path.{_≡_};
 ghost use lib.ListN.{length};
 ghost use Rattle.checker.specs.Answer.{pullTold};
 ghost use Rattle.checker.specs.State.{counted, withPulled};
+ghost use Rattle.checker.specs.Pull.{pullDef};
 ghost use Rattle.checker.specs.Offer.{Countable, Offerable, offeredBy};
+
+// A frame has 8 bytes.
+const FRAME_BYTES: usize = 8;
+
+// A report buffer has at least 166 bytes.
+const REPORT_LEAST: usize = 166;
 
 fn refuse(s: State, number: u8) -> Pulled
     ensures { λ r. ⌜ r ≡ record { answer = PullAnswer.Refused (record { number = number; place = 0 }); state = s } ⌝ }
@@ -102,5 +111,26 @@ fn offer(s: State, frames: &[u8], window: &[i32], report: &mut [u8]) -> Pulled
             answer: PullAnswer::Unknown,
             state: move_on(s, Truth::Unknown),
         },
+    }
+}
+
+// Pulls the next verdict, for every state, every window and every report buffer.
+pub fn pull(state: State, window: &[i32], report: &mut [u8]) -> Pulled
+    ensures { λ r. ⌜ (pullTold (r .answer) ≡ pullDef state (now (window .entry)) (now (report .entry)) .answer) × ((r .state ≡ pullDef state (now (window .entry)) (now (report .entry)) .state) × (now (report .exit) ≡ pullDef state (now (window .entry)) (now (report .entry)) .report)) ⌝ }
+{
+    if good::good(state) {
+        if opening::window_fits(state.width, window.len()) {
+            if report.len() < REPORT_LEAST {
+                refuse(state, 14)
+            } else {
+                let n = state.len as usize * FRAME_BYTES;
+                let frames = state.frames;
+                offer(state, &frames[..n], window, report)
+            }
+        } else {
+            refuse(state, 13)
+        }
+    } else {
+        refuse(state, 12)
     }
 }
