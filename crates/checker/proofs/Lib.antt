@@ -17,3 +17,8 @@ pub mod CodeBase
 pub mod CodeRing
 pub mod CodeFeed
 pub mod Main
+pub mod PullBits
+pub mod PullFound
+pub mod PullReport
+pub mod PullGood
+pub mod PullOffer

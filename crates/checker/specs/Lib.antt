@@ -14,3 +14,5 @@ pub mod Machine
 pub mod Within
 pub mod Lows
 pub mod Demand
+pub mod Sights
+pub mod Offer

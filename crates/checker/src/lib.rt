@@ -1,12 +1,16 @@
 // Opening, feeding and pulling over a state by value and a lent window.
 mod base; // base.rt: the base of each event
 mod feeding; // feeding.rt: 12, 13, 15, ignored, 16, 17
+mod found; // found.rt: marks and notes of references
 mod good; // good.rt: 12
 mod opening; // opening.rt: 9, 10, 7, 8, 11; a fresh checker
+mod pulling; // pulling.rt: 12, 13, 14, the next verdict or waiting
+mod report; // report.rt: the report of a false verdict
 mod words; // words.rt: the window's words
 
 pub use feeding::feed;
 pub use opening::open;
+pub use pulling::pull;
 use rule::Refusal;
 use verdict::Instance;
 

@@ -1,0 +1,37 @@
+use mathlib.Core.Path.{_≡_, refl, sym, ap, _∙_}
+use mathlib.Core.List.{List}
+use Prim.Native.Nat.{ℕ}
+use lib.ListN.{set}
+use native.Mathlib.Omega.{arith}
+use borrow.Author.Needs.{needs}
+use Rattle.checker.proofs.report.put_header.Statement.{statement}
+use Rattle.checker.proofs.report.put_header.Tie as tie
+use Rattle.checker.proofs.report.put_header.Reads as reads
+use Rattle.checker.proofs.report.put_header.Lts as lts
+use Rattle.checker.proofs.report.put_word.Reads as put-word-reads
+
+-- src/report.rt:58:5
+put-word-requires : tie.Need-put-word-requires
+put-word-requires c κs = search needs
+
+-- src/report.rt:59:5
+slice-write-report : tie.Need-slice-write-report
+slice-write-report c = search needs
+
+-- src/report.rt:60:5
+slice-write-report-2 : tie.Need-slice-write-report-2
+slice-write-report-2 c = search needs
+
+-- src/report.rt:54:1
+same-length : tie.Need-same-length
+same-length c = search needs
+
+-- src/report.rt:54:1
+returns : tie.Need-returns
+returns c = ap (λ (l : List ℕ). set (set l 4 0) 5 (c .before .before .before .before .before .args .count)) (c .before .before .put-word .ensures)
+
+
+pub put-header-spec : {M : Type 1} → statement M
+put-header-spec =
+    tie.close
+    (tie.spec put-word-requires slice-write-report slice-write-report-2 same-length returns)

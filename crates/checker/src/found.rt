@@ -1,0 +1,110 @@
+// What the counts and the window say of each reference of a rule.
+use crate::words;
+use rule::Frame;
+use verdict::Instance;
+use verdict::Meant;
+use verdict::Occurrence;
+ghost use mathlib.Core.Path.{_≡_};
+ghost use lib.IntN.{pos};
+ghost use lib.ListN.{length};
+ghost use Rattle.rule.specs.Tree.{LimitsR};
+ghost use Rattle.rule.specs.References.{referenceByte, referenceOf};
+ghost use Rattle.rule.specs.Check.{checkedOf};
+ghost use Rattle.rule.specs.declared.Checked.{Checked};
+ghost use Rattle.checker.specs.Limits.{windowWords};
+ghost use Rattle.checker.specs.Found.{windowAt};
+ghost use Rattle.checker.specs.Within.{InWindow};
+ghost use Rattle.checker.specs.Sights.{foundBy, Shows, Looked, Lookable, Limited};
+
+// A frame has 8 bytes.
+const FRAME_BYTES: usize = 8;
+
+// The document's marks of a reference.
+const PRESENT: u8 = 0;
+
+const PENDING: u8 = 1;
+
+const VOID: u8 = 2;
+
+// A mark, and the note's value, 0 unless present.
+pub struct Seen {
+    pub mark: u8,
+    pub note: i32,
+}
+
+// A mark and a value for each frame; those of other kinds do not count.
+pub struct Sights {
+    pub marks: [u8; 64],
+    pub notes: [i32; 64],
+}
+
+// A note of an occurrence: pending from the count on.
+fn at_occurrence(width: u32, window: &[i32], count: u32, event: u8, note: u8, k: Occurrence) -> Seen
+    requires { ⌜ InWindow width event note × (length (now window) ≡ windowWords width) ⌝ }
+    ensures { λ r. ⌜ Shows (windowAt width (now (window .entry)) count event note (pos (k .0))) (r .mark) (r .note) ⌝ }
+{
+    if k.0 < count {
+        let at = words::word(width, event, k, note);
+        Seen {
+            mark: PRESENT,
+            note: window[at],
+        }
+    } else {
+        Seen {
+            mark: PENDING,
+            note: 0,
+        }
+    }
+}
+
+// A reference of instance p.
+fn of_reference(x: Frame, p: Instance, width: u32, counts: [u32; 8], window: &[i32]) -> Seen
+    requires { ⌜ LimitsR (referenceOf x) × Lookable (p .0) width (length (now window)) ⌝ }
+    ensures { λ r. ⌜ Shows (foundBy width counts (now (window .entry)) (p .0) (referenceOf x)) (r .mark) (r .note) ⌝ }
+{
+    let e = x.event as usize;
+    let count = counts[e];
+    let meant = verdict::occurrence_of(p, x.factor, x.value);
+    match meant {
+        Meant::Void => Seen {
+            mark: VOID,
+            note: 0,
+        },
+        Meant::At(k) => at_occurrence(width, window, count, x.event, x.note, k),
+    }
+}
+
+// A frame of any kind.
+fn of_frame(x: Frame, p: Instance, width: u32, counts: [u32; 8], window: &[i32]) -> Seen
+    requires { ⌜ Limited x × Lookable (p .0) width (length (now window)) ⌝ }
+    ensures { λ r. ⌜ (x .kind ≡ referenceByte → Shows (foundBy width counts (now (window .entry)) (p .0) (referenceOf x)) (r .mark) (r .note)) ⌝ }
+{
+    if x.kind == 0x03 {
+        of_reference(x, p, width, counts, window)
+    } else {
+        Seen {
+            mark: PRESENT,
+            note: 0,
+        }
+    }
+}
+
+// Each reference of accepted frames at instance p.
+pub fn look(frames: &[u8], p: Instance, width: u32, counts: [u32; 8], window: &[i32]) -> Sights
+    requires { ⌜ (checkedOf (now frames) ≡ Checked.Accepted) × Lookable (p .0) width (length (now window)) ⌝ }
+    ensures { λ r. ⌜ Looked (now (frames .entry)) (foundBy width counts (now (window .entry)) (p .0)) (r .marks) (r .notes) ⌝ }
+{
+    let n = frames.len() / FRAME_BYTES;
+    let mut marks = [0u8; 64];
+    let mut notes = [0i32; 64];
+    let mut k = 0;
+    while k < n {
+        let x = rule::frame_at(frames, k);
+        let seen = of_frame(x, p, width, counts, window);
+        let note = seen.note;
+        marks[k] = seen.mark;
+        notes[k] = note;
+        k += 1;
+    }
+    Sights { marks, notes }
+}
