@@ -6,7 +6,7 @@ use Prim.Native.Nat.{ℕ, _≤_}
 use native.Mathlib.Omega.{arith}
 use lib.Dec.{eqb, ltb}
 use lib.IntN.{ℤ}
-use lib.ListN.{length, getD}
+use lib.ListN.{length}
 use Rattle.rule.specs.Frames.{frameCount, Bytes}
 use Rattle.rule.specs.Tree.{references}
 use Rattle.rule.specs.Build.{treeOf}
@@ -14,14 +14,13 @@ use Rattle.rule.specs.References.{referenceCount}
 use Rattle.rule.specs.Check.{checkedOf}
 use Rattle.rule.specs.declared.Checked.the-variants.{Accepted}
 use Rattle.rule.proofs.Facts.{passed}
-use Rattle.verdict.specs.Found.{instanceLimit}
 use Rattle.verdict.specs.Settled.{judgement}
 use Rattle.verdict.specs.Marks.{Judgeable}
 use Rattle.verdict.specs.Pass.{judgementOf}
 use Rattle.verdict.specs.declared.Judgement.{Judgement}
 use Rattle.verdict.proofs.Main.{judge-accepted}
 use Rattle.checker.specs.Limits.{windowWords, reportLeast}
-use Rattle.checker.specs.State.{stateFrames, ruleIn, refsIn}
+use Rattle.checker.specs.State.{ruleIn, refsIn}
 use Rattle.checker.specs.Good.{goodState}
 use Rattle.checker.specs.Report.{reportBytes}
 use Rattle.checker.specs.Answer.{refused}

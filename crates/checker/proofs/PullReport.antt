@@ -32,7 +32,7 @@ next-at out vs r0 h =
     let l : length out + length vs ≤ length (out ++ drop (length out) r0) = simp (length-append, length-drop) (omega arith) in
     let a : take (length out) (out ++ drop (length out) r0) ≡ out = take-append-seam out (drop (length out) r0) in
     let b : drop (length out + length vs) (out ++ drop (length out) r0) ≡ drop (length out + length vs) r0 =
-        drop-append-add out (drop (length out) r0) (length vs) ∙ drop-drop (length vs) (length out) r0 in
+    drop-append-add out (drop (length out) r0) (length vs) ∙ drop-drop (length vs) (length out) r0 in
     rw (sets-eq vs (out ++ drop (length out) r0) (length out) l, a, b, length-append out vs)
 
 pub put-next : (out vs r0 r : List ℕ) (at : ℕ) → r ≡ written out r0 → at ≡ length out → at + length vs ≤ length r0 → sets r at vs ≡ written (out ++ vs) r0
@@ -92,8 +92,10 @@ module _ (s marks : List ℕ) (notes : List ℤ) (out : List ℕ) where
     where
       new : List ℕ
       new = entryOf (getD marks k 0) (getD notes k (pos 0))
+
       old : List ℕ
       old = reportTo s marks notes out k
+
       go : (t : Bool) → eqb (frameAt s k .kind) referenceByte ≡ t → r′ ≡ cond t (sets r at new) r → at′ ≡ cond t (at + 5) at
           → (r′ ≡ written (cond t (old ++ new) old) r0) × (at′ ≡ length (cond t (old ++ new) old))
       go true d x y =
@@ -113,8 +115,10 @@ module _ (found : Reference → Found) where
     where
       old : List ℕ
       old = reportTo s marks notes out k
+
       old′ : List ℕ
       old′ = referencesTo adds s out k
+
       go : (t : Bool) → eqb (frameAt s k .kind) referenceByte ≡ t → old ≡ old′
           → cond t (old ++ entryOf (getD marks k 0) (getD notes k (pos 0))) old ≡ cond t (adds (referenceOf (frameAt s k)) old′) old′
       go true d i =
@@ -199,6 +203,6 @@ module _ (s marks : List ℕ) (notes : List ℤ) (few : referenceCount s ≤ 32)
       let o : r0 ≡ written out first = q ∙ put-first out first (omega arith) in
       let t : take 6 r0 ≡ out = ap (take 6) o ∙ take-at out (drop (length out) first) 6 six in
       let b : r ≡ written (reportTo s marks notes out (frameCount s)) r0 =
-          w .bytes ∙ ap (λ (x : List ℕ). written (reportTo s marks notes x k) r0) t ∙ ap (λ (n : ℕ). written (reportTo s marks notes out n) r0) e in
+      w .bytes ∙ ap (λ (x : List ℕ). written (reportTo s marks notes x k) r0) t ∙ ap (λ (n : ℕ). written (reportTo s marks notes out n) r0) e in
       let l : length out ≤ length (reportTo s marks notes out (frameCount s)) = omega (arith, report-length s marks notes out (frameCount s)) in
       b ∙ ap (written (reportTo s marks notes out (frameCount s))) o ∙ written-over (reportTo s marks notes out (frameCount s)) out first l

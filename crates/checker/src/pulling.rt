@@ -28,10 +28,7 @@ fn refuse(s: State, number: u8) -> Pulled
     ensures { λ r. ⌜ r ≡ record { answer = PullAnswer.Refused (record { number = number; place = 0 }); state = s } ⌝ }
 {
     Pulled {
-        answer: PullAnswer::Refused(Refusal {
-            number,
-            place: 0,
-        }),
+        answer: PullAnswer::Refused(Refusal { number, place: 0 }),
         state: s,
     }
 }

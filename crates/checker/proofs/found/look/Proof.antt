@@ -11,8 +11,6 @@ use Rattle.checker.specs.Sights.{foundBy}
 use Rattle.checker.proofs.PullFound.{LookedTo, few-frames, limited, looked-next, looked-last}
 use Rattle.checker.proofs.found.look.Statement.{statement}
 use Rattle.checker.proofs.found.look.Tie as tie
-use Rattle.checker.proofs.found.look.Reads as reads
-use Rattle.checker.proofs.found.look.Lts as lts
 
 abbrev Inv-loop : tie.InvT-loop
 Inv-loop frames p width counts window n marks₀ notes₀ k₀ marks notes k = (k ≤ n) × LookedTo frames (foundBy width counts window (p .0)) marks notes k
@@ -45,7 +43,7 @@ loop-less : tie.Need-loop-less Inv-loop μ-loop
 loop-less c = omega arith
 
 loop-again : tie.Need-loop-again Inv-loop μ-loop
-loop-again c = 
+loop-again c =
     let z = c .before .of-frame .result .note in
     let q : toZ w32 (ofZ w32 z) ≡ z = toZ-ofZ {w = w32} (search needs) in
     (omega arith, rw q (looked-next (c .before .before .before .before .before .before .args .frames .now) (foundBy (c .before .before .before .before .before .before .args .width) (c .before .before .before .before .before .before .args .counts) (c .before .before .before .before .before .before .args .window .now) (c .before .before .before .before .before .before .args .p .0)) (c .before .before .before .before .loop .marks) (c .before .before .before .before .loop .notes) (c .before .before .before .before .loop .k) (c .before .before .before .before .loop .inv .1) (omega (arith, few-frames (c .before .before .before .before .before .before .args .frames .now) (c .before .before .before .before .before .before .pre .0))) (c .before .before .frame-at .result) (c .before .before .frame-at .ensures) (c .before .of-frame .result .mark) z (c .before .of-frame .ensures)))

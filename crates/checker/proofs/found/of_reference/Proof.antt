@@ -3,7 +3,7 @@ use mir.Syntax.{w32}
 use mir.Val.{SFits}
 use mir.ValLaws.{toZ-ofZ}
 use Rattle.numbers.proofs.Ints.{mag-natAbs}
-use mathlib.Core.Path.{_≡_, refl, sym, ap, _∙_}
+use mathlib.Core.Path.{sym, ap, _∙_}
 use lib.ListN.{getD}
 use Rattle.verdict.specs.Found.{occurrence, meantBy}
 use Rattle.checker.proofs.PullFound.{void-shows, at-shows}
@@ -11,10 +11,6 @@ use borrow.Author.Needs.{needs}
 use native.Mathlib.Omega.{arith}
 use Rattle.checker.proofs.found.of_reference.Statement.{statement}
 use Rattle.checker.proofs.found.of_reference.Tie as tie
-use Rattle.checker.proofs.found.of_reference.Reads as reads
-use Rattle.checker.proofs.found.of_reference.Lts as lts
-use Rattle.checker.proofs.found.at_occurrence.Reads as at-occurrence-reads
-use Rattle.verdict.proofs.occurrence_of.Reads as occurrence-of-reads
 
 -- src/found.rt:66:13
 cast-e : tie.Need-cast-e
@@ -52,7 +48,6 @@ returns c =
     let q = ap (λ (z : ℤ). meantBy (occurrence (a .x .factor) z (a .p .0))) (toZ-ofZ w32 (a .x .value) f) in
     void-shows (c .before .before .before .before .before .args .width) (c .before .before .before .before .before .args .window .now) (getD (c .before .before .before .before .before .args .t4) (c .before .before .before .before .before .args .x .event) 0) (c .before .before .before .before .before .args .x .event) (c .before .before .before .before .before .args .x .note) (occurrence (c .before .before .before .before .before .args .x .factor) (c .before .before .before .before .before .args .x .value) (c .before .before .before .before .before .args .p .0)) (sym (c .enum-told .given .1) ∙ c .before .before .occurrence-of .ensures ∙ q)
 
-
 -- src/found.rt:62:1
 returns-2 : tie.Need-returns-2
 returns-2 c =
@@ -60,7 +55,6 @@ returns-2 c =
     let f : SFits w32 (a .x .value) = record { sfits = omega (arith, mag-natAbs (a .x .value), c .before .before .before .before .before .before .before .pre .0 .offset) } in
     let q = ap (λ (z : ℤ). meantBy (occurrence (a .x .factor) z (a .p .0))) (toZ-ofZ w32 (a .x .value) f) in
     at-shows (c .before .before .before .before .before .before .before .args .width) (c .before .before .before .before .before .before .before .args .window .now) (getD (c .before .before .before .before .before .before .before .args .t4) (c .before .before .before .before .before .before .before .args .x .event) 0) (c .before .before .before .before .before .before .before .args .x .event) (c .before .before .before .before .before .before .before .args .x .note) (occurrence (c .before .before .before .before .before .before .before .args .x .factor) (c .before .before .before .before .before .before .before .args .x .value) (c .before .before .before .before .before .before .before .args .p .0)) _ _ _ (sym (c .before .before .meant .given .1) ∙ c .before .before .before .before .occurrence-of .ensures ∙ q) (c .at-occurrence .ensures)
-
 
 pub of-reference-spec : {M : Type 1} → statement M
 of-reference-spec =

@@ -1,12 +1,6 @@
-
-
-use mathlib.Core.Path.{_≡_, refl, sym, ap, _∙_}
-use native.Mathlib.Omega.{arith}
 use borrow.Author.Needs.{needs}
 use Rattle.checker.proofs.pulling.count_verdict.Statement.{statement}
 use Rattle.checker.proofs.pulling.count_verdict.Tie as tie
-use Rattle.checker.proofs.pulling.count_verdict.Reads as reads
-use Rattle.checker.proofs.pulling.count_verdict.Lts as lts
 
 -- src/pull.rt:37:19
 enum-told : tie.Need-enum-told
@@ -36,16 +30,13 @@ add-t7 c = search needs
 returns : tie.Need-returns
 returns c = rw (c .before .enum-told .given .1)
 
-
 -- src/pull.rt:31:1
 returns-2 : tie.Need-returns-2
 returns-2 c = rw (c .before .enum-told2 .given .1)
 
-
 -- src/pull.rt:31:1
 returns-3 : tie.Need-returns-3
 returns-3 c = rw (c .before .enum-told3 .given .1)
-
 
 pub count-verdict-spec : {M : Type 1} → statement M
 count-verdict-spec =

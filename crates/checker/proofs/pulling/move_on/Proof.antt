@@ -1,12 +1,7 @@
-use mathlib.Core.Path.{_≡_, refl, sym, ap, _∙_}
 use Rattle.checker.specs.State.{withPulled}
-use native.Mathlib.Omega.{arith}
 use borrow.Author.Needs.{needs}
 use Rattle.checker.proofs.pulling.move_on.Statement.{statement}
 use Rattle.checker.proofs.pulling.move_on.Tie as tie
-use Rattle.checker.proofs.pulling.move_on.Reads as reads
-use Rattle.checker.proofs.pulling.move_on.Lts as lts
-use Rattle.checker.proofs.pulling.count_verdict.Reads as count-verdict-reads
 
 -- src/pull.rt:61:9
 count-verdict-requires : tie.Need-count-verdict-requires
@@ -20,7 +15,6 @@ add-t8 c = search needs
 returns : tie.Need-returns
 unfolding withPulled
 returns c = rw (c .before .before .before .count-verdict .ensures)
-
 
 pub move-on-spec : {M : Type 1} → statement M
 move-on-spec = tie.close (tie.spec count-verdict-requires add-t8 returns)

@@ -6,7 +6,6 @@ use borrow.Author.Needs.{needs}
 use borrow.Author.Tests.{eqb-true, lt-ltb, le-ltb}
 use lib.Dec.{eqb}
 use lib.ListN.{length, length-take}
-use lib.Seq.{length-take-le}
 use Rattle.checker.specs.Limits.{windowWords}
 use Rattle.checker.specs.Answer.{pullTold, refused}
 use Rattle.checker.specs.Good.{goodState}
@@ -39,7 +38,7 @@ slice-aggregate-offer : tie.Need-slice-aggregate-offer
 slice-aggregate-offer c = let h : length (c .before .before .before .before .before .before .before .before .before .args .state .frames) ≡ 512 = search needs in simp length-take (omega (arith, h, good-facts (c .before .before .before .before .before .before .before .before .before .args .state) (sym (c .before .before .before .before .before .before .before .good2 .ensures) ∙ c .before .before .before .before .before .before .if1 .taken) .few))
 
 offer-requires : tie.Need-offer-requires
-offer-requires c κs = 
+offer-requires c κs =
     let g : goodState (c .before .before .before .before .before .before .before .before .before .before .args .state) ≡ true = sym (c .before .before .before .before .before .before .before .before .good2 .ensures) ∙ c .before .before .before .before .before .before .before .if1 .taken in
     let l : eqb (length (c .before .before .before .before .before .before .before .before .before .before .args .window .now)) (windowWords (c .before .before .before .before .before .before .before .before .before .before .args .state .width)) ≡ true = sym (c .before .before .before .before .before .before .window-fits .ensures) ∙ c .before .before .before .before .before .if2 .taken in
     record { good = g; own = refl; words = eqb-true (length (c .before .before .before .before .before .before .before .before .before .before .args .window .now)) (windowWords (c .before .before .before .before .before .before .before .before .before .before .args .state .width)) l; room = c .before .before .before .before .if3 .left }
@@ -51,7 +50,7 @@ refuse-requires-3 : tie.Need-refuse-requires-3
 refuse-requires-3 c κs = search needs
 
 returns : tie.Need-returns
-returns c = 
+returns c =
     let g : goodState (c .before .before .before .before .before .before .before .args .state) ≡ true = sym (c .before .before .before .before .before .good2 .ensures) ∙ c .before .before .before .before .if1 .taken in
     let l : eqb (length (c .before .before .before .before .before .before .before .args .window .now)) (windowWords (c .before .before .before .before .before .before .before .args .state .width)) ≡ true = sym (c .before .before .before .window-fits .ensures) ∙ c .before .before .if2 .taken in
     let e : notPulled (c .before .before .before .before .before .before .before .args .state) (c .before .before .before .before .before .before .before .args .report .now) (refused 14 0) ≡ pullDef (c .before .before .before .before .before .before .before .args .state) (c .before .before .before .before .before .before .before .args .window .now) (c .before .before .before .before .before .before .before .args .report .now) = pull-14 (c .before .before .before .before .before .before .before .args .state) (c .before .before .before .before .before .before .before .args .window .now) (c .before .before .before .before .before .before .before .args .report .now) g l (lt-ltb (length (c .before .before .before .before .before .before .before .args .report .now)) 166 (c .before .if3 .taken)) in
@@ -61,21 +60,21 @@ same-length : tie.Need-same-length
 same-length c = search needs
 
 returns-2 : tie.Need-returns-2
-returns-2 c = 
+returns-2 c =
     let g : goodState (c .before .before .before .before .before .before .before .before .before .before .before .before .before .args .state) ≡ true = sym (c .before .before .before .before .before .before .before .before .before .before .before .good2 .ensures) ∙ c .before .before .before .before .before .before .before .before .before .before .if1 .taken in
     let l : eqb (length (c .before .before .before .before .before .before .before .before .before .before .before .before .before .args .window .now)) (windowWords (c .before .before .before .before .before .before .before .before .before .before .before .before .before .args .state .width)) ≡ true = sym (c .before .before .before .before .before .before .before .before .before .window-fits .ensures) ∙ c .before .before .before .before .before .before .before .before .if2 .taken in
     let e = pull-offers (c .before .before .before .before .before .before .before .before .before .before .before .before .before .args .state) (c .before .before .before .before .before .before .before .before .before .before .before .before .before .args .window .now) (c .before .before .before .before .before .before .before .before .before .before .before .before .before .args .report .now) g l (le-ltb (length (c .before .before .before .before .before .before .before .before .before .before .before .before .before .args .report .now)) 166 (c .before .before .before .before .before .before .before .if3 .left)) in
     (c .before .before .offer .ensures .0 ∙ ap (λ (x : PullResult). x .answer) e, (c .before .before .offer .ensures .1 .0 ∙ ap (λ (x : PullResult). x .state) e, c .before .before .offer .ensures .1 .1 ∙ ap (λ (x : PullResult). x .report) e))
 
 returns-3 : tie.Need-returns-3
-returns-3 c = 
+returns-3 c =
     let g : goodState (c .before .before .before .before .before .before .args .state) ≡ true = sym (c .before .before .before .before .good2 .ensures) ∙ c .before .before .before .if1 .taken in
     let l : eqb (length (c .before .before .before .before .before .before .args .window .now)) (windowWords (c .before .before .before .before .before .before .args .state .width)) ≡ false = sym (c .before .before .window-fits .ensures) ∙ c .before .if2 .left in
     let e : notPulled (c .before .before .before .before .before .before .args .state) (c .before .before .before .before .before .before .args .report .now) (refused 13 0) ≡ pullDef (c .before .before .before .before .before .before .args .state) (c .before .before .before .before .before .before .args .window .now) (c .before .before .before .before .before .before .args .report .now) = pull-13 (c .before .before .before .before .before .before .args .state) (c .before .before .before .before .before .before .args .window .now) (c .before .before .before .before .before .before .args .report .now) g l in
     (ap (λ (x : Pulled). pullTold (x .answer)) (c .refuse2 .ensures) ∙ ap (λ (x : PullResult). x .answer) e, (ap (λ (x : Pulled). x .state) (c .refuse2 .ensures) ∙ ap (λ (x : PullResult). x .state) e, ap (λ (x : PullResult). x .report) e))
 
 returns-4 : tie.Need-returns-4
-returns-4 c = 
+returns-4 c =
     let g : goodState (c .before .before .before .before .args .state) ≡ false = sym (c .before .before .good2 .ensures) ∙ c .before .if1 .left in
     let e : notPulled (c .before .before .before .before .args .state) (c .before .before .before .before .args .report .now) (refused 12 0) ≡ pullDef (c .before .before .before .before .args .state) (c .before .before .before .before .args .window .now) (c .before .before .before .before .args .report .now) = pull-12 (c .before .before .before .before .args .state) (c .before .before .before .before .args .window .now) (c .before .before .before .before .args .report .now) g in
     (ap (λ (x : Pulled). pullTold (x .answer)) (c .refuse3 .ensures) ∙ ap (λ (x : PullResult). x .answer) e, (ap (λ (x : Pulled). x .state) (c .refuse3 .ensures) ∙ ap (λ (x : PullResult). x .state) e, ap (λ (x : PullResult). x .report) e))

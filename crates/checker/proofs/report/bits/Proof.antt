@@ -1,7 +1,7 @@
-use mathlib.Core.Path.{_≡_, refl, sym, ap, _∙_}
+use mathlib.Core.Path.{_≡_, ap, _∙_}
 use Prim.Native.Nat.{_^_, _<_}
-use mathlib.Core.Bool.{true, false}
-use lib.IntN.{ℤ, pos, negsuc, natAbs, _-ℤ_}
+use mathlib.Core.Bool.{true}
+use lib.IntN.{ℤ, pos, negsuc, _-ℤ_}
 use lib.Signed.{mag, ltZ}
 use mir.Syntax.{w32}
 use mir.Val.{toZ, ofZ}
@@ -9,12 +9,9 @@ use mir.Facts.{toZ-pos}
 use mir.ValLaws.{toZ-ofZ}
 use Rattle.numbers.proofs.Ints.{is-not-negative, natAbs-mag}
 use Rattle.checker.proofs.PullBits.{below, bits-below, bits-from}
-use borrow.Author.Needs.{needs}
 use native.Mathlib.Omega.{arith}
 use Rattle.checker.proofs.report.bits.Statement.{statement}
 use Rattle.checker.proofs.report.bits.Tie as tie
-use Rattle.checker.proofs.report.bits.Reads as reads
-use Rattle.checker.proofs.report.bits.Lts as lts
 
 same : (s : tie.Start) → toZ w32 (ofZ w32 (s .args .z)) ≡ s .args .z
 same s = toZ-ofZ w32 (s .args .z) (s .fits .z)
@@ -29,31 +26,25 @@ neg s e = ap (λ (x : ℤ). negsuc 0 -ℤ x) (same s) ∙ below (s .args .z) (rw
 sub-k : tie.Need-sub-k
 sub-k c = rw (neg (c .before) (c .if1 .taken)) (record { sfits = omega (arith, c .before .fits .z .sfits) })
 
-
 -- src/report.rt:36:23
 cast-result : tie.Need-cast-result
 cast-result c = rw (neg (c .before) (c .if1 .taken), toZ-pos w32 {n = mag (c .before .args .z)} (small (c .before))) (tt, record { fits = omega (arith, small (c .before)) })
-
 
 -- src/report.rt:36:9
 sub-result : tie.Need-sub-result
 sub-result c = rw (neg (c .before) (c .if1 .taken), toZ-pos w32 {n = mag (c .before .args .z)} (small (c .before))) (omega (arith, small (c .before)))
 
-
 -- src/report.rt:38:9
 cast-result-2 : tie.Need-cast-result-2
 cast-result-2 c = rw (same (c .before)) (is-not-negative (c .before .args .z) (rw (same (c .before)) at (c .if1 .left)), record { fits = omega (arith, natAbs-mag (c .before .args .z), small (c .before)) })
-
 
 -- src/report.rt:31:1
 returns : tie.Need-returns
 returns c = rw (neg (c .before) (c .if1 .taken), toZ-pos w32 {n = mag (c .before .args .z)} (small (c .before))) (bits-below (c .before .args .z) (rw (same (c .before)) at (c .if1 .taken)) (small (c .before)))
 
-
 -- src/report.rt:31:1
 returns-2 : tie.Need-returns-2
 returns-2 c = rw (same (c .before)) (bits-from (c .before .args .z) (rw (same (c .before)) at (c .if1 .left)))
-
 
 pub bits-spec : {M : Type 1} → statement M
 bits-spec = tie.close (tie.spec sub-k cast-result sub-result cast-result-2 returns returns-2)

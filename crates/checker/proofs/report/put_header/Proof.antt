@@ -1,14 +1,10 @@
-use mathlib.Core.Path.{_≡_, refl, sym, ap, _∙_}
+use mathlib.Core.Path.{ap}
 use mathlib.Core.List.{List}
 use Prim.Native.Nat.{ℕ}
 use lib.ListN.{set}
-use native.Mathlib.Omega.{arith}
 use borrow.Author.Needs.{needs}
 use Rattle.checker.proofs.report.put_header.Statement.{statement}
 use Rattle.checker.proofs.report.put_header.Tie as tie
-use Rattle.checker.proofs.report.put_header.Reads as reads
-use Rattle.checker.proofs.report.put_header.Lts as lts
-use Rattle.checker.proofs.report.put_word.Reads as put-word-reads
 
 -- src/report.rt:58:5
 put-word-requires : tie.Need-put-word-requires
@@ -29,7 +25,6 @@ same-length c = search needs
 -- src/report.rt:54:1
 returns : tie.Need-returns
 returns c = ap (λ (l : List ℕ). set (set l 4 0) 5 (c .before .before .before .before .before .args .count)) (c .before .before .put-word .ensures)
-
 
 pub put-header-spec : {M : Type 1} → statement M
 put-header-spec =

@@ -1,12 +1,10 @@
-use mathlib.Core.Path.{_≡_, refl, sym, ap, _∙_}
+use mathlib.Core.Path.{_≡_}
 use lib.ListN.{length-set}
 use Prim.Native.Nat.{suc, _+_}
 use native.Mathlib.Omega.{arith}
 use borrow.Author.Needs.{needs}
 use Rattle.checker.proofs.report.put_word.Statement.{statement}
 use Rattle.checker.proofs.report.put_word.Tie as tie
-use Rattle.checker.proofs.report.put_word.Reads as reads
-use Rattle.checker.proofs.report.put_word.Lts as lts
 
 -- src/report.rt:47:18
 cast-report : tie.Need-cast-report
@@ -28,7 +26,6 @@ add-report c = search needs
 slice-write-report-2 : tie.Need-slice-write-report-2
 slice-write-report-2 c = simp length-set (omega (arith, c .pre))
 
-
 -- src/report.rt:49:22
 cast-report-3 : tie.Need-cast-report-3
 cast-report-3 c = search needs
@@ -40,7 +37,6 @@ add-report-2 c = search needs
 -- src/report.rt:49:5
 slice-write-report-3 : tie.Need-slice-write-report-3
 slice-write-report-3 c = simp length-set (omega (arith, c .pre))
-
 
 -- src/report.rt:50:22
 cast-report-4 : tie.Need-cast-report-4
@@ -54,19 +50,17 @@ add-report-3 c = search needs
 slice-write-report-4 : tie.Need-slice-write-report-4
 slice-write-report-4 c = simp length-set (omega (arith, c .pre))
 
-
 -- src/report.rt:43:1
 same-length : tie.Need-same-length
 same-length c = search needs
 
 -- src/report.rt:43:1
 returns : tie.Need-returns
-returns c = 
+returns c =
     let e1 : c .args .at + 1 ≡ suc (c .args .at) = omega arith in
     let e2 : c .args .at + 2 ≡ suc (suc (c .args .at)) = omega arith in
     let e3 : c .args .at + 3 ≡ suc (suc (suc (c .args .at))) = omega arith in
     rw (e1, e2, e3)
-
 
 pub put-word-spec : {M : Type 1} → statement M
 put-word-spec =
