@@ -10,6 +10,7 @@ pub use evaluate::judge;
 pub use places::occurrence_of;
 
 // An instance number, the document's term: which i.
+#[repr(C)]
 pub struct Instance(pub u32);
 
 // An occurrence number, the document's term: which line of one event.
