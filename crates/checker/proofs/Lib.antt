@@ -6,6 +6,7 @@ pub mod Fresh
 pub mod Lists
 pub mod Final
 pub mod Sums
+pub mod Value
 pub mod Agree
 pub mod Order
 pub mod Never
