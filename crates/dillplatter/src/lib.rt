@@ -37,12 +37,12 @@ pub extern "C" fn dillplatter_open(frames: &[u8], width: u32, window: &mut [i32]
     let opened = checker::open(frames, width, window);
     let state = opened.state;
     let a = opened.answer;
-    let t = told::opening(a);
+    let opening = told::opening(a);
     CallResult {
         state,
-        answer: t.answer,
-        number: t.number,
-        place: t.place,
+        answer: opening.answer,
+        number: opening.number,
+        place: opening.place,
     }
 }
 
@@ -54,12 +54,12 @@ pub extern "C" fn dillplatter_feed(state: State, window: &mut [i32], line: &[u8]
     let fed = checker::feed(state, window, line);
     let after = fed.state;
     let a = fed.answer;
-    let t = told::feeding(a);
+    let feeding = told::feeding(a);
     CallResult {
         state: after,
-        answer: t.answer,
-        number: t.number,
-        place: t.place,
+        answer: feeding.answer,
+        number: feeding.number,
+        place: feeding.place,
     }
 }
 
@@ -71,11 +71,11 @@ pub extern "C" fn dillplatter_pull(state: State, window: &[i32], report: &mut [u
     let pulled = checker::pull(state, window, report);
     let after = pulled.state;
     let a = pulled.answer;
-    let t = told::pulling(a);
+    let pulling = told::pulling(a);
     CallResult {
         state: after,
-        answer: t.answer,
-        number: t.number,
-        place: t.place,
+        answer: pulling.answer,
+        number: pulling.number,
+        place: pulling.place,
     }
 }
