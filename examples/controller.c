@@ -16,6 +16,7 @@ static const char *const notes[] = {"t"};
 
 /* All memory is the controller's own. */
 static uint8_t frames[DILLPLATTER_FRAME_BUFFER];
+static size_t frames_len;
 static int32_t window[DILLPLATTER_WINDOW_WORDS(WIDTH)];
 static uint8_t report[DILLPLATTER_REPORT_BYTES];
 static dillplatter_state state;
@@ -55,17 +56,34 @@ static void pull_all(void) {
     }
 }
 
-/* Feeds a line and pulls. */
+static void say_totals(void) {
+    printf("true %" PRIu32 ", false %" PRIu32 ", unknown %" PRIu32 "; next instance %" PRIu32 "\n", state.totals.held,
+           state.totals.failed, state.totals.unknown, state.next);
+}
+
+/* Opens a fresh checker for the rule that was read. */
+static int begin(void) {
+    dillplatter_told told = dillplatter_open_at(&state, frames, frames_len, WIDTH, window, DILLPLATTER_WINDOW_WORDS(WIDTH));
+    if (told.answer != DILLPLATTER_OPENED) {
+        printf("opening refused with %" PRIu32 " at %" PRIu32 "\n", told.number, told.place);
+        return 0;
+    }
+    pull_all();
+    return 1;
+}
+
+/* Feeds a line and pulls. A line that is refused is not counted, and the next one of its event would take its number: so where
+ * the window is full this controller says so and begins anew, rather than drop the line and go on. */
 static void take(const uint8_t *line, size_t len) {
     dillplatter_told told = dillplatter_feed_at(&state, window, DILLPLATTER_WINDOW_WORDS(WIDTH), line, len);
-    switch (told.answer) {
-    case DILLPLATTER_ACCEPTED: pull_all(); break;
-    case DILLPLATTER_IGNORED: break;
-    default:
-        if (told.number == DILLPLATTER_WINDOW_FULL)
-            printf("window full: a line is lost; is the other event's source alive, or is the width too small?\n");
-        else
-            printf("line refused with %" PRIu32 " at %" PRIu32 "\n", told.number, told.place);
+    if (told.answer == DILLPLATTER_ACCEPTED) {
+        pull_all();
+    } else if (told.number == DILLPLATTER_WINDOW_FULL) {
+        printf("window full: %s %" PRIu32 ", %s %" PRIu32 "; beginning anew\n", events[0], state.counts[0], events[1], state.counts[1]);
+        say_totals();
+        begin();
+    } else if (told.answer == DILLPLATTER_REFUSED) {
+        printf("line refused with %" PRIu32 " at %" PRIu32 "\n", told.number, told.place);
     }
 }
 
@@ -83,27 +101,16 @@ static void happened_often(int n, uint8_t event, int32_t time, int32_t apart) {
         happened(event, time + k * apart);
 }
 
-/* Reads the rule and opens the checker. */
-static int begin(void) {
+int main(void) {
     dillplatter_reading reading = dillplatter_read((const uint8_t *)rule, strlen(rule), frames, sizeof frames);
     if (reading.answer != DILLPLATTER_READ) {
         printf("rule refused with %" PRIu32 " at %" PRIu32 "\n", reading.number, reading.place);
-        return 0;
+        return 1;
     }
     printf("rule read, %" PRIu32 " frames\n", reading.frames);
-    dillplatter_told opened = dillplatter_open_at(&state, frames, DILLPLATTER_FRAME_BYTES * reading.frames, WIDTH, window,
-                                                  DILLPLATTER_WINDOW_WORDS(WIDTH));
-    if (opened.answer != DILLPLATTER_OPENED) {
-        printf("opening refused with %" PRIu32 " at %" PRIu32 "\n", opened.number, opened.place);
-        return 0;
-    }
-    return 1;
-}
-
-int main(void) {
+    frames_len = DILLPLATTER_FRAME_BYTES * (size_t)reading.frames;
     if (!begin())
         return 1;
-    pull_all();
     happened(0, 10);
     happened(1, 35); /* 25 units: true */
     happened(0, 50);
@@ -111,10 +118,10 @@ int main(void) {
     happened(7, 95); /* an event that the rule does not reference: ignored */
     take((const uint8_t *)"00 bad line", 11);
     happened(0, INT32_MIN);
-    happened(1, INT32_MAX);        /* arithmetic is exact: false */
-    happened_often(5, 0, 100, 1);  /* the fifth down without an up finds the window full */
-    happened_often(4, 1, 100, 10); /* the last of these is 27 units after its down: false */
-    printf("true %" PRIu32 ", false %" PRIu32 ", unknown %" PRIu32 "; next instance %" PRIu32 "\n", state.totals.held,
-           state.totals.failed, state.totals.unknown, state.next);
+    happened(1, INT32_MAX);       /* arithmetic is exact: false */
+    happened_often(5, 0, 100, 1); /* the fifth down with no up finds the window full */
+    happened_often(4, 0, 200, 1);
+    happened_often(4, 1, 200, 10); /* the last of these is 27 units after its down: false */
+    say_totals();
     return 0;
 }
