@@ -52,11 +52,11 @@ pub extern "C" fn dillplatter_feed(state: State, window: &mut [i32], line: &[u8]
     ensures { λ r. ⌜ (r .answer ≡ answerOf (checked (feedDef state (now (window .entry)) (now (line .entry)) .answer))) × ((r .number ≡ numberOf (checked (feedDef state (now (window .entry)) (now (line .entry)) .answer))) × ((r .place ≡ placeOf (checked (feedDef state (now (window .entry)) (now (line .entry)) .answer))) × ((r .state ≡ feedDef state (now (window .entry)) (now (line .entry)) .state) × (now (window .exit) ≡ feedDef state (now (window .entry)) (now (line .entry)) .words)))) ⌝ }
 {
     let fed = checker::feed(state, window, line);
-    let after = fed.state;
+    let after_feed = fed.state;
     let a = fed.answer;
     let feeding = told::feeding(a);
     CallResult {
-        state: after,
+        state: after_feed,
         answer: feeding.answer,
         number: feeding.number,
         place: feeding.place,
@@ -69,11 +69,11 @@ pub extern "C" fn dillplatter_pull(state: State, window: &[i32], report: &mut [u
     ensures { λ r. ⌜ (r .answer ≡ answerOf (checked (pullDef state (now (window .entry)) (now (report .entry)) .answer))) × ((r .number ≡ numberOf (checked (pullDef state (now (window .entry)) (now (report .entry)) .answer))) × ((r .place ≡ placeOf (checked (pullDef state (now (window .entry)) (now (report .entry)) .answer))) × ((r .state ≡ pullDef state (now (window .entry)) (now (report .entry)) .state) × (now (report .exit) ≡ pullDef state (now (window .entry)) (now (report .entry)) .report)))) ⌝ }
 {
     let pulled = checker::pull(state, window, report);
-    let after = pulled.state;
+    let after_pull = pulled.state;
     let a = pulled.answer;
     let pulling = told::pulling(a);
     CallResult {
-        state: after,
+        state: after_pull,
         answer: pulling.answer,
         number: pulling.number,
         place: pulling.place,
