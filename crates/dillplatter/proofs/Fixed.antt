@@ -1,0 +1,60 @@
+-- The numbers of an answer fix the answer: it can be got back from them. Assumes nothing.
+use mathlib.Core.Path.{_≡_, refl, sym, ap, _∙_}
+use Prim.Native.Nat.{ℕ, zero, suc}
+use Rattle.rule.specs.declared.Reading.{Reading}
+use Rattle.rule.specs.declared.Reading.the-variants.{Frames, Refused}
+use Rattle.verdict.specs.declared.Truth.the-variants.{True, False, Unknown}
+use Rattle.checker.specs.Answer.{Answer, opened, accepted, ignored, waiting, verdict, refused}
+use Rattle.dillplatter.specs.Told.{Told, read, checked, readTold, answerOf, numberOf, placeOf, framesOf}
+
+-- the answer with given numbers
+got : (answer number place frames : ℕ) → Told
+got zero n p f = checked (refused n p)
+got (suc zero) n p f = read f
+got (suc (suc zero)) n p f = checked opened
+got (suc (suc (suc zero))) n p f = checked accepted
+got (suc (suc (suc (suc zero)))) n p f = checked ignored
+got (suc (suc (suc (suc (suc zero))))) n p f = checked waiting
+got (suc (suc (suc (suc (suc (suc zero)))))) n p f = checked (verdict True)
+got (suc (suc (suc (suc (suc (suc (suc zero))))))) n p f = checked (verdict False)
+got (suc (suc (suc (suc (suc (suc (suc (suc k)))))))) n p f = checked (verdict Unknown)
+
+-- it is the one that has them
+got-back : (t : Told) → got (answerOf t) (numberOf t) (placeOf t) (framesOf t) ≡ t
+unfolding got
+got-back (read n) = refl
+got-back (checked opened) = refl
+got-back (checked accepted) = refl
+got-back (checked ignored) = refl
+got-back (checked waiting) = refl
+got-back (checked (verdict True)) = refl
+got-back (checked (verdict False)) = refl
+got-back (checked (verdict Unknown)) = refl
+got-back (checked (refused n p)) = refl
+
+pub told-fixed : (s t : Told) → answerOf s ≡ answerOf t → numberOf s ≡ numberOf t → placeOf s ≡ placeOf t → framesOf s ≡ framesOf t → s ≡ t
+told-fixed s t a n p f =
+    sym (got-back s)
+    ∙ (ap (λ x. got x (numberOf s) (placeOf s) (framesOf s)) a
+    ∙ (ap (λ x. got (answerOf t) x (placeOf s) (framesOf s)) n
+    ∙ (ap (λ x. got (answerOf t) (numberOf t) x (framesOf s)) p
+    ∙ (ap (λ x. got (answerOf t) (numberOf t) (placeOf t) x) f
+    ∙ got-back t))))
+
+-- the reading that is told so
+heard : Told → Reading
+heard (read n) = Frames n
+heard (checked opened) = Frames 0
+heard (checked accepted) = Frames 0
+heard (checked ignored) = Frames 0
+heard (checked waiting) = Frames 0
+heard (checked (verdict v)) = Frames 0
+heard (checked (refused n p)) = Refused (record { number = n; place = p })
+
+heard-back : (r : Reading) → heard (readTold r) ≡ r
+unfolding heard
+heard-back (Frames n) = refl
+heard-back (Refused r) = refl
+
+pub reading-fixed : (r s : Reading) → readTold r ≡ readTold s → r ≡ s
+reading-fixed r s e = sym (heard-back r) ∙ (ap heard e ∙ heard-back s)

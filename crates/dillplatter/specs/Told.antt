@@ -1,0 +1,55 @@
+-- The numbers that the library's calls answer with. From document 01, "What is turned down" and "Feeding, pulling and the window";
+-- the numbers of the answers are this library's own. Assumes nothing: definitions.
+use Prim.Native.Nat.{ℕ}
+use Rattle.rule.specs.declared.Reading.{Reading}
+use Rattle.rule.specs.declared.Reading.the-variants.{Frames, Refused}
+use Rattle.verdict.specs.declared.Truth.{Truth}
+use Rattle.verdict.specs.declared.Truth.the-variants.{True, False, Unknown}
+use Rattle.checker.specs.Answer.{Answer, opened, accepted, ignored, waiting, verdict, refused}
+
+-- an answer of any call: a text was read into so many frames, or an answer of the checker
+pub data Told : Type 0 where
+  read : (frames : ℕ) → Told
+  checked : Answer → Told
+
+-- what `read` answers, a refusal as the checker tells it
+abbrev pub readTold : Reading → Told
+readTold (Frames n) = read n
+readTold (Refused r) = checked (refused (r .number) (r .place))
+
+-- which answer
+abbrev pub answerOf : Told → ℕ
+answerOf (checked (refused number place)) = 0
+answerOf (read n) = 1
+answerOf (checked opened) = 2
+answerOf (checked accepted) = 3
+answerOf (checked ignored) = 4
+answerOf (checked waiting) = 5
+answerOf (checked (verdict True)) = 6
+answerOf (checked (verdict False)) = 7
+answerOf (checked (verdict Unknown)) = 8
+
+-- "A refusal returns its number and place"; 0 where nothing is refused
+abbrev pub numberOf : Told → ℕ
+numberOf (read n) = 0
+numberOf (checked (refused number place)) = number
+numberOf (checked opened) = 0
+numberOf (checked accepted) = 0
+numberOf (checked ignored) = 0
+numberOf (checked waiting) = 0
+numberOf (checked (verdict v)) = 0
+
+-- the refusal's place, 0 where nothing is refused
+abbrev pub placeOf : Told → ℕ
+placeOf (read n) = 0
+placeOf (checked (refused number place)) = place
+placeOf (checked opened) = 0
+placeOf (checked accepted) = 0
+placeOf (checked ignored) = 0
+placeOf (checked waiting) = 0
+placeOf (checked (verdict v)) = 0
+
+-- "answers the number of frames", 0 where a text was not read
+abbrev pub framesOf : Told → ℕ
+framesOf (read n) = n
+framesOf (checked a) = 0

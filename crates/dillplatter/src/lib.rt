@@ -1,0 +1,81 @@
+// The library for makers of controllers: the four calls of a checker as C has them, answers as numbers.
+// include/dillplatter.h declares them and says what each one does.
+mod told; // told.rt: answers as numbers
+
+use checker::State;
+use told::ReadResult;
+ghost use mathlib.Core.Path.{_≡_};
+ghost use Rattle.rule.specs.Reading.{readOf};
+ghost use Rattle.checker.specs.Open.{openDef};
+ghost use Rattle.checker.specs.Feed.{feedDef};
+ghost use Rattle.checker.specs.Pull.{pullDef};
+ghost use Rattle.dillplatter.specs.Told.{checked, readTold, answerOf, numberOf, placeOf, framesOf};
+
+// The state that a call hands back, its answer, and the number and place of a refusal, 0 where nothing is refused.
+#[repr(C)]
+pub struct CallResult {
+    pub state: State,
+    pub answer: u32,
+    pub number: u32,
+    pub place: u32,
+}
+
+// Reads a rule's text into frames, for every text and every buffer.
+#[no_mangle]
+pub extern "C" fn dillplatter_read(text: &[u8], frames: &mut [u8]) -> ReadResult
+    ensures { λ r. ⌜ (r .answer ≡ answerOf (readTold (readOf (now (text .entry)) (now (frames .entry)) .0))) × ((r .number ≡ numberOf (readTold (readOf (now (text .entry)) (now (frames .entry)) .0))) × ((r .place ≡ placeOf (readTold (readOf (now (text .entry)) (now (frames .entry)) .0))) × ((r .frames ≡ framesOf (readTold (readOf (now (text .entry)) (now (frames .entry)) .0))) × (now (frames .exit) ≡ readOf (now (text .entry)) (now (frames .entry)) .1)))) ⌝ }
+{
+    let a = rule::read(text, frames);
+    told::reading(a)
+}
+
+// Opens a checker, for every slice of frames, every W and every window.
+#[no_mangle]
+pub extern "C" fn dillplatter_open(frames: &[u8], width: u32, window: &mut [i32]) -> CallResult
+    ensures { λ r. ⌜ (r .answer ≡ answerOf (checked (openDef (now (frames .entry)) width (now (window .entry)) .answer))) × ((r .number ≡ numberOf (checked (openDef (now (frames .entry)) width (now (window .entry)) .answer))) × ((r .place ≡ placeOf (checked (openDef (now (frames .entry)) width (now (window .entry)) .answer))) × ((r .state ≡ openDef (now (frames .entry)) width (now (window .entry)) .state) × (now (window .exit) ≡ openDef (now (frames .entry)) width (now (window .entry)) .words)))) ⌝ }
+{
+    let opened = checker::open(frames, width, window);
+    let state = opened.state;
+    let a = opened.answer;
+    let opening = told::opening(a);
+    CallResult {
+        state,
+        answer: opening.answer,
+        number: opening.number,
+        place: opening.place,
+    }
+}
+
+// Feeds a line, for every state, every window and every line.
+#[no_mangle]
+pub extern "C" fn dillplatter_feed(state: State, window: &mut [i32], line: &[u8]) -> CallResult
+    ensures { λ r. ⌜ (r .answer ≡ answerOf (checked (feedDef state (now (window .entry)) (now (line .entry)) .answer))) × ((r .number ≡ numberOf (checked (feedDef state (now (window .entry)) (now (line .entry)) .answer))) × ((r .place ≡ placeOf (checked (feedDef state (now (window .entry)) (now (line .entry)) .answer))) × ((r .state ≡ feedDef state (now (window .entry)) (now (line .entry)) .state) × (now (window .exit) ≡ feedDef state (now (window .entry)) (now (line .entry)) .words)))) ⌝ }
+{
+    let fed = checker::feed(state, window, line);
+    let after_feed = fed.state;
+    let a = fed.answer;
+    let feeding = told::feeding(a);
+    CallResult {
+        state: after_feed,
+        answer: feeding.answer,
+        number: feeding.number,
+        place: feeding.place,
+    }
+}
+
+// Pulls the next verdict, for every state, every window and every report buffer.
+#[no_mangle]
+pub extern "C" fn dillplatter_pull(state: State, window: &[i32], report: &mut [u8]) -> CallResult
+    ensures { λ r. ⌜ (r .answer ≡ answerOf (checked (pullDef state (now (window .entry)) (now (report .entry)) .answer))) × ((r .number ≡ numberOf (checked (pullDef state (now (window .entry)) (now (report .entry)) .answer))) × ((r .place ≡ placeOf (checked (pullDef state (now (window .entry)) (now (report .entry)) .answer))) × ((r .state ≡ pullDef state (now (window .entry)) (now (report .entry)) .state) × (now (report .exit) ≡ pullDef state (now (window .entry)) (now (report .entry)) .report)))) ⌝ }
+{
+    let pulled = checker::pull(state, window, report);
+    let after_pull = pulled.state;
+    let a = pulled.answer;
+    let pulling = told::pulling(a);
+    CallResult {
+        state: after_pull,
+        answer: pulling.answer,
+        number: pulling.number,
+        place: pulling.place,
+    }
+}

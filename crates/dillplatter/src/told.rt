@@ -1,0 +1,118 @@
+// Answers as numbers: which answer, and the number and place of a refusal.
+use checker::FeedAnswer;
+use checker::OpenAnswer;
+use checker::PullAnswer;
+use rule::Reading;
+use rule::Refusal;
+ghost use mathlib.Core.Path.{_≡_};
+ghost use Rattle.checker.specs.Answer.{openTold, feedTold, pullTold, refused};
+ghost use Rattle.dillplatter.specs.Told.{checked, readTold, answerOf, numberOf, placeOf, framesOf};
+
+const REFUSED: u32 = 0;
+
+const READ: u32 = 1;
+
+const OPENED: u32 = 2;
+
+const ACCEPTED: u32 = 3;
+
+const IGNORED: u32 = 4;
+
+const WAITING: u32 = 5;
+
+const TRUE: u32 = 6;
+
+const FALSE: u32 = 7;
+
+const UNKNOWN: u32 = 8;
+
+// An answer in numbers; number and place are 0 where nothing is refused.
+pub struct Told {
+    pub answer: u32,
+    pub number: u32,
+    pub place: u32,
+}
+
+// An answer that is no refusal.
+fn plain(answer: u32) -> Told
+    ensures { λ r. ⌜ (r .answer ≡ answer) × ((r .number ≡ 0) × (r .place ≡ 0)) ⌝ }
+{
+    Told {
+        answer,
+        number: 0,
+        place: 0,
+    }
+}
+
+fn refusal(r: Refusal) -> Told
+    ensures { λ t. ⌜ (t .answer ≡ answerOf (checked (refused (r .number) (r .place)))) × ((t .number ≡ r .number) × (t .place ≡ r .place)) ⌝ }
+{
+    Told {
+        answer: REFUSED,
+        number: r.number as u32,
+        place: r.place,
+    }
+}
+
+// An answer to opening.
+pub fn opening(a: OpenAnswer) -> Told
+    ensures { λ r. ⌜ (r .answer ≡ answerOf (checked (openTold a))) × ((r .number ≡ numberOf (checked (openTold a))) × (r .place ≡ placeOf (checked (openTold a)))) ⌝ }
+{
+    match a {
+        OpenAnswer::Opened => plain(OPENED),
+        OpenAnswer::Refused(r) => refusal(r),
+    }
+}
+
+// An answer to feeding.
+pub fn feeding(a: FeedAnswer) -> Told
+    ensures { λ r. ⌜ (r .answer ≡ answerOf (checked (feedTold a))) × ((r .number ≡ numberOf (checked (feedTold a))) × (r .place ≡ placeOf (checked (feedTold a)))) ⌝ }
+{
+    match a {
+        FeedAnswer::Accepted => plain(ACCEPTED),
+        FeedAnswer::Ignored => plain(IGNORED),
+        FeedAnswer::Refused(r) => refusal(r),
+    }
+}
+
+// An answer to pulling.
+pub fn pulling(a: PullAnswer) -> Told
+    ensures { λ r. ⌜ (r .answer ≡ answerOf (checked (pullTold a))) × ((r .number ≡ numberOf (checked (pullTold a))) × (r .place ≡ placeOf (checked (pullTold a)))) ⌝ }
+{
+    match a {
+        PullAnswer::True => plain(TRUE),
+        PullAnswer::False => plain(FALSE),
+        PullAnswer::Unknown => plain(UNKNOWN),
+        PullAnswer::Waiting => plain(WAITING),
+        PullAnswer::Refused(r) => refusal(r),
+    }
+}
+
+// A text that was read into so many frames, or not.
+#[repr(C)]
+pub struct ReadResult {
+    pub answer: u32,
+    pub number: u32,
+    pub place: u32,
+    pub frames: u32,
+}
+
+// An answer to reading.
+pub fn reading(a: Reading) -> ReadResult
+    ensures { λ r. ⌜ (r .answer ≡ answerOf (readTold a)) × ((r .number ≡ numberOf (readTold a)) × ((r .place ≡ placeOf (readTold a)) × (r .frames ≡ framesOf (readTold a)))) ⌝ }
+{
+    match a {
+        Reading::Frames(n) => ReadResult {
+            answer: READ,
+            number: 0,
+            place: 0,
+            frames: n,
+        },
+        Reading::Refused(r) => ReadResult {
+            answer: REFUSED,
+            number: r.number as u32,
+            place: r.place,
+            frames: 0,
+        },
+    }
+}

@@ -1,0 +1,127 @@
+/* A controller's loop over the library: reads a rule, opens a checker with a lent window, feeds each line as it comes, pulls
+ * until the checker waits, and says each violation in words. docs/MAKERS.md explains it. */
+#include <inttypes.h>
+#include <stdio.h>
+#include <string.h>
+
+#include "dillplatter.h"
+
+/* The knife's way down and up again takes at most 25 units of time. */
+static const char rule[] = "events down up; notes t; t(up[i]) - t(down[i]) <= 25";
+static const char *const events[] = {"down", "up"};
+static const char *const notes[] = {"t"};
+
+/* How many lines of an event may come before the next instance's other lines do. */
+#define WIDTH 4
+
+/* All memory is the controller's own. */
+static uint8_t frames[DILLPLATTER_FRAME_BUFFER];
+static size_t frames_len;
+static int32_t window[DILLPLATTER_WINDOW_WORDS(WIDTH)];
+static uint8_t report[DILLPLATTER_REPORT_BYTES];
+static dillplatter_state state;
+
+/* The references stand in the report in the order of the rule's frames, which the state has. */
+static void say_violation(void) {
+    uint32_t instance = dillplatter_report_instance(report);
+    uint32_t k = 0;
+    printf("instance %" PRIu32 " violates the rule:", instance);
+    for (uint32_t at = 0; at < state.len; at++) {
+        const uint8_t *frame = state.frames + DILLPLATTER_FRAME_BYTES * at;
+        if (frame[0] != 0x03)
+            continue;
+        int64_t line = (int64_t)frame[3] * instance + dillplatter_signed(frame + 4);
+        printf("%s %s of %s %" PRId64, k == 0 ? "" : ",", notes[frame[2]], events[frame[1]], line);
+        switch (dillplatter_report_mark(report, k)) {
+        case DILLPLATTER_PRESENT: printf(" is %" PRId32, dillplatter_report_value(report, k)); break;
+        case DILLPLATTER_PENDING: printf(" has not come"); break;
+        default: printf(" is before the first"); break;
+        }
+        k++;
+    }
+    printf("\n");
+}
+
+/* Pulls every verdict that is there. */
+static void pull_all(void) {
+    for (;;) {
+        dillplatter_told told = dillplatter_pull_at(&state, window, DILLPLATTER_WINDOW_WORDS(WIDTH), report, sizeof report);
+        switch (told.answer) {
+        case DILLPLATTER_TRUE: break;
+        case DILLPLATTER_UNKNOWN: break;
+        case DILLPLATTER_FALSE: say_violation(); break;
+        case DILLPLATTER_WAITING: return;
+        default: printf("pull refused with %" PRIu32 "\n", told.number); return;
+        }
+    }
+}
+
+static void say_totals(void) {
+    printf("true %" PRIu32 ", false %" PRIu32 ", unknown %" PRIu32 "; next instance %" PRIu32 "\n", state.totals.held,
+           state.totals.failed, state.totals.unknown, state.next);
+}
+
+/* Opens a fresh checker for the rule that was read. */
+static int begin(void) {
+    dillplatter_told told = dillplatter_open_at(&state, frames, frames_len, WIDTH, window, DILLPLATTER_WINDOW_WORDS(WIDTH));
+    if (told.answer != DILLPLATTER_OPENED) {
+        printf("opening refused with %" PRIu32 " at %" PRIu32 "\n", told.number, told.place);
+        return 0;
+    }
+    pull_all();
+    return 1;
+}
+
+/* Feeds a line and pulls. A line that is refused is not counted, and the next one of its event would take its number: so where
+ * the window is full this controller says so and begins anew, rather than drop the line and go on. */
+static void take(const uint8_t *line, size_t len) {
+    dillplatter_told told = dillplatter_feed_at(&state, window, DILLPLATTER_WINDOW_WORDS(WIDTH), line, len);
+    if (told.answer == DILLPLATTER_ACCEPTED) {
+        pull_all();
+    } else if (told.number == DILLPLATTER_WINDOW_FULL) {
+        printf("window full: %s %" PRIu32 ", %s %" PRIu32 "; beginning anew\n", events[0], state.counts[0], events[1], state.counts[1]);
+        say_totals();
+        begin();
+    } else if (told.answer == DILLPLATTER_REFUSED) {
+        printf("line refused with %" PRIu32 " at %" PRIu32 "\n", told.number, told.place);
+    }
+}
+
+/* An event as the controller has it. */
+static void happened(uint8_t event, int32_t time) {
+    const int32_t values[4] = {time, 0, 0, 0};
+    uint8_t line[DILLPLATTER_LINE_BYTES];
+    dillplatter_line(line, event, values);
+    take(line, sizeof line);
+}
+
+/* An event n times, at times that are `apart` units apart. */
+static void happened_often(int n, uint8_t event, int32_t time, int32_t apart) {
+    for (int k = 0; k < n; k++)
+        happened(event, time + k * apart);
+}
+
+int main(void) {
+    dillplatter_reading reading = dillplatter_read((const uint8_t *)rule, strlen(rule), frames, sizeof frames);
+    if (reading.answer != DILLPLATTER_READ) {
+        printf("rule refused with %" PRIu32 " at %" PRIu32 "\n", reading.number, reading.place);
+        return 1;
+    }
+    printf("rule read, %" PRIu32 " frames\n", reading.frames);
+    frames_len = DILLPLATTER_FRAME_BYTES * (size_t)reading.frames;
+    if (!begin())
+        return 1;
+    happened(0, 10);
+    happened(1, 35); /* 25 units: true */
+    happened(0, 50);
+    happened(1, 90); /* 40 units: false */
+    happened(7, 95); /* an event that the rule does not reference: ignored */
+    take((const uint8_t *)"00 bad line", 11);
+    happened(0, INT32_MIN);
+    happened(1, INT32_MAX);       /* arithmetic is exact: false */
+    happened_often(5, 0, 100, 1); /* the fifth down with no up finds the window full */
+    happened_often(4, 0, 200, 1);
+    happened_often(4, 1, 200, 10); /* the last of these is 27 units after its down: false */
+    say_totals();
+    return 0;
+}

@@ -1,0 +1,100 @@
+//! The library from Rust, with nothing but rustc: reads a rule, opens a checker, feeds four lines and pulls after each.
+//! host/ has a wrapper with types of its own; this shows the calls themselves.
+
+const WIDTH: usize = 64;
+
+#[repr(C)]
+#[derive(Clone, Copy)]
+struct Totals {
+    held: u32,
+    failed: u32,
+    unknown: u32,
+}
+
+#[repr(C)]
+#[derive(Clone, Copy)]
+struct State {
+    frames: [u8; 512],
+    len: u32,
+    width: u32,
+    counts: [u32; 8],
+    next: u32,
+    totals: Totals,
+}
+
+#[repr(C)]
+struct Reading {
+    answer: u32,
+    number: u32,
+    place: u32,
+    frames: u32,
+}
+
+#[repr(C)]
+struct Outcome {
+    state: State,
+    answer: u32,
+    number: u32,
+    place: u32,
+}
+
+// Nothing checks these against the library: they are include/dillplatter.h, word for word.
+extern "C" {
+    fn dillplatter_read(text: *const u8, text_len: usize, frames: *mut u8, frames_len: usize) -> Reading;
+    fn dillplatter_open(frames: *const u8, frames_len: usize, width: u32, window: *mut i32, window_len: usize) -> Outcome;
+    fn dillplatter_feed(state: State, window: *mut i32, window_len: usize, line: *const u8, line_len: usize) -> Outcome;
+    fn dillplatter_pull(state: State, window: *const i32, window_len: usize, report: *mut u8, report_len: usize) -> Outcome;
+}
+
+// A slice is a pointer and a length; the borrow checker sees to it that what is written overlaps nothing.
+fn read(text: &[u8], frames: &mut [u8]) -> Reading {
+    unsafe { dillplatter_read(text.as_ptr(), text.len(), frames.as_mut_ptr(), frames.len()) }
+}
+
+fn open(frames: &[u8], width: u32, window: &mut [i32]) -> Outcome {
+    unsafe { dillplatter_open(frames.as_ptr(), frames.len(), width, window.as_mut_ptr(), window.len()) }
+}
+
+fn feed(state: State, window: &mut [i32], line: &[u8]) -> Outcome {
+    unsafe { dillplatter_feed(state, window.as_mut_ptr(), window.len(), line.as_ptr(), line.len()) }
+}
+
+fn pull(state: State, window: &[i32], report: &mut [u8]) -> Outcome {
+    unsafe { dillplatter_pull(state, window.as_ptr(), window.len(), report.as_mut_ptr(), report.len()) }
+}
+
+// Pulls until the checker waits.
+fn pull_all(mut state: State, window: &[i32], report: &mut [u8]) -> State {
+    loop {
+        let pulled = pull(state, window, report);
+        state = pulled.state;
+        match pulled.answer {
+            6 => println!("instance {} is true", state.next - 1),
+            7 => println!("instance {} is false, {} references: {:?}", state.next - 1, report[5], &report[6..16]),
+            8 => println!("instance {} is unknown", state.next - 1),
+            _ => return state,
+        }
+    }
+}
+
+fn main() {
+    assert_eq!((std::mem::size_of::<State>(), std::mem::size_of::<Outcome>()), (568, 580));
+    let (mut frames, mut window, mut report) = ([0u8; 512], [0i32; 32 * WIDTH], [0u8; 166]);
+    let reading = read(b"events in out; notes t; t(out[i]) - t(in[i]) <= 25", &mut frames);
+    if reading.answer != 1 {
+        println!("rule refused with {} at {}", reading.number, reading.place);
+        return;
+    }
+    let opened = open(&frames[..8 * reading.frames as usize], WIDTH as u32, &mut window);
+    if opened.answer != 2 {
+        println!("opening refused with {} at {}", opened.number, opened.place);
+        return;
+    }
+    let mut state = pull_all(opened.state, &window, &mut report);
+    for line in ["000000000A", "0100000028", "0000000032", "010000004B"] {
+        let fed = feed(state, &mut window, format!("{line:0<34}").as_bytes());
+        println!("fed: answer {}, number {}, place {}", fed.answer, fed.number, fed.place);
+        state = pull_all(fed.state, &window, &mut report);
+    }
+    println!("true {}, false {}, unknown {}", state.totals.held, state.totals.failed, state.totals.unknown);
+}

@@ -1,0 +1,144 @@
+/* Every refusal of the library once, by its name in the header: what provokes it, its number and its place. Fails where a refused
+ * call wrote to lent memory or handed back another state than it should. */
+#include <inttypes.h>
+#include <stdio.h>
+#include <string.h>
+
+#include "dillplatter.h"
+
+#define WIDTH 4
+#define WORDS DILLPLATTER_WINDOW_WORDS(WIDTH)
+
+static const char good_rule[] = "events a b; notes t; t(a[i]) > t(b[i])";
+static const char one_event[] = "events a; notes t; t(a[i]) > 0";
+
+/* Lent memory: at the start of each call it is filled with 7, or is what the call before left. */
+static uint8_t frames[DILLPLATTER_FRAME_BUFFER], report[DILLPLATTER_REPORT_BYTES], text[DILLPLATTER_TEXT_MOST + 1];
+static int32_t window[DILLPLATTER_WINDOW_WORDS(WIDTH)], before[DILLPLATTER_WINDOW_WORDS(WIDTH)];
+static dillplatter_state state, zero;
+static size_t frames_len;
+static int wrong;
+
+static void expect(int fact, const char *what) {
+    if (!fact) {
+        printf("wrong: %s\n", what);
+        wrong = 1;
+    }
+}
+
+static void say(const char *what, uint32_t want, uint32_t answer, uint32_t number, uint32_t place) {
+    printf("%2" PRIu32 " at %" PRIu32 ": %s\n", number, place, what);
+    expect(answer == DILLPLATTER_REFUSED && number == want, what);
+}
+
+static int all_seven(const uint8_t *bytes, size_t len) {
+    for (size_t k = 0; k < len; k++)
+        if (bytes[k] != 7)
+            return 0;
+    return 1;
+}
+
+/* A text that is refused, or a buffer. */
+static void refuse_read(const char *what, uint32_t want, const char *rule, size_t len, size_t buffer) {
+    memset(frames, 7, sizeof frames);
+    dillplatter_reading r = dillplatter_read((const uint8_t *)rule, len, frames, buffer);
+    say(what, want, r.answer, r.number, r.place);
+    expect(r.frames == 0 && all_seven(frames, sizeof frames), "a refused reading leaves the buffer");
+}
+
+static void refuse_text(const char *what, uint32_t want, const char *rule) {
+    refuse_read(what, want, rule, strlen(rule), sizeof frames);
+}
+
+/* Frames that are refused, or a window. */
+static void refuse_open(const char *what, uint32_t want, size_t len, uint32_t width, size_t words) {
+    memset(window, 7, sizeof window);
+    memcpy(before, window, sizeof window);
+    dillplatter_result r = dillplatter_open(frames, len, width, window, words);
+    say(what, want, r.answer, r.number, r.place);
+    expect(memcmp(window, before, sizeof window) == 0, "a refused opening leaves the window");
+    expect(memcmp(&r.state, &zero, sizeof zero) == 0, "a refused opening gives the zero state");
+}
+
+static void refuse_feed(const char *what, uint32_t want, dillplatter_state s, size_t words, const char *line) {
+    memcpy(before, window, sizeof window);
+    dillplatter_result r = dillplatter_feed(s, window, words, (const uint8_t *)line, strlen(line));
+    say(what, want, r.answer, r.number, r.place);
+    expect(memcmp(window, before, sizeof window) == 0, "a refused line leaves the window");
+    expect(memcmp(&r.state, &s, sizeof s) == 0, "a refused line leaves the state");
+}
+
+static void refuse_pull(const char *what, uint32_t want, dillplatter_state s, size_t words, size_t buffer) {
+    memset(report, 7, sizeof report);
+    dillplatter_result r = dillplatter_pull(s, window, words, report, buffer);
+    say(what, want, r.answer, r.number, r.place);
+    expect(all_seven(report, sizeof report), "a refused pull leaves the report");
+    expect(memcmp(&r.state, &s, sizeof s) == 0, "a refused pull leaves the state");
+}
+
+static void read_good(const char *rule) {
+    dillplatter_reading r = dillplatter_read((const uint8_t *)rule, strlen(rule), frames, sizeof frames);
+    expect(r.answer == DILLPLATTER_READ, "the rule is read");
+    frames_len = DILLPLATTER_FRAME_BYTES * (size_t)r.frames;
+}
+
+static void open_good(const char *rule) {
+    read_good(rule);
+    expect(dillplatter_open_at(&state, frames, frames_len, WIDTH, window, WORDS).answer == DILLPLATTER_OPENED, "opened");
+}
+
+/* Lines of event 0, and a pull after each. */
+static void feed_many(int n) {
+    const int32_t notes[4] = {1, 0, 0, 0};
+    uint8_t line[DILLPLATTER_LINE_BYTES];
+    dillplatter_line(line, 0, notes);
+    for (int k = 0; k < n; k++) {
+        expect(dillplatter_feed_at(&state, window, WORDS, line, sizeof line).answer == DILLPLATTER_ACCEPTED, "accepted");
+        dillplatter_pull_at(&state, window, WORDS, report, sizeof report);
+    }
+}
+
+static void reading(void) {
+    memset(text, ' ', sizeof text);
+    refuse_read("a buffer of 511 bytes", DILLPLATTER_BUFFER_SIZE, good_rule, strlen(good_rule), 511);
+    refuse_text("an empty text", DILLPLATTER_TEXT_SIZE, "");
+    refuse_read("a text of 1,025 bytes", DILLPLATTER_TEXT_SIZE, (const char *)text, sizeof text, sizeof frames);
+    refuse_text("two relations", DILLPLATTER_GRAMMAR, "events a; notes t; t(a[i]) > 0 > 1");
+    refuse_text("an event that is not declared", DILLPLATTER_NAME, "events a; notes t; t(b[i]) > 0");
+    refuse_text("the factor 10", DILLPLATTER_NUMBER, "events a; notes t; t(a[10*i]) > 0");
+    refuse_text("seventeen times not", DILLPLATTER_DEPTH, "events a; notes t; !!!!!!!!!!!!!!!!! t(a[i]) > 0");
+    refuse_text("no event", DILLPLATTER_NO_REFERENCE, "events a; notes t; 1 = 1");
+    refuse_text("a product of two notes and 1", DILLPLATTER_MAGNITUDE, "events a; notes t; t(a[i]) * t(a[i]) + 1 > 0");
+}
+
+static void opening(void) {
+    read_good(good_rule);
+    refuse_open("12 bytes of frames", DILLPLATTER_FRAMES_SIZE, 12, WIDTH, WORDS);
+    refuse_open("two of three frames", DILLPLATTER_FRAMES_ORDER, 16, WIDTH, WORDS);
+    refuse_open("W 257", DILLPLATTER_WINDOW_WIDTH, frames_len, 257, WORDS);
+    refuse_open("a window one word short", DILLPLATTER_WINDOW_WIDTH, frames_len, WIDTH, WORDS - 1);
+}
+
+static void running(void) {
+    const char *line = "0000000001000000000000000000000000";
+    open_good(good_rule);
+    refuse_feed("a state that is zero throughout", DILLPLATTER_BAD_STATE, zero, WORDS, line);
+    refuse_pull("a state that is zero throughout", DILLPLATTER_BAD_STATE, zero, WORDS, sizeof report);
+    refuse_feed("a window one word short", DILLPLATTER_WINDOW_SIZE, state, WORDS - 1, line);
+    refuse_pull("a window one word short", DILLPLATTER_WINDOW_SIZE, state, WORDS - 1, sizeof report);
+    refuse_pull("a report buffer of 165 bytes", DILLPLATTER_REPORT_SIZE, state, WORDS, 165);
+    refuse_feed("a line with a small letter", DILLPLATTER_BAD_LINE, state, WORDS, "000000000a000000000000000000000000");
+    refuse_feed("a line of 33 digits", DILLPLATTER_BAD_LINE, state, WORDS, line + 1);
+    feed_many(WIDTH);
+    refuse_feed("a fifth line with W 4 and no partner", DILLPLATTER_WINDOW_FULL, state, WORDS, line);
+    open_good(one_event);
+    feed_many(1000000);
+    refuse_feed("line 1,000,000 of an event", DILLPLATTER_LINES_MOST, state, WORDS, line);
+}
+
+int main(void) {
+    reading();
+    opening();
+    running();
+    return wrong;
+}

@@ -1,0 +1,145 @@
+/* Measures how much stack each call of the library takes, over texts, frames, lines and states that take the most: each call runs
+ * on a stack of its own that was painted before, and the lowest byte that lost its paint is looked up after. Fails where a call
+ * takes more than docs/MAKERS.md promises. */
+#define _XOPEN_SOURCE 700
+#include <stdio.h>
+#include <string.h>
+#include <ucontext.h>
+
+#include "dillplatter.h"
+
+#define ROOM (2 << 20)
+#define PAINT 0xA5
+#define WIDTH 256
+#define WORDS DILLPLATTER_WINDOW_WORDS(WIDTH)
+
+static uint8_t stack[ROOM];
+static ucontext_t here, there;
+
+/* The arguments and results of the calls, away from the stack that is measured. */
+static uint8_t text[DILLPLATTER_TEXT_MOST], frames[DILLPLATTER_FRAME_BUFFER], report[DILLPLATTER_REPORT_BYTES];
+static uint8_t line[DILLPLATTER_LINE_BYTES];
+static size_t text_len, frames_len;
+static int32_t window[DILLPLATTER_WINDOW_WORDS(WIDTH)];
+static dillplatter_reading reading;
+static dillplatter_result result;
+
+static void nothing(void) {}
+static void do_read(void) { reading = dillplatter_read(text, text_len, frames, sizeof frames); }
+static void do_open(void) { result = dillplatter_open(frames, frames_len, WIDTH, window, WORDS); }
+static void do_feed(void) { result = dillplatter_feed(result.state, window, WORDS, line, sizeof line); }
+static void do_pull(void) { result = dillplatter_pull(result.state, window, WORDS, report, sizeof report); }
+
+/* The bytes of stack that a function takes. */
+static size_t taken(void (*call)(void)) {
+    size_t low = 0;
+    memset(stack, PAINT, sizeof stack);
+    getcontext(&there);
+    there.uc_stack.ss_sp = stack;
+    there.uc_stack.ss_size = sizeof stack;
+    there.uc_link = &here;
+    makecontext(&there, call, 0);
+    swapcontext(&here, &there);
+    while (low < sizeof stack && stack[low] == PAINT)
+        low++;
+    return sizeof stack - low;
+}
+
+/* The same without what a function that does nothing takes. */
+static size_t cost(void (*call)(void)) { return taken(call) - taken(nothing); }
+
+static void more(size_t *most, size_t now) {
+    if (*most < now)
+        *most = now;
+}
+
+static void put(const char *part, size_t times) {
+    size_t len = strlen(part);
+    for (; times > 0 && text_len + len <= sizeof text; times--) {
+        memcpy(text + text_len, part, len);
+        text_len += len;
+    }
+}
+
+/* A rule's text with `times` groups, as many as fit. */
+static void nest(const char *open, const char *inner, const char *close, const char *back, size_t times) {
+    text_len = 0;
+    put("events a; notes t; ", 1);
+    put(open, times);
+    put(inner, 1);
+    put(close, times);
+    put(back, 1);
+}
+
+/* Groups, and how deep each makes the rest. */
+static const struct {
+    const char *open, *inner, *close, *back;
+    size_t depth;
+} groups[] = {
+    {"{", "t(a[i])=0", "}", "", 1},
+    {"!", "t(a[i])=0", "", "", 1},
+    {"(", "t(a[i])", ")", "=0", 1},
+    {"abs(", "t(a[i])", ")", "=0", 1},
+    {"0+(", "t(a[i])", ")", "=0", 1},
+    {"0*(", "t(a[i])", ")", "=0", 1},
+    {"0=0->", "t(a[i])=0", "", "", 1},
+    {"0=0||{", "t(a[i])=0", "}", "", 1},
+    {"0=0&&!", "t(a[i])=0", "", "", 1},
+    {"!{", "t(a[i])=0", "}", "", 2},
+    {"0=0->{", "t(a[i])=0", "}", "", 2},
+    {"0=0->!", "t(a[i])=0", "", "", 2},
+    {"0=0||0=0&&{", "t(a[i])=0", "}", "", 1},
+    {"0+0*(", "t(a[i])", ")", "=0", 1},
+    {"0=0||0=0&&!", "t(a[i])=0", "", "", 1},
+};
+
+/* Reading, with groups to a depth. */
+static size_t reading_most(size_t depth) {
+    size_t most = 0;
+    for (size_t k = 0; k < sizeof groups / sizeof *groups; k++) {
+        nest(groups[k].open, groups[k].inner, groups[k].close, groups[k].back, depth / groups[k].depth);
+        more(&most, cost(do_read));
+    }
+    return most;
+}
+
+/* A rule of 63 frames with 32 references. */
+static int widest(void) {
+    text_len = 0;
+    put("events a; notes t; t(a[i])", 1);
+    put("+t(a[9*i+9])", 30);
+    put(">t(a[i])", 1);
+    do_read();
+    frames_len = DILLPLATTER_FRAME_BYTES * (size_t)reading.frames;
+    return reading.answer == DILLPLATTER_READ && reading.frames == 63;
+}
+
+/* Feeding and pulling, with verdicts both true and false. */
+static void running_most(size_t *feeding, size_t *pulling) {
+    for (int k = 0; k < 400; k++) {
+        const int32_t notes[4] = {k % 2 == 0 ? -1 : 1, 0, 0, 0};
+        dillplatter_line(line, 0, notes);
+        more(feeding, cost(do_feed));
+        more(pulling, cost(do_pull));
+    }
+}
+
+static int within(const char *name, size_t bytes, size_t limit) {
+    printf("%s: %zu bytes, at most %zu\n", name, bytes, limit);
+    return bytes <= limit;
+}
+
+int main(void) {
+    size_t opening, feeding = 0, pulling = 0;
+    int good = within("read, any text", reading_most(sizeof text), 1200000);
+    good &= within("read, depth at most 16", reading_most(16), 40960);
+    if (!widest())
+        return 1;
+    opening = cost(do_open);
+    running_most(&feeding, &pulling);
+    good &= within("open", opening, 4096);
+    good &= within("feed", feeding, 8192);
+    good &= within("pull", pulling, 8192);
+    good &= result.state.totals.held > 0 && result.state.totals.failed > 0;
+    return !good;
+}

@@ -1,0 +1,280 @@
+/* Dillplatter: a proved log checker for Logic of Constraints, as a library for controllers.
+ *
+ * A rule's text is read into frames (dillplatter_read), frames open a checker (dillplatter_open), log lines are fed to it
+ * (dillplatter_feed) and verdicts are pulled from it (dillplatter_pull). docs/RULES.md teaches rules, docs/MAKERS.md shows how
+ * to link, how much memory to lend and what to do on each refusal.
+ *
+ * For every argument each call ends, and answers as its proved contract says; a refusal changes nothing. The library has no
+ * memory of its own and allocates none: what a checker carries from call to call is the state, by value, and the window, which
+ * the caller lends. So calls on different checkers may run at the same time.
+ *
+ * What the caller keeps to, and nobody checks:
+ * - a pointer and a length stand for that many elements that may be read, and written where the pointer is not to const; the
+ *   elements are aligned as their type asks; with length 0 any pointer will do, NULL too;
+ * - during a call, memory that it may write overlaps no other memory lent to that call, and nobody else uses it.
+ *
+ * The library is for x86-64 with the System V calling convention, as on Linux. It needs memcpy and memset, nothing else.
+ */
+#ifndef DILLPLATTER_H
+#define DILLPLATTER_H
+
+#include <stddef.h>
+#include <stdint.h>
+
+#ifdef __cplusplus
+extern "C" {
+#endif
+
+/* ---- sizes ---- */
+
+/* Bytes of the buffer that dillplatter_read fills: exactly so many. */
+#define DILLPLATTER_FRAME_BUFFER 512
+
+/* Bytes of a frame: dillplatter_open takes the first DILLPLATTER_FRAME_BYTES * reading.frames bytes of that buffer. */
+#define DILLPLATTER_FRAME_BYTES 8
+
+/* A rule's text has 1 to so many bytes. */
+#define DILLPLATTER_TEXT_MOST 1024
+
+/* The width W, how many lines of each event the window holds, is 1 to so many. */
+#define DILLPLATTER_WIDTH_MOST 256
+
+/* 32-bit words of a window of width w: exactly so many. */
+#define DILLPLATTER_WINDOW_WORDS(w) ((size_t)32 * (size_t)(w))
+
+/* Bytes of a log line, without its line feed. */
+#define DILLPLATTER_LINE_BYTES 34
+
+/* Bytes of a report buffer: at least so many, which is what the longest report has. */
+#define DILLPLATTER_REPORT_BYTES 166
+
+/* ---- answers and refusals ---- */
+
+/* The field `answer` of every result. */
+enum dillplatter_answer {
+    DILLPLATTER_REFUSED = 0,  /* any call: `number` and `place` say why and where; nothing has changed */
+    DILLPLATTER_READ = 1,     /* read: the buffer holds the frames */
+    DILLPLATTER_OPENED = 2,   /* open: the state is that of a fresh checker, the window is cleared */
+    DILLPLATTER_ACCEPTED = 3, /* feed: the line is counted */
+    DILLPLATTER_IGNORED = 4,  /* feed: the rule does not reference the line's event; nothing has changed */
+    DILLPLATTER_WAITING = 5,  /* pull: the next instance is not settled yet; nothing has changed */
+    DILLPLATTER_TRUE = 6,     /* pull: the verdict of the next instance is true */
+    DILLPLATTER_FALSE = 7,    /* pull: it is false, and the report says by which notes */
+    DILLPLATTER_UNKNOWN = 8   /* pull: it is unknown */
+};
+
+/* The field `number` of every result, and what `place` counts, from 0. Where no place is named it is 0. Each call gives the
+ * first that holds, in the order that stands with the call. */
+enum dillplatter_refusal {
+    DILLPLATTER_NO_REFUSAL = 0,
+    DILLPLATTER_BUFFER_SIZE = 1,   /* read: the frame buffer isn't 512 bytes */
+    DILLPLATTER_TEXT_SIZE = 2,     /* read: the text has 0 or over 1,024 bytes */
+    DILLPLATTER_GRAMMAR = 3,       /* read: outside the grammar; place: the first byte of the first token that does not fit,
+                                      the text's length if it ends early */
+    DILLPLATTER_NAME = 4,          /* read: a name over 12 letters, twice in its list, a 9th event, a 5th note, or undeclared in
+                                      its role; place: its first byte */
+    DILLPLATTER_NUMBER = 5,        /* read: a number beyond its limit; place: its first byte */
+    DILLPLATTER_DEPTH = 6,         /* read: depth over 16 or over 64 frames */
+    DILLPLATTER_NO_REFERENCE = 7,  /* read, open: the rule references no event */
+    DILLPLATTER_MAGNITUDE = 8,     /* read, open: a sum that could exceed 2^62 */
+    DILLPLATTER_FRAMES_SIZE = 9,   /* open: the frames' length isn't 8 to 512 in steps of 8 */
+    DILLPLATTER_FRAMES_ORDER = 10, /* open: not a rule in postfix order with fields within the limits; place: the first frame that
+                                      does not fit, the number of frames if only the end is wrong */
+    DILLPLATTER_WINDOW_WIDTH = 11, /* open: W outside 1 to 256, or a window not 32 * W words */
+    DILLPLATTER_BAD_STATE = 12,    /* feed, pull: a state whose frames or W open would refuse, a count over 1,000,000, `next` over
+                                      1,009,999, totals that do not sum to `next`, a count other than 0 of an event that the
+                                      rule does not reference, or a count above that event's base plus W */
+    DILLPLATTER_WINDOW_SIZE = 13,  /* feed, pull: a window not 32 * W words, with the W of the state */
+    DILLPLATTER_REPORT_SIZE = 14,  /* pull: a report buffer under 166 bytes */
+    DILLPLATTER_BAD_LINE = 15,     /* feed: not 34 digits 0-9 A-F; place: the lower of the first byte that is none and the shorter
+                                      of the length and 34 */
+    DILLPLATTER_LINES_MOST = 16,   /* feed: that event has 1,000,000 lines already */
+    DILLPLATTER_WINDOW_FULL = 17   /* feed: the count of that event has reached its base plus W: no room for another line of it
+                                      until more verdicts are pulled. An event's base is the smallest line number of it that
+                                      instance `next` refers to, 0 where that is negative */
+};
+
+/* ---- what calls take and give ---- */
+
+/* The verdicts pulled so far: how many were true, false, unknown. Their sum is `next` of the state. */
+typedef struct dillplatter_totals {
+    uint32_t held, failed, unknown;
+} dillplatter_totals;
+
+/* What a checker carries from call to call, beside the window: hand on what the last call gave back. A caller may read it and
+ * copy it; a copy of the state together with a copy of the window is a second checker. */
+typedef struct dillplatter_state {
+    uint8_t frames[DILLPLATTER_FRAME_BUFFER]; /* the rule, zero after its last frame */
+    uint32_t len;                             /* its number of frames, 1 to 64; 0 in the state of a refused opening */
+    uint32_t width;                           /* W */
+    uint32_t counts[8];                       /* accepted lines of each event */
+    uint32_t next;                            /* the instance that the next pull is about */
+    dillplatter_totals totals;
+} dillplatter_state;
+
+/* What dillplatter_read gives. */
+typedef struct dillplatter_reading {
+    uint32_t answer; /* DILLPLATTER_READ or DILLPLATTER_REFUSED */
+    uint32_t number; /* the refusal's, else 0 */
+    uint32_t place;  /* the refusal's, else 0 */
+    uint32_t frames; /* how many frames the rule has, 1 to 64; 0 if refused */
+} dillplatter_reading;
+
+/* What the other calls give. */
+typedef struct dillplatter_result {
+    dillplatter_state state; /* to hand to the next call */
+    uint32_t answer;         /* enum dillplatter_answer */
+    uint32_t number;         /* the refusal's, else 0 */
+    uint32_t place;          /* the refusal's, else 0 */
+} dillplatter_result;
+
+/* ---- the calls ---- */
+
+/* Reads a rule's text.
+ * Answers: read, with the number of frames; or refused with 1, 2, 3, 4, 5, 6, 7 or 8, the first of them that holds of the
+ * whole text.
+ * Writes: where read, all 512 bytes of `frames`: the rule's frames, and zero after the last. Where refused, none.
+ * Memory: `text` is only read. Both are the caller's, before and after. They must not overlap. */
+dillplatter_reading dillplatter_read(const uint8_t *text, size_t text_len, uint8_t *frames, size_t frames_len);
+
+/* Opens a checker for a rule, with window width W.
+ * `frames` is exactly the rule's frames: of a buffer that dillplatter_read filled, the first 8 * reading.frames bytes. They are
+ * copied into the state, and are checked whether or not they come from dillplatter_read.
+ * Answers: opened; or refused with 9, 10, 7, 8 or 11, checked in this order.
+ * Gives: where opened, the state of a fresh checker: no line, instance 0 next. Where refused, the state that is zero throughout,
+ * which feed and pull refuse with 12.
+ * Writes: where opened, all words of `window`, to 0. Where refused, none.
+ * Memory: `frames` is only read, and not needed after the call. The window stays the caller's; between the calls on this checker
+ * nobody may change it. They must not overlap. */
+dillplatter_result dillplatter_open(const uint8_t *frames, size_t frames_len, uint32_t width, int32_t *window, size_t window_len);
+
+/* Feeds one log line: 34 digits 0-9 A-F, the event (2 digits) and four notes (8 digits each, signed, the most significant
+ * first). The line feed is not part of it.
+ * Answers: accepted; ignored; or refused with 12, 13, 15, 16 or 17, checked in this order, an event that the rule does not
+ * reference being ignored after 15. Ignored and refused lines change neither state nor window. After 17, pull, then feed the
+ * same line again.
+ * Gives: where accepted, the state with that event's count one higher; else the state that it was given.
+ * Writes: where accepted, at most the four words of that line in `window`. Else none.
+ * Memory: `line` is only read, and not needed after the call. `window` must not overlap it. */
+dillplatter_result dillplatter_feed(dillplatter_state state, int32_t *window, size_t window_len, const uint8_t *line, size_t line_len);
+
+/* Pulls the verdict of the next instance, number `state.next`.
+ * Answers: true, false or unknown, where that instance is settled; waiting, where it isn't yet; or refused with 12, 13 or 14,
+ * checked in this order. Waiting and refused pulls change nothing.
+ * Gives: with a verdict, the state with `next` and that verdict's total one higher; else the state that it was given.
+ * Writes: where false, the first 6 + 5 * references bytes of `report`, at most 166; its later bytes keep. Else none.
+ * Memory: `window` is only read. The report buffer is the caller's. They must not overlap.
+ *
+ * A report: the instance (4 bytes, the most significant first), 00, the number of the rule's references (1 byte), then for each
+ * reference in the order of the frames a mark (00 present, 01 pending, 02 void) and the note's value (4 bytes, signed, 0 unless
+ * present). */
+dillplatter_result dillplatter_pull(dillplatter_state state, const int32_t *window, size_t window_len, uint8_t *report, size_t report_len);
+
+/* ---- the same with a pointer to the state ----
+ * Each replaces *state by the state that the call gives back, and returns the rest. After a refused opening *state is zero
+ * throughout. Neither *state nor the lent memory may overlap. */
+
+typedef struct dillplatter_told {
+    uint32_t answer, number, place;
+} dillplatter_told;
+
+static inline dillplatter_told dillplatter_kept(dillplatter_state *state, const dillplatter_result *result) {
+    dillplatter_told told;
+    told.answer = result->answer;
+    told.number = result->number;
+    told.place = result->place;
+    *state = result->state;
+    return told;
+}
+
+static inline dillplatter_told dillplatter_open_at(dillplatter_state *state, const uint8_t *frames, size_t frames_len, uint32_t width,
+                                                   int32_t *window, size_t window_len) {
+    dillplatter_result result = dillplatter_open(frames, frames_len, width, window, window_len);
+    return dillplatter_kept(state, &result);
+}
+
+static inline dillplatter_told dillplatter_feed_at(dillplatter_state *state, int32_t *window, size_t window_len, const uint8_t *line,
+                                                   size_t line_len) {
+    dillplatter_result result = dillplatter_feed(*state, window, window_len, line, line_len);
+    return dillplatter_kept(state, &result);
+}
+
+static inline dillplatter_told dillplatter_pull_at(dillplatter_state *state, const int32_t *window, size_t window_len, uint8_t *report,
+                                                   size_t report_len) {
+    dillplatter_result result = dillplatter_pull(*state, window, window_len, report, report_len);
+    return dillplatter_kept(state, &result);
+}
+
+/* ---- lines and reports ----
+ * Plain C, not part of what is proved. */
+
+/* Marks of a report's references. */
+enum dillplatter_mark { DILLPLATTER_PRESENT = 0, DILLPLATTER_PENDING = 1, DILLPLATTER_VOID = 2 };
+
+/* Writes the 34 digits of a log line. */
+static inline void dillplatter_line(uint8_t line[DILLPLATTER_LINE_BYTES], uint8_t event, const int32_t notes[4]) {
+    static const char digits[] = "0123456789ABCDEF";
+    int note, digit;
+    line[0] = (uint8_t)digits[event / 16];
+    line[1] = (uint8_t)digits[event % 16];
+    for (note = 0; note < 4; note++)
+        for (digit = 0; digit < 8; digit++)
+            line[2 + 8 * note + digit] = (uint8_t)digits[((uint32_t)notes[note] >> (28 - 4 * digit)) & 15];
+}
+
+/* Four bytes, the most significant first. */
+static inline uint32_t dillplatter_word(const uint8_t *bytes) {
+    return (uint32_t)bytes[0] << 24 | (uint32_t)bytes[1] << 16 | (uint32_t)bytes[2] << 8 | (uint32_t)bytes[3];
+}
+
+/* The same as a signed number, as values and offsets are. */
+static inline int32_t dillplatter_signed(const uint8_t *bytes) {
+    uint32_t word = dillplatter_word(bytes);
+    return word <= (uint32_t)INT32_MAX ? (int32_t)word : (int32_t)(word - (uint32_t)INT32_MAX - 1) + INT32_MIN;
+}
+
+/* The instance that a report is about. */
+static inline uint32_t dillplatter_report_instance(const uint8_t *report) { return dillplatter_word(report); }
+
+/* How many references it has, 1 to 32. */
+static inline uint32_t dillplatter_report_references(const uint8_t *report) { return report[5]; }
+
+/* The mark of reference k, from 0. */
+static inline uint32_t dillplatter_report_mark(const uint8_t *report, uint32_t k) { return report[6 + 5 * k]; }
+
+/* The value of reference k. */
+static inline int32_t dillplatter_report_value(const uint8_t *report, uint32_t k) { return dillplatter_signed(report + 7 + 5 * k); }
+
+/* ---- the layout that the library expects ---- */
+
+#if defined(__cplusplus)
+#define DILLPLATTER_HOLDS(fact) static_assert(fact, #fact)
+#elif defined(__STDC_VERSION__) && __STDC_VERSION__ >= 201112L
+#define DILLPLATTER_HOLDS(fact) _Static_assert(fact, #fact)
+#else
+#error "dillplatter.h needs C11 or C++11"
+#endif
+
+DILLPLATTER_HOLDS(sizeof(dillplatter_totals) == 12);
+DILLPLATTER_HOLDS(sizeof(dillplatter_state) == 568);
+DILLPLATTER_HOLDS(offsetof(dillplatter_state, frames) == 0);
+DILLPLATTER_HOLDS(offsetof(dillplatter_state, len) == 512);
+DILLPLATTER_HOLDS(offsetof(dillplatter_state, width) == 516);
+DILLPLATTER_HOLDS(offsetof(dillplatter_state, counts) == 520);
+DILLPLATTER_HOLDS(offsetof(dillplatter_state, next) == 552);
+DILLPLATTER_HOLDS(offsetof(dillplatter_state, totals) == 556);
+DILLPLATTER_HOLDS(sizeof(dillplatter_reading) == 16);
+DILLPLATTER_HOLDS(offsetof(dillplatter_reading, frames) == 12);
+DILLPLATTER_HOLDS(sizeof(dillplatter_result) == 580);
+DILLPLATTER_HOLDS(offsetof(dillplatter_result, answer) == 568);
+DILLPLATTER_HOLDS(offsetof(dillplatter_result, number) == 572);
+DILLPLATTER_HOLDS(offsetof(dillplatter_result, place) == 576);
+DILLPLATTER_HOLDS(sizeof(size_t) == 8 && sizeof(void *) == 8);
+
+#undef DILLPLATTER_HOLDS
+
+#ifdef __cplusplus
+}
+#endif
+
+#endif
