@@ -20,4 +20,5 @@ pub mod Build
 pub mod Check
 pub mod Opening
 pub mod Reading
+pub mod Meaning
 pub mod Answers
