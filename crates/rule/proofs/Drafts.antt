@@ -1,7 +1,7 @@
 -- The frames of what a tree means are the tree's frames with names and numbers looked up, in the same order; and it is within
 -- the limits where they are. Assumes nothing.
-use mathlib.Core.Path.{_≡_, refl, ap, ap₂, sym, _∙_}
-use mathlib.Core.List.{List, [], _∷_, _++_, append-assoc}
+use mathlib.Core.Path.{_≡_, refl, ap}
+use mathlib.Core.List.{List, [], _∷_, _++_}
 use Prim.Native.Nat.{ℕ, _≤_}
 use lib.IntN.{pos}
 use lib.ListN.{length}

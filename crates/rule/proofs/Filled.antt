@@ -1,10 +1,10 @@
 -- Frames put one after the other into zero bytes are their bytes, one after the other, and zero after the last. Assumes nothing.
-use mathlib.Core.Path.{_≡_, refl, ap, sym, subst, _∙_}
-use mathlib.Core.List.{List, [], _∷_, _++_, append-assoc, append-nil}
-use Prim.Native.Nat.{ℕ, zero, suc, _+_, _-_, _*_, _/_, _%_, _≤_, _<_}
+use mathlib.Core.Path.{_≡_, refl, ap, subst, _∙_}
+use mathlib.Core.List.{List, [], _∷_, _++_, append-assoc}
+use Prim.Native.Nat.{ℕ, zero, suc, _+_, _-_, _*_, _≤_, _<_}
 use native.Mathlib.Omega.{arith}
-use lib.ListN.{length, take, drop, replicate, set, length-append, length-replicate}
-use lib.Seq.{sets, sets-eq, take-at, drop-append-add}
+use lib.ListN.{length, drop, replicate, length-append, length-replicate}
+use lib.Seq.{sets-eq, take-at, drop-append-add}
 use borrow.Author.Tests.{lt-ltb}
 use Rattle.rule.specs.Tree.{wordBytes}
 use Rattle.rule.specs.Memory.{put, fill}

@@ -1,13 +1,13 @@
 -- Where no name and no number of a tree is bad, its frames are within the limits: each name stands among the declared ones,
 -- which are at most 8 events and 4 notes. Assumes nothing.
-use mathlib.Core.Path.{_≡_, refl, ap, sym, _∙_}
+use mathlib.Core.Path.{_≡_, refl, ap}
 use mathlib.Core.Bool.{Bool, true, false, cond}
 use mathlib.Core.Option.{Option, none, some}
 use mathlib.Core.List.{List, [], _∷_, _++_, append-assoc, append-nil}
 use Prim.Native.Nat.{ℕ, zero, suc, _+_, _≤_, _<_}
 use native.Mathlib.Omega.{arith}
 use lib.Dec.{ltb, leb, eqb}
-use lib.IntN.{pos, negℤ, natAbs}
+use lib.IntN.{natAbs}
 use lib.ListN.{length, length-append}
 use borrow.Author.Tests.{ltb-false, leb-false, eqb-false}
 use Rattle.numbers.proofs.Ints.{natAbs-neg}
@@ -21,9 +21,7 @@ use Rattle.rule.specs.Memory.{position}
 use Rattle.rule.specs.declared.parts.Place.{Place}
 use Rattle.rule.specs.declared.parts.Role.{Role}
 use Rattle.rule.specs.declared.parts.Role.the-variants.{Event, Note}
-use Rattle.rule.specs.declared.parts.Limit.{Limit}
-use Rattle.rule.specs.declared.parts.Limit.the-variants.{OfLiteral, OfFactor, OfOffset}
-use Rattle.rule.specs.declared.parts.Sign.{Sign}
+use Rattle.rule.specs.declared.parts.Limit.the-variants.{OfLiteral}
 use Rattle.rule.specs.declared.parts.Sign.the-variants.{Plus, Minus}
 use Rattle.rule.specs.declared.parts.Scale.{Scale}
 use Rattle.rule.specs.declared.parts.Scale.the-variants.{Once, Times}

@@ -4,23 +4,21 @@ use mathlib.Core.Logic.{_⊎_, inl, inr}
 use mathlib.Core.Bool.{Bool, true, false, cond}
 use mathlib.Core.List.{List, []}
 use mathlib.Core.Option.{Option, none, some}
-use Prim.Native.Nat.{ℕ, _*_, _≤_, _<_, min}
+use Prim.Native.Nat.{ℕ, _*_, _<_, min}
 use native.Mathlib.Omega.{arith}
 use borrow.Author.Tests.{eqb-true, eqb-false, ltb-true, ltb-false}
 use lib.Dec.{ltb, eqb}
 use lib.ListN.{length, take}
 use Rattle.rule.specs.Token.{tokens}
 use Rattle.rule.specs.Grammar.{Rule, yield, words, Wrong-at}
-use Rattle.rule.specs.Tree.{postfix}
 use Rattle.rule.specs.Measure.{Draft, Named, Sized, frames, depth, names, numbers}
-use Rattle.rule.specs.Judge.{Verdict, refused-by, read-as, codes, first-name, first-number, after-number, after-name, verdict}
+use Rattle.rule.specs.Judge.{refused-by, read-as, codes, first-name, first-number, after-number, after-name, verdict}
 use Rattle.rule.specs.Memory.{position, each, codeAt, valueAt}
 use Rattle.rule.specs.Check.{checkedOf}
 use Rattle.rule.specs.Meaning.{nameNumber, meaning}
 use Rattle.rule.specs.Reading.{refusedAs, readOf, treeBytes}
 use Rattle.rule.specs.Answers.{Spelled, NamesGood, NumbersGood, Within, ReadAs, Answered, refused-1, refused-2, refused-3, refused-4, refused-5, refused-6, refused-7, refused-8, accepted}
 use Rattle.rule.specs.Answers as answers
-use Rattle.rule.specs.declared.Frame.{Frame}
 use Rattle.rule.specs.declared.Token.{Token}
 use Rattle.rule.specs.declared.Checked.{Checked}
 use Rattle.rule.specs.declared.Reading.{Reading}

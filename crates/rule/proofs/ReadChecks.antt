@@ -1,16 +1,16 @@
 -- What the check of frames answers to the frames of a tree that 4, 5 and 6 leave: 7, 8 or accepted, never 9 or 10, by what the
 -- tree means. Assumes nothing.
-use mathlib.Core.Path.{_≡_, refl, ap, sym, subst, _∙_}
+use mathlib.Core.Path.{_≡_, refl, ap}
 use mathlib.Core.Logic.{_↔_}
-use mathlib.Core.List.{List, [], _++_}
-use Prim.Native.Nat.{ℕ, suc, _*_, _≤_, _<_}
+use mathlib.Core.List.{List, []}
+use Prim.Native.Nat.{ℕ, suc, _*_}
 use native.Mathlib.Omega.{arith}
 use native.Mathlib.Decide.{decLt}
 use lib.ListN.{length, take, drop, take-append-drop}
-use Rattle.rule.specs.Limits.{frameLimit, frameBytes}
+use Rattle.rule.specs.Limits.{frameBytes}
 use Rattle.rule.specs.Frames.{Bytes}
 use Rattle.rule.specs.Grammar.{Rule}
-use Rattle.rule.specs.Tree.{Cond, postfix, bytesOf, IsRule, references, parts, NoneExceeds}
+use Rattle.rule.specs.Tree.{Cond, IsRule, references, parts, NoneExceeds}
 use Rattle.rule.specs.Measure.{frames}
 use Rattle.rule.specs.Check.{refused, numberOf, checkedOf}
 use Rattle.rule.specs.Opening.{Whole, Place, Opening, refused-9, refused-10, refused-7, refused-8, accepted}

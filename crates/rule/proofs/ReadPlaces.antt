@@ -1,6 +1,6 @@
 -- Refusals 3 to 8 of `read`, each both ways, with the places of 3, 4 and 5. Assumes nothing.
 use mathlib.Core.Path.{_≡_, refl, ap, subst}
-use mathlib.Core.Logic.{_↔_, _⊎_, inl, inr}
+use mathlib.Core.Logic.{_↔_, inl, inr}
 use mathlib.Core.Bool.{Bool, true, false, cond}
 use mathlib.Core.List.{List, []}
 use mathlib.Core.Option.{none, some}
@@ -12,7 +12,7 @@ use borrow.Author.Tests.{lt-ltb}
 use Rattle.rule.specs.Token.{tokens}
 use Rattle.rule.specs.Grammar.{Rule, Wrong-at}
 use Rattle.rule.specs.Tree.{Cond, references, parts, NoneExceeds}
-use Rattle.rule.specs.Measure.{frames, depth, names, numbers, Draft, Named, Sized}
+use Rattle.rule.specs.Measure.{frames, depth, Draft, Named, Sized}
 use Rattle.rule.specs.Judge.{Verdict, refused-by, verdict, first-name, first-number}
 use Rattle.rule.specs.Memory.{codeAt, valueAt}
 use Rattle.rule.specs.Meaning.{meaning}

@@ -1,33 +1,31 @@
 -- The bytes of a tree's frames are those of the rule that it means, which is within the limits. Assumes nothing.
 use mathlib.Core.Path.{_≡_, refl, ap, ap₂, sym, subst, _∙_}
 use mathlib.Core.List.{List, [], _∷_, _++_}
-use Prim.Native.Nat.{ℕ, zero, suc, _+_, _-_, _*_, _/_, _%_, _≤_, _<_}
+use Prim.Native.Nat.{ℕ, zero, suc, _+_, _-_, _*_, _≤_}
 use native.Mathlib.Omega.{arith}
-use lib.IntN.{ℤ, pos, negℤ, natAbs}
+use lib.IntN.{pos, negℤ, natAbs}
 use lib.ListN.{length, take, replicate}
 use lib.Seq.{take-at}
 use mir.Syntax.{w32}
 use mir.Val.{ofZ}
 use Rattle.numbers.proofs.Ints.{natAbs-neg}
 use Rattle.rule.specs.Limits.{factorLimit, offsetLimit, frameBytes}
-use Rattle.rule.specs.Grammar.{Rule, index}
-use Rattle.rule.specs.Tree.{LimitsR, Limits, postfix, wordBytes, bytesOf, IsRule}
+use Rattle.rule.specs.Grammar.{Rule}
+use Rattle.rule.specs.Tree.{Limits, postfix, bytesOf, IsRule}
 use Rattle.rule.specs.Measure.{Draft, lit, index-var, ref, plain, frames, names}
 use Rattle.rule.specs.Judge.{codes}
 use Rattle.rule.specs.Memory.{position, negated, each, factorOf, offsetOf, fields, codeAt, valueAt}
 use Rattle.rule.specs.Reading.{bufferBytes, treeBytes}
 use Rattle.rule.specs.Answers.{Within}
-use Rattle.rule.specs.declared.Frame.{Frame}
 use Rattle.rule.specs.declared.memory.Fields.{Fields}
 use Rattle.rule.specs.declared.parts.Place.{Place}
 use Rattle.rule.specs.declared.parts.Role.the-variants.{Event, Note}
-use Rattle.rule.specs.declared.parts.Sign.{Sign}
 use Rattle.rule.specs.declared.parts.Sign.the-variants.{Plus, Minus}
 use Rattle.rule.specs.declared.parts.Scale.{Scale}
 use Rattle.rule.specs.declared.parts.Scale.the-variants.{Once, Times}
 use Rattle.rule.specs.declared.parts.Shift.{Shift}
 use Rattle.rule.specs.declared.parts.Shift.the-variants.{Unshifted, By}
-use Rattle.rule.specs.Meaning.{factorAt, offsetAt, referenceAt, nameNumber, meaning}
+use Rattle.rule.specs.Meaning.{factorAt, offsetAt, nameNumber, meaning}
 use Rattle.rule.proofs.Drafts.{All, length-each, frameOf, postfix-frames, LimitsD, limits-frames}
 use Rattle.rule.proofs.Numbered.{frames-fit}
 use Rattle.rule.proofs.Filled.{eight, packed, packed-length, filled}
