@@ -23,6 +23,16 @@ pub mod Close
 pub mod Settle
 pub mod ReadText
 pub mod ReadExactly
+pub mod SpellLists
+pub mod SpellWords
+pub mod SpellTokens
+pub mod SpellCodes
+pub mod SpellNames
+pub mod SpellNumbers
+pub mod SpellTurn
+pub mod SpellShapes
+pub mod SpellTrees
+pub mod SpellMain
 pub mod ReadAnswers
 pub mod ReadPlaces
 pub mod KindBytes
