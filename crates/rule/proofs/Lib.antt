@@ -13,6 +13,16 @@ pub mod Trees
 pub mod Rules
 pub mod Measures
 pub mod Depth
+pub mod SpellLists
+pub mod SpellWords
+pub mod SpellTokens
+pub mod SpellCodes
+pub mod SpellNames
+pub mod SpellNumbers
+pub mod SpellTurn
+pub mod SpellShapes
+pub mod SpellTrees
+pub mod SpellMain
 pub mod Registers
 pub mod Bytes
 pub mod Answer

@@ -9,6 +9,7 @@ pub mod Measure
 pub mod Machine
 pub mod Judge
 pub mod Memory
+pub mod Spelling
 pub mod Does
 pub mod Frames
 pub mod Tree
