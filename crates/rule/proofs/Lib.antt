@@ -32,8 +32,14 @@ pub mod Marked
 pub mod Close
 pub mod Settle
 pub mod ReadText
-pub mod ReadExactly
+pub mod Drafts
+pub mod Numbered
+pub mod Filled
+pub mod TreeBytes
+pub mod ReadChecks
+pub mod ReadFrames
 pub mod ReadAnswers
+pub mod ReadExactly
 pub mod ReadPlaces
 pub mod KindBytes
 pub mod Stack

@@ -21,4 +21,5 @@ pub mod Build
 pub mod Check
 pub mod Opening
 pub mod Reading
+pub mod Meaning
 pub mod Answers
