@@ -19,6 +19,7 @@ pub mod SpellTokens
 pub mod SpellCodes
 pub mod SpellNames
 pub mod SpellNumbers
+pub mod SpellMeaning
 pub mod SpellTurn
 pub mod SpellShapes
 pub mod SpellTrees

@@ -17,7 +17,7 @@ use Rattle.rule.specs.declared.parts.Role.{Role}
 use Rattle.rule.proofs.Words.{same-refl, same-eq}
 use Rattle.rule.proofs.Codes.{Letters, long-code, short-below, names-apart}
 use Rattle.rule.specs.Spelling.{amongWords, numberIn, wordsOf}
-use Rattle.rule.proofs.SpellLists.{All}
+use Rattle.rule.proofs.Drafts.{All}
 
 -- a word of at most 12 letters
 pub record Short (w : List ℕ) : Type 0 where

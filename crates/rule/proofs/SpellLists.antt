@@ -1,22 +1,14 @@
 -- What holds of every member of a list. Assumes nothing.
-use mathlib.Core.Path.{_≡_, refl, ap, sym, _∙_}
+use mathlib.Core.Path.{_≡_, ap, sym, _∙_}
 use mathlib.Core.List.{List, [], _∷_, _++_, append-assoc}
 use Rattle.rule.specs.Memory.{each}
 use Rattle.rule.specs.Spelling.{In, here, there}
-
--- P of every member
-abbrev pub All : {A : Type 0} → (A → Type 0) → List A → Type 0
-All P [] = Unit {0}
-All P (a ∷ l) = P a × All P l
+use Rattle.rule.proofs.Drafts.{each-append, All}
 
 module _ {A : Type 0} where
   pub all-in : (P : A → Type 0) {l : List A} {a : A} → In a l → All P l → P a
   all-in P here h = h .0
   all-in P (there i) h = all-in P i (h .1)
-
-  pub all-join : (P : A → Type 0) (l m : List A) → All P l → All P m → All P (l ++ m)
-  all-join P [] m h k = k
-  all-join P (a ∷ l) m h k = (h .0, all-join P l m (h .1) k)
 
   pub all-map : (P Q : A → Type 0) (l : List A) → ((a : A) → P a → Q a) → All P l → All Q l
   all-map P Q [] f h = tt
@@ -32,10 +24,6 @@ module _ {A B : Type 0} (f : A → B) where
   all-each P [] h = tt
   all-each P (a ∷ l) h = (h .0, all-each P l (h .1))
 
-  each-join : (l m : List A) → each f (l ++ m) ≡ each f l ++ each f m
-  each-join [] m = refl
-  each-join (a ∷ l) m = ap (λ (k : List B). f a ∷ k) (each-join l m)
-
   -- two parts, one after the other, and then u
   pub both : (l m : List A) (u : List B) {s t : List B} → s ≡ each f l ++ t → t ≡ each f m ++ u → s ≡ each f (l ++ m) ++ u
-  both l m u d e = d ∙ (ap (λ (k : List B). each f l ++ k) e ∙ (sym (append-assoc (each f l) (each f m) u) ∙ ap (λ (k : List B). k ++ u) (sym (each-join l m))))
+  both l m u d e = d ∙ (ap (λ (k : List B). each f l ++ k) e ∙ (sym (append-assoc (each f l) (each f m) u) ∙ ap (λ (k : List B). k ++ u) (sym (each-append f l m))))

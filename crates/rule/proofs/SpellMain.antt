@@ -10,15 +10,17 @@ use Rattle.rule.specs.Grammar.{Rule, yield, words}
 use Rattle.rule.specs.Measure.{Named, names, Sized, numbers, depth}
 use Rattle.rule.specs.Judge.{codes, first-name, first-number}
 use Rattle.rule.specs.Memory.{letters, codeAt, valueAt, position}
+use Rattle.rule.specs.Meaning.{meaning}
 use Rattle.rule.specs.declared.Token.{Token}
 use Rattle.rule.specs.declared.parts.Role.{Role}
 use Rattle.rule.proofs.Codes.{Letters}
 use Rattle.rule.proofs.Runs.{OfClass}
-use Rattle.rule.specs.Spelling.{In, TokenOf, nameAt, numberAt, firstName, firstNumber, numberOfName}
+use Rattle.rule.specs.Spelling.{In, TokenOf, nameAt, numberAt, firstName, firstNumber, numberOfName, spelledMeaning}
 use Rattle.rule.proofs.SpellLists.{all-in}
 use Rattle.rule.proofs.SpellTokens
 use Rattle.rule.proofs.SpellNames
 use Rattle.rule.proofs.SpellNumbers
+use Rattle.rule.proofs.SpellMeaning
 use Rattle.rule.proofs.SpellTrees
 
 module _ (text : List ℕ) (x : Rule) where
@@ -49,6 +51,10 @@ module _ (text : List ℕ) (x : Rule) where
   -- where no number is beyond its limit, the value that each has is the decimal one
   pub value-same : firstNumber text (numbers x) ≡ none → (n : Sized) → In n (numbers x) → valueAt text (numberAt n) ≡ decimal (letters text (numberAt n))
   value-same e n i = all-in (SpellNumbers.Exact text) i (SpellNumbers.value-same text (numbers x) e)
+
+  -- where no name and no number is bad, what the tree means by codes and capped values is what it means by letters and decimal values
+  pub meaning-same : yield x ≡ words (tokens text) → firstName text [] (names x) ≡ none → firstNumber text (numbers x) ≡ none → meaning text x ≡ spelledMeaning text x
+  meaning-same = SpellMeaning.meaning-same text x
 
 -- a text is spelled by one tree only
 pub tree-unique : (x y : Rule) (ts : List Token) → yield x ≡ words ts → yield y ≡ words ts → x ≡ y

@@ -15,7 +15,8 @@ use Rattle.rule.specs.declared.parts.Place.{Place}
 use Rattle.rule.specs.declared.parts.Role.{Role}
 use Rattle.rule.proofs.Codes.{Letters, long-code}
 use Rattle.rule.specs.Spelling.{nameAt, amongWords, numberIn, wordsOf, longAt, badName, firstName}
-use Rattle.rule.proofs.SpellLists.{All, all-join, all-map}
+use Rattle.rule.proofs.Drafts.{All, all-join}
+use Rattle.rule.proofs.SpellLists.{all-map}
 use Rattle.rule.proofs.SpellCodes.{Short, ShortIn, long-same, count-same, among-same, long-absent, position-same}
 
 module _ (text : List ℕ) where

@@ -15,7 +15,7 @@ use Rattle.rule.specs.declared.parts.Limit.{Limit}
 use Rattle.rule.specs.declared.parts.Limit.the-variants.{OfLiteral, OfFactor, OfOffset}
 use Rattle.rule.proofs.Decimals.{number-exact}
 use Rattle.rule.specs.Spelling.{numberAt, firstNumber}
-use Rattle.rule.proofs.SpellLists.{All}
+use Rattle.rule.proofs.Drafts.{All}
 
 over-same : (ds : List ℕ) (limit : ℕ) → limit < most → ltb limit (numberValue ds) ≡ ltb limit (decimal ds)
 unfolding numberValue

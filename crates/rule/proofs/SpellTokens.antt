@@ -17,7 +17,8 @@ use Rattle.rule.proofs.Codes.{Letters}
 use Rattle.rule.proofs.Runs.{OfClass, word-letters, number-digits}
 use Rattle.rule.proofs.Runs as runs
 use Rattle.rule.specs.Spelling.{In, TokenOf, nameAt, numberAt}
-use Rattle.rule.proofs.SpellLists.{All, all-in, all-map, all-own, all-each}
+use Rattle.rule.proofs.Drafts.{All}
+use Rattle.rule.proofs.SpellLists.{all-in, all-map, all-own, all-each}
 use Rattle.rule.proofs.SpellWords.{namesIn, numbersIn, names-spelled, numbers-spelled}
 
 -- ---- the name words of tokens are at the name tokens, the number words at the number tokens

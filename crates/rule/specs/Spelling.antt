@@ -14,9 +14,12 @@ use Rattle.rule.specs.Grammar.{Rule, place}
 use Rattle.rule.specs.Measure.{Named, declared, used, names, Sized, sized-by}
 use Rattle.rule.specs.Judge.{same-role, room, beyond}
 use Rattle.rule.specs.Memory.{letters}
+use Rattle.rule.specs.Tree.{Cond}
+use Rattle.rule.specs.Meaning.{meaningOf}
 use Rattle.rule.specs.declared.Token.{Token}
 use Rattle.rule.specs.declared.parts.Place.{Place}
 use Rattle.rule.specs.declared.parts.Role.{Role}
+use Rattle.rule.specs.declared.parts.Role.the-variants.{Event, Note}
 
 -- a is a member of the list
 pub data In {A : Type 0} (a : A) : List A → Type 0 where
@@ -82,3 +85,7 @@ module _ (text : List ℕ) where
   -- "Events and notes are numbered from 0 as declared": the number of the name at p, of those that the tree declares in the role
   abbrev pub numberOfName : Role → Rule → Place → ℕ
   numberOfName r x p = numberIn (letters text p) (wordsOf r (names x))
+
+  -- what a tree that spells the text means, its names numbered by their letters, its numbers by their decimal values
+  abbrev pub spelledMeaning : Rule → Cond
+  spelledMeaning x = meaningOf (numberOfName Event x) (numberOfName Note x) (λ p. decimal (letters text p)) x
