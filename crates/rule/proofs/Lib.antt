@@ -23,7 +23,7 @@ pub mod SpellMeaning
 pub mod SpellTurn
 pub mod SpellShapes
 pub mod SpellTrees
-pub mod SpellMain
+pub mod SpellSame
 pub mod Registers
 pub mod Bytes
 pub mod Answer

@@ -5,7 +5,7 @@ use mathlib.Core.List.{List}
 use Prim.Native.Nat.{ℕ, _≤_, _<_, zero-le}
 use lib.ListN.{length, getD}
 use Rattle.rule.specs.Class.{letter, digit, blank, classOf}
-use Rattle.rule.specs.Token.{endKind, numberKind, eventsKind, notesKind, indexKind, absKind, eventsWord, notesWord, indexWord, absWord, wordKind, tokenAt, spelling, tokens}
+use Rattle.rule.specs.Token.{endKind, nameKind, numberKind, eventsKind, notesKind, indexKind, absKind, eventsWord, notesWord, indexWord, absWord, wordKind, tokenAt, spelling, tokens}
 use Rattle.rule.specs.Name.{longName, nameCode}
 use Rattle.rule.specs.Number.{most, decimal, numberValue}
 use Rattle.rule.proofs.Codes.{Letters}
@@ -29,18 +29,22 @@ use Rattle.rule.proofs.Count
 use Rattle.rule.proofs.Opening
 use Rattle.rule.proofs.Exactly
 use mathlib.Core.List.{[]}
-use Prim.Native.Nat.{_*_, min}
+use Prim.Native.Nat.{_*_}
 use lib.ListN.{take}
 use Rattle.rule.specs.Limits.{frameBytes}
 use Rattle.rule.specs.Grammar.{Rule, yield, Wrong-at}
 use Rattle.rule.specs.Grammar.{words as spelled}
-use Rattle.rule.specs.Measure.{frames, depth, names, numbers}
+use Rattle.rule.specs.Measure.{frames, Named, names, Sized, numbers}
+use Rattle.rule.specs.Memory.{letters}
+use Rattle.rule.specs.Spelling.{In, TokenOf, nameAt, numberAt}
 use Rattle.rule.specs.Reading.{bufferBytes, refusedAs, readOf}
 use Rattle.rule.specs.Meaning.{meaning}
 use Rattle.rule.specs.Answers.{Spelled, BadName, NamesGood, BadNumber, NumbersGood, Oversized, Within, ReadAs, Answered}
 use Rattle.rule.specs.Answers as answers
 use Rattle.rule.specs.declared.Token.{Token}
 use Rattle.rule.specs.declared.Reading.the-variants as reading
+use Rattle.rule.proofs.SpellSame
+use Rattle.rule.proofs.SpellTrees
 use Rattle.rule.proofs.TreeBytes
 use Rattle.rule.proofs.ReadText
 use Rattle.rule.proofs.ReadExactly
@@ -137,10 +141,19 @@ reads-exactly = ReadExactly.reads-exactly
 pub read-tree : (text b : List ℕ) (n : ℕ) (s : List ℕ) → readOf text b ≡ (reading.Frames n, s) → (x : Rule) → yield x ≡ spelled (tokens text) → treeOf (take (n * frameBytes) s) ≡ meaning text x
 read-tree = ReadExactly.read-tree
 
--- two trees of one text have the same frames, names and numbers, the same depth up to 17, and mean the same
-pub unambiguous : (x y : Rule) (ts : List Token) → yield x ≡ spelled ts → yield y ≡ spelled ts
-    → (frames x ≡ frames y) × (names x ≡ names y) × (numbers x ≡ numbers y) × (min 17 (depth x) ≡ min 17 (depth y)) × ((text : List ℕ) → meaning text x ≡ meaning text y)
-unambiguous = ReadAnswers.unambiguous
+pub read-bytes : (text b : List ℕ) (n : ℕ) (s : List ℕ) → readOf text b ≡ (reading.Frames n, s) → Bytes (take (n * frameBytes) s)
+read-bytes = ReadExactly.read-bytes
+
+-- a text is spelled by one tree only, so that its names, numbers, depth and meaning are one too
+pub unambiguous : (x y : Rule) (ts : List Token) → yield x ≡ spelled ts → yield y ≡ spelled ts → x ≡ y
+unambiguous = SpellTrees.tree-unique
+
+-- each name of it stands at a name token of the text, and its bytes are letters; each number at a number token, and they are digits
+pub names-lettered : (text : List ℕ) (x : Rule) → yield x ≡ spelled (tokens text) → (n : Named) → In n (names x) → TokenOf text nameKind (nameAt n) × Letters (letters text (nameAt n))
+names-lettered = SpellSame.names-lettered
+
+pub numbers-digits : (text : List ℕ) (x : Rule) → yield x ≡ spelled (tokens text) → (n : Sized) → In n (numbers x) → TokenOf text numberKind (numberAt n) × OfClass digit (letters text (numberAt n))
+numbers-digits = SpellSame.numbers-digits
 
 -- what a tree that 4, 5 and 6 leave means is within the limits of frames
 pub meaning-limits : (text : List ℕ) (x : Rule) → Within text x → Limits (meaning text x)

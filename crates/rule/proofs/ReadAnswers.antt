@@ -1,59 +1,32 @@
--- Each answer of `read` says what is so of the text; and two trees of one text are alike. Assumes nothing.
-use mathlib.Core.Path.{_≡_, refl, ap, ap₂, sym, subst, _∙_}
+-- Each answer of `read` says what is so of the text. Assumes nothing.
+use mathlib.Core.Path.{_≡_, refl, ap, sym, subst, _∙_}
 use mathlib.Core.Logic.{_⊎_, inl, inr}
 use mathlib.Core.Bool.{Bool, true, false, cond}
 use mathlib.Core.List.{List, []}
 use mathlib.Core.Option.{Option, none, some}
-use Prim.Native.Nat.{ℕ, _*_, _<_, min}
+use Prim.Native.Nat.{ℕ, _*_, _<_}
 use native.Mathlib.Omega.{arith}
 use borrow.Author.Tests.{eqb-true, eqb-false, ltb-true, ltb-false}
 use lib.Dec.{ltb, eqb}
 use lib.ListN.{length, take}
 use Rattle.rule.specs.Token.{tokens}
 use Rattle.rule.specs.Grammar.{Rule, yield, words, Wrong-at}
-use Rattle.rule.specs.Measure.{Draft, Named, Sized, frames, depth, names, numbers}
-use Rattle.rule.specs.Judge.{refused-by, read-as, codes, first-name, first-number, after-number, after-name, verdict}
-use Rattle.rule.specs.Memory.{position, each, codeAt, valueAt}
+use Rattle.rule.specs.Measure.{frames, depth, names, numbers}
+use Rattle.rule.specs.Judge.{refused-by, read-as, first-name, first-number, after-number, after-name, verdict}
+use Rattle.rule.specs.Memory.{codeAt, valueAt}
 use Rattle.rule.specs.Check.{checkedOf}
-use Rattle.rule.specs.Meaning.{nameNumber, meaning}
+use Rattle.rule.specs.Meaning.{meaning}
 use Rattle.rule.specs.Reading.{refusedAs, readOf, treeBytes}
 use Rattle.rule.specs.Answers.{Spelled, NamesGood, NumbersGood, Within, ReadAs, Answered, refused-1, refused-2, refused-3, refused-4, refused-5, refused-6, refused-7, refused-8, accepted}
 use Rattle.rule.specs.Answers as answers
-use Rattle.rule.specs.declared.Token.{Token}
 use Rattle.rule.specs.declared.Checked.{Checked}
 use Rattle.rule.specs.declared.Reading.{Reading}
 use Rattle.rule.specs.declared.parts.Place.{Place}
-use Rattle.rule.specs.declared.parts.Role.the-variants.{Event, Note}
-use Rattle.rule.proofs.Rules.{alike}
-use Rattle.rule.proofs.Measures.{note-frame, note-name, note-number, note-depth, frames-read, names-read, numbers-read}
-use Rattle.rule.proofs.Depth.{depth-read}
-use Rattle.rule.proofs.Parse.{unique}
 use Rattle.rule.proofs.Settle.{one, two-none, two-many}
 use Rattle.rule.proofs.ReadText.{outside, as-judged, either}
-use Rattle.rule.proofs.Drafts.{frameOf, postfix-frames}
+use Rattle.rule.proofs.SpellSame.{first-name-same, first-number-same}
 use Rattle.rule.proofs.ReadChecks.{Checks, no-reference, too-great, proper, checks}
 use Rattle.rule.proofs.ReadFrames.{tree-refused, tree-read}
-
--- ---- two trees of one text are alike
--- trees with the same frames and the same names mean the same
-same-meaning : (x y : Rule) → frames x ≡ frames y → names x ≡ names y → (text : List ℕ) → meaning text x ≡ meaning text y
-same-meaning x y e f text =
-    unique (meaning text x) (meaning text y)
-    (postfix-frames (nameNumber text x Event) (nameNumber text x Note) (valueAt text) x
-    ∙ (ap₂ (λ (l : List Named) (ds : List Draft). each (frameOf (λ p. position (codeAt text p) (codes (codeAt text) (valueAt text) Event l)) (λ p. position (codeAt text p) (codes (codeAt text) (valueAt text) Note l)) (valueAt text)) ds) f e
-    ∙ sym (postfix-frames (nameNumber text y Event) (nameNumber text y Note) (valueAt text) y)))
-
-pub unambiguous : (x y : Rule) (ts : List Token) → yield x ≡ words ts → yield y ≡ words ts
-    → (frames x ≡ frames y) × (names x ≡ names y) × (numbers x ≡ numbers y) × (min 17 (depth x) ≡ min 17 (depth y)) × ((text : List ℕ) → meaning text x ≡ meaning text y)
-unambiguous x y ts e f =
-    let g : frames x ≡ frames y = sym (frames-read x) ∙ (alike (List Draft) note-frame 0 [] x y ts e f ∙ frames-read y) in
-    let h : names x ≡ names y = sym (names-read x) ∙ (alike (List Named) note-name 0 [] x y ts e f ∙ names-read y) in (
-      g,
-      h,
-      sym (numbers-read x) ∙ (alike (List Sized) note-number 0 [] x y ts e f ∙ numbers-read y),
-      sym (depth-read x) ∙ (alike ℕ note-depth 0 0 x y ts e f ∙ depth-read y),
-      same-meaning x y g h,
-    )
 
 -- ---- the answers
 module _ (text b : List ℕ) (fit : length b ≡ 512) (size : answers.Sized (length text)) where
@@ -87,14 +60,14 @@ module _ (text b : List ℕ) (fit : length b ≡ 512) (size : answers.Sized (len
         → (o : Option Place) → first-number (codeAt text) (valueAt text) (numbers x) ≡ o → Answered text b (readOf text b)
     by-five e v (some q) f =
         back _ (judged 5 (q .start) (v ∙ ap (λ (o : Option Place). after-number (codeAt text) (valueAt text) x o) f) (λ z. omega arith))
-        (refused-5 fit spelled e (record { number = q; first = f; starts = refl }))
-    by-five e v none f = by-six e f (v ∙ ap (λ (o : Option Place). after-number (codeAt text) (valueAt text) x o) f) (ltb 16 (depth x)) (ltb 64 (length (frames x))) refl refl
+        (refused-5 fit spelled e (record { number = q; first = sym (first-number-same text x) ∙ f; starts = refl }))
+    by-five e v none f = by-six e (sym (first-number-same text x) ∙ f) (v ∙ ap (λ (o : Option Place). after-number (codeAt text) (valueAt text) x o) f) (ltb 16 (depth x)) (ltb 64 (length (frames x))) refl refl
 
     by-four : (o : Option Place) → first-name (codeAt text) (valueAt text) [] (names x) ≡ o → Answered text b (readOf text b)
     by-four (some q) e =
         back _ (judged 4 (q .start) (ap (λ (o : Option Place). after-name (codeAt text) (valueAt text) x o) e) (λ z. omega arith))
-        (refused-4 fit spelled (record { name = q; first = e; starts = refl }))
-    by-four none e = by-five e (ap (λ (o : Option Place). after-name (codeAt text) (valueAt text) x o) e) (first-number (codeAt text) (valueAt text) (numbers x)) refl
+        (refused-4 fit spelled (record { name = q; first = sym (first-name-same text x y) ∙ e; starts = refl }))
+    by-four none e = by-five (sym (first-name-same text x y) ∙ e) (ap (λ (o : Option Place). after-name (codeAt text) (valueAt text) x o) e) (first-number (codeAt text) (valueAt text) (numbers x)) refl
 
   in-text : ((x : Rule) × (yield x ≡ words (tokens text))) ⊎ ((p : ℕ) × Wrong-at (length text) (tokens text) p) → Answered text b (readOf text b)
   in-text (inl (x, y)) = by-four x y (first-name (codeAt text) (valueAt text) [] (names x)) refl

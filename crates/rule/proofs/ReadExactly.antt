@@ -6,6 +6,7 @@ use Prim.Native.Nat.{ℕ, _-_, _*_}
 use native.Mathlib.Omega.{arith}
 use lib.ListN.{length, take, replicate}
 use Rattle.rule.specs.Limits.{frameBytes}
+use Rattle.rule.specs.Frames.{Bytes}
 use Rattle.rule.specs.Token.{tokens}
 use Rattle.rule.specs.Grammar.{Rule, yield, words}
 use Rattle.rule.specs.Tree.{postfix, bytesOf}
@@ -16,10 +17,11 @@ use Rattle.rule.specs.Reading.{bufferBytes, refusedAs, readOf, treeBytes
 use Rattle.rule.specs.Answers.{ReadAs, Answered, refused-1, refused-2, refused-3, refused-4, refused-5, refused-6, refused-7, refused-8, accepted}
 use Rattle.rule.specs.declared.Reading.{Reading}
 use Rattle.rule.specs.declared.Reading.the-variants as reading
-use Rattle.rule.proofs.Accept.{tree-of}
-use Rattle.rule.proofs.TreeBytes.{tree-bytes, tree-rule}
+use Rattle.rule.proofs.Accept.{rule-bytes, tree-of}
+use Rattle.rule.proofs.TreeBytes.{meaning-limits, tree-bytes, tree-taken}
 use Rattle.rule.proofs.ReadFrames.{tree-read}
-use Rattle.rule.proofs.ReadAnswers.{unambiguous, answered}
+use Rattle.rule.proofs.ReadAnswers.{answered}
+use Rattle.rule.proofs.SpellTrees.{tree-unique}
 
 -- frames are no refusal
 no-frames : {k p n : ℕ} {b s : List ℕ} → _≡_ {A = Reading × List ℕ} (refusedAs k p, b) (reading.Frames n, s) → ⊥
@@ -47,16 +49,25 @@ module _ (text b : List ℕ) (n : ℕ) (s : List ℕ) where
   pub reads-exactly : (readOf text b ≡ (reading.Frames n, s)) ↔ ((length b ≡ bufferBytes) × ReadAs text n s)
   reads-exactly = (from-answer (readOf text b) (answered text b), λ (h, r). tree-read text b h n s r)
 
-  built : (r : ReadAs text n s) → treeOf (take (n * 8) s) ≡ meaning text (r .tree)
-  built r =
+  -- the frames alone
+  taken : (r : ReadAs text n s) → take (n * 8) s ≡ bytesOf (postfix (meaning text (r .tree)))
+  taken r =
       let t = r .tree in
       let w = r .within in
-      let q : bytesOf (postfix (meaning text t)) ++ replicate (512 - length (frames t) * 8) 0 ≡ treeBytes text t = sym (tree-bytes text t w) in
-      let z : s ≡ treeBytes text t = r .bytes ∙ (ap (λ (k : ℕ). bytesOf (postfix (meaning text t)) ++ replicate (512 - k * 8) 0) (r .count) ∙ q) in
-      ap₂ (λ (k : ℕ) (l : List ℕ). treeOf (take (k * 8) l)) (r .count) z ∙ tree-of (tree-rule text t w)
+      let z : s ≡ treeBytes text t = r .bytes ∙ (ap (λ (k : ℕ). bytesOf (postfix (meaning text t)) ++ replicate (512 - k * 8) 0) (r .count) ∙ sym (tree-bytes text t w)) in
+      ap₂ (λ (k : ℕ) (l : List ℕ). take (k * 8) l) (r .count) z ∙ tree-taken text t w
+
+  built : (r : ReadAs text n s) → treeOf (take (n * 8) s) ≡ meaning text (r .tree)
+  built r = tree-of (record { tree = meaning text (r .tree); limits = meaning-limits text (r .tree) (r .within); bytes = taken r })
 
   -- the frames that were read build the tree that the text means, whichever tree spells it
   pub read-tree : readOf text b ≡ (reading.Frames n, s) → (x : Rule) → yield x ≡ words (tokens text) → treeOf (take (n * frameBytes) s) ≡ meaning text x
   read-tree e x y =
       let r = from-answer (readOf text b) (answered text b) e .1 in
-      built r ∙ unambiguous (r .tree) x (tokens text) (r .within .spelled .spells) y .4 text
+      built r ∙ ap (λ (z : Rule). meaning text z) (tree-unique (r .tree) x (tokens text) (r .within .spelled .spells) y)
+
+  -- the frames that were read are bytes
+  pub read-bytes : readOf text b ≡ (reading.Frames n, s) → Bytes (take (n * frameBytes) s)
+  read-bytes e =
+      let r = from-answer (readOf text b) (answered text b) e .1 in
+      subst Bytes (sym (taken r)) (rule-bytes (meaning text (r .tree)) (meaning-limits text (r .tree) (r .within)))

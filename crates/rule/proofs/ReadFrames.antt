@@ -24,7 +24,7 @@ use Rattle.rule.proofs.Walk.{readRule}
 use Rattle.rule.proofs.Registers.{told-right}
 use Rattle.rule.proofs.Bytes.{bytes-read}
 use Rattle.rule.proofs.ReadText.{in-grammar}
-use Rattle.rule.proofs.TreeBytes.{tree-bytes}
+use Rattle.rule.proofs.TreeBytes.{coded-names, coded-numbers, tree-bytes}
 use Rattle.rule.proofs.ReadChecks.{check-accepted}
 
 -- the registers that refuse nothing tell the number of frames
@@ -57,7 +57,7 @@ module _ (text b : List ℕ) (fit : length b ≡ 512) where
     after = readRule Mem (acts text) x (fresh (replicate 512 0))
 
     judged-well : verdict (codeAt text) (valueAt text) x ≡ read-as (frames x)
-    judged-well = rw (w .names-good, w .numbers-good, le-ltb 16 (depth x) (w .shallow), le-ltb 64 (length (frames x)) (w .few-frames))
+    judged-well = rw (coded-names text x w, coded-numbers text x w, le-ltb 16 (depth x) (w .shallow), le-ltb 64 (length (frames x)) (w .few-frames))
 
     told-tree : told after ≡ (0, length (frames x))
     unfolding acts
@@ -65,7 +65,7 @@ module _ (text b : List ℕ) (fit : length b ≡ 512) where
 
     bytes-tree : after .bytes ≡ treeBytes text x
     unfolding acts
-    bytes-tree = bytes-read (codeAt text) (valueAt text) (replicate 512 0) x (w .names-good)
+    bytes-tree = bytes-read (codeAt text) (valueAt text) (replicate 512 0) x (coded-names text x w)
 
     its-answer : (a : Checked) → checkedOf (take (length (frames x) * 8) (treeBytes text x)) ≡ a → readOf text b ≡ afterCheck b after a
     its-answer a q =

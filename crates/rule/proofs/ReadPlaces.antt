@@ -1,19 +1,18 @@
 -- Refusals 3 to 8 of `read`, each both ways, with the places of 3, 4 and 5. Assumes nothing.
-use mathlib.Core.Path.{_≡_, refl, ap, subst}
+use mathlib.Core.Path.{_≡_, refl, ap, subst, _∙_}
 use mathlib.Core.Logic.{_↔_, inl, inr}
 use mathlib.Core.Bool.{Bool, true, false, cond}
 use mathlib.Core.List.{List, []}
-use mathlib.Core.Option.{none, some}
-use Prim.Native.Nat.{ℕ, zero, suc, _≤_, _<_, min}
+use Prim.Native.Nat.{ℕ, zero, suc, _<_}
 use native.Mathlib.Omega.{arith}
 use lib.Dec.{ltb}
 use lib.ListN.{length}
 use borrow.Author.Tests.{lt-ltb}
 use Rattle.rule.specs.Token.{tokens}
 use Rattle.rule.specs.Grammar.{Rule, Wrong-at}
-use Rattle.rule.specs.Tree.{Cond, references, parts, NoneExceeds}
-use Rattle.rule.specs.Measure.{frames, depth, Draft, Named, Sized}
-use Rattle.rule.specs.Judge.{Verdict, refused-by, verdict, first-name, first-number}
+use Rattle.rule.specs.Tree.{references, parts, NoneExceeds}
+use Rattle.rule.specs.Measure.{frames, depth}
+use Rattle.rule.specs.Judge.{Verdict, refused-by, verdict}
 use Rattle.rule.specs.Memory.{codeAt, valueAt}
 use Rattle.rule.specs.Meaning.{meaning}
 use Rattle.rule.specs.Reading.{bufferBytes, refusedAs, readOf}
@@ -24,39 +23,14 @@ use Rattle.rule.specs.declared.Reading.the-variants as reading
 use Rattle.rule.proofs.ReadText.{outside, as-judged}
 use Rattle.rule.proofs.ReadChecks.{check-7, check-8}
 use Rattle.rule.proofs.ReadFrames.{tree-refused}
-use Rattle.rule.proofs.ReadAnswers.{unambiguous, answered}
+use Rattle.rule.proofs.ReadAnswers.{answered}
+use Rattle.rule.proofs.SpellSame.{first-name-same, first-number-same}
+use Rattle.rule.proofs.SpellTrees.{tree-unique}
 
--- ---- two trees of one text: what is said of one is so of the other
-module _ (text : List ℕ) (x y : Rule) (s : Spelled text x) (t : Spelled text y) where
-  names-too : NamesGood text x → NamesGood text y
-  names-too = subst (λ (l : List Named). first-name (codeAt text) (valueAt text) [] l ≡ none) (unambiguous x y (tokens text) (s .spells) (t .spells) .1)
-
-  numbers-too : NumbersGood text x → NumbersGood text y
-  numbers-too = subst (λ (l : List Sized). first-number (codeAt text) (valueAt text) l ≡ none) (unambiguous x y (tokens text) (s .spells) (t .spells) .2)
-
-  bad-name-too : (p : ℕ) → BadName text x p → BadName text y p
-  bad-name-too p f =
-      record { name = f .name; first = subst (λ (l : List Named). first-name (codeAt text) (valueAt text) [] l ≡ some (f .name)) (unambiguous x y (tokens text) (s .spells) (t .spells) .1) (f .first); starts = f .starts }
-
-  bad-number-too : (p : ℕ) → BadNumber text x p → BadNumber text y p
-  bad-number-too p f =
-      record { number = f .number; first = subst (λ (l : List Sized). first-number (codeAt text) (valueAt text) l ≡ some (f .number)) (unambiguous x y (tokens text) (s .spells) (t .spells) .2) (f .first); starts = f .starts }
-
-  frames-too : (P : ℕ → Type 0) → P (length (frames x)) → P (length (frames y))
-  frames-too P = subst (λ (l : List Draft). P (length l)) (unambiguous x y (tokens text) (s .spells) (t .spells) .0)
-
-  oversized-too : Oversized x → Oversized y
-  oversized-too (inl h) = let d : min 17 (depth x) ≡ min 17 (depth y) = unambiguous x y (tokens text) (s .spells) (t .spells) .3 in inl (omega arith)
-  oversized-too (inr h) = inr (frames-too (λ n. 64 < n) h)
-
-  within-too : Within text x → Within text y
-  within-too w =
-      let d : min 17 (depth x) ≡ min 17 (depth y) = unambiguous x y (tokens text) (s .spells) (t .spells) .3 in
-      let h = w .shallow in
-      record { spelled = t; names-good = names-too (w .names-good); numbers-good = numbers-too (w .numbers-good); shallow = omega arith; few-frames = frames-too (λ n. n ≤ 64) (w .few-frames) }
-
-  meaning-too : (P : Cond → Type 0) → P (meaning text x) → P (meaning text y)
-  meaning-too P = subst P (unambiguous x y (tokens text) (s .spells) (t .spells) .4 text)
+-- ---- what is said of the tree of a text is so of every tree that spells it, as there is one only
+module _ (text : List ℕ) (P : Rule → Type 0) where
+  of-all : (x : Rule) → Spelled text x → P x → (y : Rule) → Spelled text y → P y
+  of-all x s p y t = subst P (tree-unique x y (tokens text) (s .spells) (t .spells)) p
 
 -- ---- what an answer says of the text
 module _ (text b : List ℕ) where
@@ -88,16 +62,11 @@ module _ (text b : List ℕ) where
   says (refused-1 h) = tt
   says (refused-2 h s) = tt
   says (refused-3 h s w) = w
-  says (refused-4 {x} {p} h s f) = λ y t. bad-name-too text x y s t p f
-  says (refused-5 {x} {p} h s f g) = λ y t. (names-too text x y s t f, bad-number-too text x y s t p g)
-  says (refused-6 {x} h s f g o) = λ y t. (names-too text x y s t f, numbers-too text x y s t g, oversized-too text x y s t o)
-  says (refused-7 {x} h w r) = λ y t. (within-too text x y (w .spelled) t w, meaning-too text x y (w .spelled) t (λ c. references c ≡ []) r)
-  says (refused-8 {x} h w r o) =
-      λ y t. (
-        within-too text x y (w .spelled) t w,
-        meaning-too text x y (w .spelled) t (λ c. references c ≡ [] → ⊥) r,
-        meaning-too text x y (w .spelled) t (λ c. NoneExceeds (parts c) → ⊥) o,
-      )
+  says (refused-4 {x} {p} h s f) = of-all text (λ y. BadName text y p) x s f
+  says (refused-5 {x} {p} h s f g) = of-all text (λ y. NamesGood text y × BadNumber text y p) x s (f, g)
+  says (refused-6 {x} h s f g o) = of-all text (λ y. NamesGood text y × NumbersGood text y × Oversized y) x s (f, g, o)
+  says (refused-7 {x} h w r) = of-all text Unnamed x (w .spelled) (w, r)
+  says (refused-8 {x} h w r o) = of-all text Exceeding x (w .spelled) (w, r, o)
   says (accepted h r) = tt
 
   said : (k p : ℕ) → readOf text b .0 ≡ refusedAs k p → Said k p
@@ -115,15 +84,16 @@ module _ (text b : List ℕ) where
 
       -- 4: the first bad name of the tree
       pub place-4 : (p : ℕ) → (readOf text b .0 ≡ refusedAs 4 p) ↔ BadName text x p
-      place-4 p = (λ e. said 4 p e x y, λ f. judged 4 p (rw (f .first, f .starts)) (λ z. omega arith))
+      place-4 p = (λ e. said 4 p e x y, λ f. judged 4 p (rw (first-name-same text x (y .spells) ∙ f .first, f .starts)) (λ z. omega arith))
 
       -- 5: the first number of the tree that is beyond its limit, where no name is bad
       pub place-5 : (p : ℕ) → (readOf text b .0 ≡ refusedAs 5 p) ↔ (NamesGood text x × BadNumber text x p)
-      place-5 p = (λ e. said 5 p e x y, λ (e, f). judged 5 p (rw (e, f .first, f .starts)) (λ z. omega arith))
+      place-5 p =
+          (λ e. said 5 p e x y, λ (e, f). judged 5 p (rw (first-name-same text x (y .spells) ∙ e, first-number-same text x ∙ f .first, f .starts)) (λ z. omega arith))
 
       over : NamesGood text x → NumbersGood text x → Oversized x → verdict (codeAt text) (valueAt text) x ≡ refused-by 6 0
-      over e f (inl h) = rw (e, f, lt-ltb 16 (depth x) h)
-      over e f (inr h) = rw (e, f, lt-ltb 64 (length (frames x)) h) (either-way (ltb 16 (depth x)))
+      over e f (inl h) = rw (first-name-same text x (y .spells) ∙ e, first-number-same text x ∙ f, lt-ltb 16 (depth x) h)
+      over e f (inr h) = rw (first-name-same text x (y .spells) ∙ e, first-number-same text x ∙ f, lt-ltb 64 (length (frames x)) h) (either-way (ltb 16 (depth x)))
         where
           either-way : (q : Bool) → _≡_ {A = Verdict} (cond q (refused-by 6 0) (refused-by 6 0)) (refused-by 6 0)
           either-way true = refl

@@ -11,8 +11,9 @@ use Rattle.rule.specs.Tree
 use Rattle.rule.specs.Token.{tokens}
 use Rattle.rule.specs.Number.{decimal}
 use Rattle.rule.specs.Measure.{Named, declared, used, Sized, sized-by, scaleNumbers, shiftNumbers, declares, names, namesCond, namesDisj, namesConj, namesUnit, namesSum, namesProd, namesFactor, numbers, numbersCond, numbersDisj, numbersConj, numbersUnit, numbersSum, numbersProd, numbersFactor}
-use Rattle.rule.specs.Memory.{letters, valueAt}
-use Rattle.rule.specs.Spelling.{nameAt, firstName, firstNumber, numberOfName, spelledMeaning}
+use Rattle.rule.specs.Judge.{codes}
+use Rattle.rule.specs.Memory.{position, letters, codeAt, valueAt}
+use Rattle.rule.specs.Spelling.{nameAt, firstName, firstNumber, numberOfName}
 use Rattle.rule.specs.declared.parts.Place.{Place}
 use Rattle.rule.specs.declared.parts.Role.{Role}
 use Rattle.rule.specs.declared.parts.Role.the-variants.{Event, Note}
@@ -26,7 +27,7 @@ use Rattle.rule.proofs.SpellLists.{all-map}
 use Rattle.rule.proofs.SpellTokens
 use Rattle.rule.proofs.SpellNames
 use Rattle.rule.proofs.SpellNumbers
-use Rattle.rule.specs.Meaning.{relationOf, signOf, factorAt, offsetAt, referenceAt, meaningSum, meaningProd, meaningFactor, meaningCond, meaningDisj, meaningConj, meaningUnit, meaningOf, nameNumber, meaning}
+use Rattle.rule.specs.Meaning.{relationOf, signOf, factorAt, offsetAt, referenceAt, meaningSum, meaningProd, meaningFactor, meaningCond, meaningDisj, meaningConj, meaningUnit, meaningOf, meaning}
 
 -- ---- two ways to number names and to value numbers, which agree on those that the tree has
 module _ (number number′ : Role → Place → ℕ) (value value′ : Place → ℕ) where
@@ -95,9 +96,17 @@ module _ (number number′ : Role → Place → ℕ) (value value′ : Place →
   pub meaning-alike : (x : Grammar.Rule) → Alike (names x) (numbers x) (meaningOf (number Event) (number Note) value x) (meaningOf (number′ Event) (number′ Note) value′ x)
   meaning-alike (Grammar.rule e es n ns c) h k = cond-alike c (all-right Numbered (declares Event (e ∷ es) ++ declares Note (n ∷ ns)) (namesCond c) h) k
 
+-- the number of the name at a place by codes, as the reader finds it among those that the tree declares in its role
+abbrev pub codedNumber : List ℕ → Grammar.Rule → Role → Place → ℕ
+codedNumber text x r p = position (codeAt text p) (codes (codeAt text) (valueAt text) r (names x))
+
+-- what a tree means by codes and capped values
+abbrev pub codedMeaning : List ℕ → Grammar.Rule → Tree.Cond
+codedMeaning text x = meaningOf (codedNumber text x Event) (codedNumber text x Note) (valueAt text) x
+
 -- where no name and no number is bad, the meaning by codes and capped values is that by letters and decimal values
-pub meaning-same : (text : List ℕ) (x : Grammar.Rule) → Grammar.yield x ≡ Grammar.words (tokens text) → firstName text [] (names x) ≡ none → firstNumber text (numbers x) ≡ none → meaning text x ≡ spelledMeaning text x
-meaning-same text x y e f = meaning-alike (nameNumber text x) byLetters (valueAt text) byDecimal x numbered valued
+pub meaning-same : (text : List ℕ) (x : Grammar.Rule) → Grammar.yield x ≡ Grammar.words (tokens text) → firstName text [] (names x) ≡ none → firstNumber text (numbers x) ≡ none → codedMeaning text x ≡ meaning text x
+meaning-same text x y e f = meaning-alike (codedNumber text x) byLetters (valueAt text) byDecimal x numbered valued
   where
     byLetters : Role → Place → ℕ
     byLetters r p = numberOfName text r x p
@@ -105,15 +114,15 @@ meaning-same text x y e f = meaning-alike (nameNumber text x) byLetters (valueAt
     byDecimal : Place → ℕ
     byDecimal p = decimal (letters text p)
 
-    one-name : (n : Named) → ((r : Role) → nameNumber text x r (nameAt n) ≡ byLetters r (nameAt n)) → Numbered (nameNumber text x) byLetters (valueAt text) byDecimal n
+    one-name : (n : Named) → ((r : Role) → codedNumber text x r (nameAt n) ≡ byLetters r (nameAt n)) → Numbered (codedNumber text x) byLetters (valueAt text) byDecimal n
     one-name (declared r p) h = tt
     one-name (used r p) h = h r
 
-    numbered : All (Numbered (nameNumber text x) byLetters (valueAt text) byDecimal) (names x)
-    numbered = all-map (λ n. (r : Role) → nameNumber text x r (nameAt n) ≡ byLetters r (nameAt n)) (Numbered (nameNumber text x) byLetters (valueAt text) byDecimal) (names x) one-name (SpellNames.name-number-same text (names x) (SpellTokens.names-lettered text x y) e)
+    numbered : All (Numbered (codedNumber text x) byLetters (valueAt text) byDecimal) (names x)
+    numbered = all-map (λ n. (r : Role) → codedNumber text x r (nameAt n) ≡ byLetters r (nameAt n)) (Numbered (codedNumber text x) byLetters (valueAt text) byDecimal) (names x) one-name (SpellNames.name-number-same text (names x) (SpellTokens.names-lettered text x y) e)
 
-    one-number : (n : Sized) → SpellNumbers.Exact text n → Valued (nameNumber text x) byLetters (valueAt text) byDecimal n
+    one-number : (n : Sized) → SpellNumbers.Exact text n → Valued (codedNumber text x) byLetters (valueAt text) byDecimal n
     one-number (sized-by l p) h = h
 
-    valued : All (Valued (nameNumber text x) byLetters (valueAt text) byDecimal) (numbers x)
-    valued = all-map (SpellNumbers.Exact text) (Valued (nameNumber text x) byLetters (valueAt text) byDecimal) (numbers x) one-number (SpellNumbers.value-same text (numbers x) f)
+    valued : All (Valued (codedNumber text x) byLetters (valueAt text) byDecimal) (numbers x)
+    valued = all-map (SpellNumbers.Exact text) (Valued (codedNumber text x) byLetters (valueAt text) byDecimal) (numbers x) one-number (SpellNumbers.value-same text (numbers x) f)

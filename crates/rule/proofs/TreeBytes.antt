@@ -1,6 +1,7 @@
 -- The bytes of a tree's frames are those of the rule that it means, which is within the limits. Assumes nothing.
 use mathlib.Core.Path.{_≡_, refl, ap, ap₂, sym, subst, _∙_}
 use mathlib.Core.List.{List, [], _∷_, _++_}
+use mathlib.Core.Option.{none}
 use Prim.Native.Nat.{ℕ, zero, suc, _+_, _-_, _*_, _≤_}
 use native.Mathlib.Omega.{arith}
 use lib.IntN.{pos, negℤ, natAbs}
@@ -11,10 +12,12 @@ use mir.Val.{ofZ}
 use Rattle.numbers.proofs.Ints.{natAbs-neg}
 use Rattle.rule.specs.Limits.{factorLimit, offsetLimit, frameBytes}
 use Rattle.rule.specs.Grammar.{Rule}
-use Rattle.rule.specs.Tree.{Limits, postfix, bytesOf, IsRule}
-use Rattle.rule.specs.Measure.{Draft, lit, index-var, ref, plain, frames, names}
-use Rattle.rule.specs.Judge.{codes}
-use Rattle.rule.specs.Memory.{position, negated, each, factorOf, offsetOf, fields, codeAt, valueAt}
+use Rattle.rule.specs.Tree.{Cond, Limits, postfix, bytesOf, IsRule}
+use Rattle.rule.specs.Measure.{Draft, lit, index-var, ref, plain, frames, names, numbers}
+use Rattle.rule.specs.Number.{decimal}
+use Rattle.rule.specs.Judge.{codes, first-name, first-number}
+use Rattle.rule.specs.Memory.{position, negated, each, factorOf, offsetOf, fields, letters, codeAt, valueAt}
+use Rattle.rule.specs.Spelling.{numberOfName}
 use Rattle.rule.specs.Reading.{bufferBytes, treeBytes}
 use Rattle.rule.specs.Answers.{Within}
 use Rattle.rule.specs.declared.memory.Fields.{Fields}
@@ -25,7 +28,9 @@ use Rattle.rule.specs.declared.parts.Scale.{Scale}
 use Rattle.rule.specs.declared.parts.Scale.the-variants.{Once, Times}
 use Rattle.rule.specs.declared.parts.Shift.{Shift}
 use Rattle.rule.specs.declared.parts.Shift.the-variants.{Unshifted, By}
-use Rattle.rule.specs.Meaning.{factorAt, offsetAt, nameNumber, meaning}
+use Rattle.rule.specs.Meaning.{factorAt, offsetAt, meaning}
+use Rattle.rule.proofs.SpellSame.{first-name-same, first-number-same}
+use Rattle.rule.proofs.SpellMeaning.{codedNumber, codedMeaning, meaning-same}
 use Rattle.rule.proofs.Drafts.{All, length-each, frameOf, postfix-frames, LimitsD, limits-frames}
 use Rattle.rule.proofs.Numbered.{frames-fit}
 use Rattle.rule.proofs.Filled.{eight, packed, packed-length, filled}
@@ -68,14 +73,25 @@ module _ (code value : Place → ℕ) (E N : List ℕ) where
 -- the rule that a tree means has as many frames as the tree
 pub meaning-count : (text : List ℕ) (x : Rule) → length (postfix (meaning text x)) ≡ length (frames x)
 meaning-count text x =
-    ap length (postfix-frames (nameNumber text x Event) (nameNumber text x Note) (valueAt text) x) ∙ length-each (frameOf (nameNumber text x Event) (nameNumber text x Note) (valueAt text)) (frames x)
+    ap length (postfix-frames (numberOfName text Event x) (numberOfName text Note x) (λ p. decimal (letters text p)) x)
+    ∙ length-each (frameOf (numberOfName text Event x) (numberOfName text Note x) (λ p. decimal (letters text p))) (frames x)
 
 module _ (text : List ℕ) (x : Rule) (w : Within text x) where
-  fit : All (LimitsD (nameNumber text x Event) (nameNumber text x Note) (valueAt text)) (frames x)
-  fit = frames-fit (codeAt text) (valueAt text) x (w .names-good) (w .numbers-good)
+  -- no name is bad by codes, no number by capped values
+  pub coded-names : first-name (codeAt text) (valueAt text) [] (names x) ≡ none
+  coded-names = first-name-same text x (w .spelled .spells) ∙ w .names-good
+
+  pub coded-numbers : first-number (codeAt text) (valueAt text) (numbers x) ≡ none
+  coded-numbers = first-number-same text x ∙ w .numbers-good
+
+  same : codedMeaning text x ≡ meaning text x
+  same = meaning-same text x (w .spelled .spells) (w .names-good) (w .numbers-good)
+
+  fit : All (LimitsD (codedNumber text x Event) (codedNumber text x Note) (valueAt text)) (frames x)
+  fit = frames-fit (codeAt text) (valueAt text) x coded-names coded-numbers
 
   pub meaning-limits : Limits (meaning text x)
-  meaning-limits = limits-frames (nameNumber text x Event) (nameNumber text x Note) (valueAt text) x fit
+  meaning-limits = subst Limits same (limits-frames (codedNumber text x Event) (codedNumber text x Note) (valueAt text) x fit)
 
   abbrev put-fields : List Fields
   put-fields = each (fields (codeAt text) (valueAt text) (codes (codeAt text) (valueAt text) Event (names x)) (codes (codeAt text) (valueAt text) Note (names x))) (frames x)
@@ -86,7 +102,8 @@ module _ (text : List ℕ) (x : Rule) (w : Within text x) where
   packed-meaning : packed put-fields ≡ bytesOf (postfix (meaning text x))
   packed-meaning =
       same-packed (codeAt text) (valueAt text) (codes (codeAt text) (valueAt text) Event (names x)) (codes (codeAt text) (valueAt text) Note (names x)) (frames x) fit
-      ∙ ap bytesOf (sym (postfix-frames (nameNumber text x Event) (nameNumber text x Note) (valueAt text) x))
+      ∙ ap bytesOf (sym (postfix-frames (codedNumber text x Event) (codedNumber text x Note) (valueAt text) x))
+      ∙ ap (λ (t : Cond). bytesOf (postfix t)) same
 
   -- the tree's bytes: the meaning's frames, and zero after the last
   pub tree-bytes : treeBytes text x ≡ bytesOf (postfix (meaning text x)) ++ replicate (bufferBytes - length (frames x) * frameBytes) 0

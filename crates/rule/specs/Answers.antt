@@ -12,8 +12,7 @@ use Rattle.rule.specs.Token.{tokens}
 use Rattle.rule.specs.Grammar.{Rule, yield, words, Wrong-at}
 use Rattle.rule.specs.Tree.{postfix, bytesOf, references, parts, NoneExceeds}
 use Rattle.rule.specs.Measure.{frames, depth, names, numbers}
-use Rattle.rule.specs.Judge.{first-name, first-number}
-use Rattle.rule.specs.Memory.{codeAt, valueAt}
+use Rattle.rule.specs.Spelling.{firstName, firstNumber}
 use Rattle.rule.specs.Meaning.{meaning}
 use Rattle.rule.specs.Reading.{bufferBytes, refusedAs}
 use Rattle.rule.specs.declared.Reading.{Reading}
@@ -33,22 +32,22 @@ pub record Spelled (text : List ℕ) (x : Rule) : Type 0 where
 -- its first bad name starts at p: 4
 pub record BadName (text : List ℕ) (x : Rule) (p : ℕ) : Type 0 where
   pub name : Place
-  pub first : first-name (codeAt text) (valueAt text) [] (names x) ≡ some name
+  pub first : firstName text [] (names x) ≡ some name
   pub starts : name .start ≡ p
 
 -- no name of it is bad
 abbrev pub NamesGood : List ℕ → Rule → Type 0
-NamesGood text x = first-name (codeAt text) (valueAt text) [] (names x) ≡ none
+NamesGood text x = firstName text [] (names x) ≡ none
 
 -- its first number beyond its limit starts at p: 5
 pub record BadNumber (text : List ℕ) (x : Rule) (p : ℕ) : Type 0 where
   pub number : Place
-  pub first : first-number (codeAt text) (valueAt text) (numbers x) ≡ some number
+  pub first : firstNumber text (numbers x) ≡ some number
   pub starts : number .start ≡ p
 
 -- no number of it is beyond its limit
 abbrev pub NumbersGood : List ℕ → Rule → Type 0
-NumbersGood text x = first-number (codeAt text) (valueAt text) (numbers x) ≡ none
+NumbersGood text x = firstNumber text (numbers x) ≡ none
 
 -- "depth over 16 or over 64 frames": 6
 abbrev pub Oversized : Rule → Type 0

@@ -6,11 +6,10 @@ use lib.IntN.{ℤ, pos, negℤ}
 use Rattle.rule.specs.Frames.{Arithmetic, Relation, Connective}
 use Rattle.rule.specs.Grammar
 use Rattle.rule.specs.Tree
-use Rattle.rule.specs.Measure.{names}
-use Rattle.rule.specs.Judge.{codes}
-use Rattle.rule.specs.Memory.{position, codeAt, valueAt}
+use Rattle.rule.specs.Number.{decimal}
+use Rattle.rule.specs.Memory.{letters}
+use Rattle.rule.specs.Spelling.{numberOfName}
 use Rattle.rule.specs.declared.parts.Place.{Place}
-use Rattle.rule.specs.declared.parts.Role.{Role}
 use Rattle.rule.specs.declared.parts.Role.the-variants.{Event, Note}
 use Rattle.rule.specs.declared.parts.Sign.{Sign}
 use Rattle.rule.specs.declared.parts.Sign.the-variants.{Plus, Minus}
@@ -90,10 +89,6 @@ module _ (eventOf noteOf value : Place → ℕ) where
   abbrev pub meaningOf : Grammar.Rule → Tree.Cond
   meaningOf (Grammar.rule e es n ns c) = meaningCond c
 
--- "Events and notes are numbered from 0 as declared": the number of the name at a place among those that the tree declares in its role
-abbrev pub nameNumber : List ℕ → Grammar.Rule → Role → Place → ℕ
-nameNumber text x r p = position (codeAt text p) (codes (codeAt text) (valueAt text) r (names x))
-
--- what a tree that spells a text means
+-- what a tree that spells a text means, its names numbered by their letters, its numbers by their decimal values
 abbrev pub meaning : List ℕ → Grammar.Rule → Tree.Cond
-meaning text x = meaningOf (nameNumber text x Event) (nameNumber text x Note) (valueAt text) x
+meaning text x = meaningOf (numberOfName text Event x) (numberOfName text Note x) (λ p. decimal (letters text p)) x

@@ -1,5 +1,5 @@
 -- Refusals 4 and 5 by letters and by decimal value, and the number of a name by letters: the words of document 01, "What is
--- turned down" and "From rule text to frames". proofs/SpellMain: Judge's codes and values say the same. Assumes nothing: definitions.
+-- turned down" and "From rule text to frames". proofs/SpellSame: Judge's codes and values say the same. Assumes nothing: definitions.
 use Prim.Native.Nat.{ℕ, suc}
 use mathlib.Core.Path.{_≡_}
 use mathlib.Core.Bool.{Bool, true, false, cond}
@@ -14,8 +14,6 @@ use Rattle.rule.specs.Grammar.{Rule, place}
 use Rattle.rule.specs.Measure.{Named, declared, used, names, Sized, sized-by}
 use Rattle.rule.specs.Judge.{same-role, room, beyond}
 use Rattle.rule.specs.Memory.{letters}
-use Rattle.rule.specs.Tree.{Cond}
-use Rattle.rule.specs.Meaning.{meaningOf}
 use Rattle.rule.specs.declared.Token.{Token}
 use Rattle.rule.specs.declared.parts.Place.{Place}
 use Rattle.rule.specs.declared.parts.Role.{Role}
@@ -85,7 +83,3 @@ module _ (text : List ℕ) where
   -- "Events and notes are numbered from 0 as declared": the number of the name at p, of those that the tree declares in the role
   abbrev pub numberOfName : Role → Rule → Place → ℕ
   numberOfName r x p = numberIn (letters text p) (wordsOf r (names x))
-
-  -- what a tree that spells the text means, its names numbered by their letters, its numbers by their decimal values
-  abbrev pub spelledMeaning : Rule → Cond
-  spelledMeaning x = meaningOf (numberOfName Event x) (numberOfName Note x) (λ p. decimal (letters text p)) x
