@@ -23,11 +23,11 @@ use Rattle.checker.specs.Calls.{Call}
 use Rattle.checker.specs.Demand.{machineAfter, handedOut}
 use Rattle.checker.proofs.Value.{value-of}
 
-module _ {text buffer filled : List ℕ} {n : ℕ} (r : readOf text buffer ≡ (reading.Frames n, filled)) (x : Rule) (spelled : yield x ≡ words (tokens text)) where
-  pub text-to-verdict : {w : ℕ} {win : List ℤ} → openDef (take (n * frameBytes) filled) w win .answer ≡ opened → (cs : List Call) (i : ℕ)
+module _ (text buffer filled : List ℕ) (n : ℕ) (r : readOf text buffer ≡ (reading.Frames n, filled)) (x : Rule) (spelled : yield x ≡ words (tokens text)) where
+  pub text-to-verdict : (w : ℕ) (win : List ℤ) → openDef (take (n * frameBytes) filled) w win .answer ≡ opened → (cs : List Call) (i : ℕ)
       → i < length (handedOut (take (n * frameBytes) filled) w win cs)
       → getD (handedOut (take (n * frameBytes) filled) w win cs) i Unknown
       ≡ value (firstInstance + i) (foundIn (machineAfter (take (n * frameBytes) filled) w cs .lists) (firstInstance + i)) (meaning text x)
-  text-to-verdict {w} {win} o cs i h =
+  text-to-verdict w win o cs i h =
       value-of (record { bytes = read-bytes text buffer n filled r; answer = o }) cs i h
       ∙ ap (λ (t : Cond). value (firstInstance + i) (foundIn (machineAfter (take (n * frameBytes) filled) w cs .lists) (firstInstance + i)) t) (read-tree text buffer n filled r x spelled)
