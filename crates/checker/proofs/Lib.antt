@@ -7,6 +7,7 @@ pub mod Lists
 pub mod Final
 pub mod Sums
 pub mod Value
+pub mod Text
 pub mod Agree
 pub mod Order
 pub mod Never

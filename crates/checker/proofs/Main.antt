@@ -3,16 +3,23 @@ use mathlib.Core.Path.{_≡_}
 use mathlib.Core.Bool.{true, false}
 use mathlib.Core.List.{List, [], map, List·Memᴰ}
 use mathlib.Core.Logic.{_↔_, _≢_}
-use Prim.Native.Nat.{ℕ, _+_, _≤_, _<_}
+use Prim.Native.Nat.{ℕ, _+_, _*_, _≤_, _<_}
 use lib.IntN.{ℤ, pos}
-use lib.ListN.{length, getD}
+use lib.ListN.{length, take, getD}
+use Rattle.rule.specs.Limits.{frameBytes}
+use Rattle.rule.specs.Token.{tokens}
+use Rattle.rule.specs.Grammar.{Rule, yield, words}
 use Rattle.rule.specs.Frames.{Bytes}
 use Rattle.rule.specs.Tree.{references}
 use Rattle.rule.specs.Build.{treeOf}
 use Rattle.rule.specs.Opening.{Proper}
+use Rattle.rule.specs.Reading.{readOf}
+use Rattle.rule.specs.Meaning.{meaning}
+use Rattle.rule.specs.declared.Reading.the-variants as reading
 use Rattle.log.specs.Line.{lineOf}
 use Rattle.log.specs.Line as log
 use Rattle.verdict.specs.Found.{foundIn}
+use Rattle.verdict.specs.Value.{value}
 use Rattle.verdict.specs.Settled.{settled, judgement}
 use Rattle.verdict.specs.Settled as settling
 use Rattle.verdict.specs.Later.{MoreLines}
@@ -33,6 +40,7 @@ use Rattle.checker.specs.declared.State.{State}
 use Rattle.checker.proofs.Lists
 use Rattle.checker.proofs.Final
 use Rattle.checker.proofs.Sums
+use Rattle.checker.proofs.Text
 use Rattle.checker.proofs.Never
 use Rattle.checker.proofs.Exactly
 use Rattle.checker.proofs.Agree
@@ -91,6 +99,15 @@ module _ {frames : List ℕ} {w : ℕ} {win : List ℤ} (o : Unrefused frames w 
   pub window-holds : (e k n : ℕ) → e < 8 → base (references (treeOf frames)) e (machineAfter frames w cs .next) ≤ k → k < length (machineAfter frames w cs .lists e) → n < 4
       → getD (checkerAfter frames w win cs .words) (wordAt w e k n) (pos 0) ≡ getD (getD (machineAfter frames w cs .lists e) k []) n (pos 0)
   window-holds = Exactly.window-holds o cs
+
+-- ---- from a rule's text to its verdicts: for every text that `read` accepts, the tree that spells it, every W and unrefused opening
+-- with the frames that were filled, and every list of calls: each verdict handed out is the value, at its instance over the lines
+-- accepted in the list, of the rule that the text means
+pub text-to-verdict : (text buffer filled : List ℕ) (n : ℕ) → readOf text buffer ≡ (reading.Frames n, filled) → (x : Rule) → yield x ≡ words (tokens text)
+    → (w : ℕ) (win : List ℤ) → openDef (take (n * frameBytes) filled) w win .answer ≡ opened → (cs : List Call) (i : ℕ) → i < length (handedOut (take (n * frameBytes) filled) w win cs)
+    → getD (handedOut (take (n * frameBytes) filled) w win cs) i Unknown
+    ≡ value (firstInstance + i) (foundIn (machineAfter (take (n * frameBytes) filled) w cs .lists) (firstInstance + i)) (meaning text x)
+text-to-verdict = Text.text-to-verdict
 
 -- ---- two lists for one rule, with any two windows
 module _ {frames : List ℕ} {w w′ : ℕ} {win win′ : List ℤ} (o : Unrefused frames w win) (o′ : Unrefused frames w′ win′) (cs cs′ : List Call) where

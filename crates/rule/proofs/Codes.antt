@@ -78,7 +78,7 @@ pub long-code : (w : List ℕ) → 12 < length w → nameCode w ≡ longName
 unfolding nameCode
 long-code w h = rw (lt-leb (length w) 12 h)
 
-short-below : (w : List ℕ) → Letters w → length w ≤ 12 → nameCode w < longName
+pub short-below : (w : List ℕ) → Letters w → length w ≤ 12 → nameCode w < longName
 unfolding top
 short-below w l h = rw (short-code w h) (lt-of-lt-of-le (code-below w l) (top-rises (length w) 12 h))
 

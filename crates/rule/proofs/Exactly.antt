@@ -26,7 +26,7 @@ some-frame (relation r a b) = last-frame (postfixS a ++ postfixS b) (bare (Kind.
 some-frame (not p) = last-frame (postfix p) (bare Kind.negation)
 some-frame (connective j p q) = last-frame (postfix p ++ postfix q) (bare (Kind.connective j))
 
-whole-of : {s : List ℕ} (r : IsRule s) → length (postfix (r .tree)) ≤ frameLimit → Whole (length s)
+pub whole-of : {s : List ℕ} (r : IsRule s) → length (postfix (r .tree)) ≤ frameLimit → Whole (length s)
 whole-of {s} r h =
     let n : ℕ = length (postfix (r .tree)) in
     let e : length s ≡ n * 8 = rule-length r in

@@ -5,14 +5,14 @@ use mathlib.Core.List.{List}
 use Prim.Native.Nat.{ℕ, _≤_, _<_, zero-le}
 use lib.ListN.{length, getD}
 use Rattle.rule.specs.Class.{letter, digit, blank, classOf}
-use Rattle.rule.specs.Token.{endKind, numberKind, eventsKind, notesKind, indexKind, absKind, eventsWord, notesWord, indexWord, absWord, wordKind, tokenAt, spelling, tokens}
+use Rattle.rule.specs.Token.{endKind, nameKind, numberKind, eventsKind, notesKind, indexKind, absKind, eventsWord, notesWord, indexWord, absWord, wordKind, tokenAt, spelling, tokens}
 use Rattle.rule.specs.Name.{longName, nameCode}
 use Rattle.rule.specs.Number.{most, decimal, numberValue}
 use Rattle.rule.proofs.Codes.{Letters}
 use Rattle.rule.proofs.Lexing.{IsWord, Rising}
 use Rattle.rule.proofs.Runs.{OfClass}
 use Rattle.rule.specs.Frames.{Bytes}
-use Rattle.rule.specs.Tree.{IsRule, references}
+use Rattle.rule.specs.Tree.{Limits, postfix, IsRule, references, parts, NoneExceeds}
 use Rattle.rule.specs.References.{referenceCount}
 use Rattle.rule.specs.Build.{treeOf}
 use Rattle.rule.specs.Check.{refused, checkedOf}
@@ -29,23 +29,23 @@ use Rattle.rule.proofs.Count
 use Rattle.rule.proofs.Opening
 use Rattle.rule.proofs.Exactly
 use mathlib.Core.List.{[]}
-use mathlib.Core.Option.{none}
-use Prim.Native.Nat.{_*_, min}
+use Prim.Native.Nat.{_*_}
 use lib.ListN.{take}
 use Rattle.rule.specs.Limits.{frameBytes}
-use Rattle.rule.specs.ReadLimits.{textLimit}
 use Rattle.rule.specs.Grammar.{Rule, yield, Wrong-at}
 use Rattle.rule.specs.Grammar.{words as spelled}
-use Rattle.rule.specs.Measure.{frames, depth, names, numbers}
-use Rattle.rule.specs.Judge.{first-name}
-use Rattle.rule.specs.Memory.{codeAt, valueAt}
+use Rattle.rule.specs.Measure.{frames, Named, names, Sized, numbers}
+use Rattle.rule.specs.Memory.{letters}
+use Rattle.rule.specs.Spelling.{In, TokenOf, nameAt, numberAt}
 use Rattle.rule.specs.Reading.{bufferBytes, refusedAs, readOf}
-use Rattle.rule.specs.Answers.{Spelled, Answered}
+use Rattle.rule.specs.Meaning.{meaning}
+use Rattle.rule.specs.Answers.{Spelled, BadName, NamesGood, BadNumber, NumbersGood, Oversized, Within, ReadAs, Answered}
 use Rattle.rule.specs.Answers as answers
 use Rattle.rule.specs.declared.Token.{Token}
 use Rattle.rule.specs.declared.Reading.the-variants as reading
-use Rattle.rule.proofs.ReadExactly.{Read}
-use Rattle.rule.proofs.ReadPlaces.{BadName, BadNumber}
+use Rattle.rule.proofs.SpellSame
+use Rattle.rule.proofs.SpellTrees
+use Rattle.rule.proofs.TreeBytes
 use Rattle.rule.proofs.ReadText
 use Rattle.rule.proofs.ReadExactly
 use Rattle.rule.proofs.ReadAnswers
@@ -132,26 +132,61 @@ opening-iff = Opening.opening-iff
 pub read-answers : (text b : List ℕ) → Answered text b (readOf text b)
 read-answers = ReadAnswers.answered
 
--- accepted: exactly the texts that a tree within the limits spells, and the buffer holds that tree's frames, zero after the last
-pub reads-exactly : (text b : List ℕ) → length b ≡ bufferBytes → (length text ≡ 0 → ⊥) → length text ≤ textLimit → (n : ℕ) (s : List ℕ)
-    → (readOf text b ≡ (reading.Frames n, s)) ↔ (Read text n s × (checkedOf (take (n * frameBytes) s) ≡ Accepted))
+-- accepted: exactly where a tree spells the text that 4 to 8 leave, and the buffer then holds the frames of the rule that it
+-- means, zero after the last
+pub reads-exactly : (text b : List ℕ) (n : ℕ) (s : List ℕ) → (readOf text b ≡ (reading.Frames n, s)) ↔ ((length b ≡ bufferBytes) × ReadAs text n s)
 reads-exactly = ReadExactly.reads-exactly
 
--- two trees of one text have the same frames, names and numbers, and the same depth up to 17
-pub unambiguous : (x y : Rule) (ts : List Token) → yield x ≡ spelled ts → yield y ≡ spelled ts → (frames x ≡ frames y) × (names x ≡ names y) × (numbers x ≡ numbers y) × (min 17 (depth x) ≡ min 17 (depth y))
-unambiguous = ReadAnswers.unambiguous
+-- what the frames that were read hold is what the text means, whichever tree spells it
+pub read-tree : (text b : List ℕ) (n : ℕ) (s : List ℕ) → readOf text b ≡ (reading.Frames n, s) → (x : Rule) → yield x ≡ spelled (tokens text) → treeOf (take (n * frameBytes) s) ≡ meaning text x
+read-tree = ReadExactly.read-tree
+
+pub read-bytes : (text b : List ℕ) (n : ℕ) (s : List ℕ) → readOf text b ≡ (reading.Frames n, s) → Bytes (take (n * frameBytes) s)
+read-bytes = ReadExactly.read-bytes
+
+-- a text is spelled by one tree only, so that its names, numbers, depth and meaning are one too
+pub unambiguous : (x y : Rule) (ts : List Token) → yield x ≡ spelled ts → yield y ≡ spelled ts → x ≡ y
+unambiguous = SpellTrees.tree-unique
+
+-- each name of it stands at a name token of the text, and its bytes are letters; each number at a number token, and they are digits
+pub names-lettered : (text : List ℕ) (x : Rule) → yield x ≡ spelled (tokens text) → (n : Named) → In n (names x) → TokenOf text nameKind (nameAt n) × Letters (letters text (nameAt n))
+names-lettered = SpellSame.names-lettered
+
+pub numbers-digits : (text : List ℕ) (x : Rule) → yield x ≡ spelled (tokens text) → (n : Sized) → In n (numbers x) → TokenOf text numberKind (numberAt n) × OfClass digit (letters text (numberAt n))
+numbers-digits = SpellSame.numbers-digits
+
+-- what a tree that 4, 5 and 6 leave means is within the limits of frames
+pub meaning-limits : (text : List ℕ) (x : Rule) → Within text x → Limits (meaning text x)
+meaning-limits = TreeBytes.meaning-limits
+
+-- and has as many frames as the tree
+pub meaning-count : (text : List ℕ) (x : Rule) → length (postfix (meaning text x)) ≡ length (frames x)
+meaning-count = TreeBytes.meaning-count
 
 -- refused with 3 at p: exactly where p is the first token that with those before it begins no rule, or the length
 pub place-3 : (text b : List ℕ) → length b ≡ bufferBytes → answers.Sized (length text) → (p : ℕ) → (readOf text b .0 ≡ refusedAs 3 p) ↔ Wrong-at (length text) (tokens text) p
 place-3 = ReadPlaces.place-3
 
 -- refused with 4 at p: exactly where p is the tree's first bad name
-pub place-4 : (text b : List ℕ) → length b ≡ bufferBytes → (x : Rule) → Spelled text x → (p : ℕ) → (readOf text b .0 ≡ refusedAs 4 p) ↔ BadName text b x p
+pub place-4 : (text b : List ℕ) → length b ≡ bufferBytes → (x : Rule) → Spelled text x → (p : ℕ) → (readOf text b .0 ≡ refusedAs 4 p) ↔ BadName text x p
 place-4 = ReadPlaces.place-4
 
 -- refused with 5 at p: exactly where no name is bad, and p is the tree's first number beyond its limit
-pub place-5 : (text b : List ℕ) → length b ≡ bufferBytes → (x : Rule) → Spelled text x → first-name (codeAt text) (valueAt text) [] (names x) ≡ none → (p : ℕ) → (readOf text b .0 ≡ refusedAs 5 p) ↔ BadNumber text b x p
+pub place-5 : (text b : List ℕ) → length b ≡ bufferBytes → (x : Rule) → Spelled text x → (p : ℕ) → (readOf text b .0 ≡ refusedAs 5 p) ↔ (NamesGood text x × BadNumber text x p)
 place-5 = ReadPlaces.place-5
+
+-- refused with 6: exactly where no name and no number is bad, and the tree is too deep or has too many frames
+pub place-6 : (text b : List ℕ) → length b ≡ bufferBytes → (x : Rule) → Spelled text x → (readOf text b .0 ≡ refusedAs 6 0) ↔ (NamesGood text x × NumbersGood text x × Oversized x)
+place-6 = ReadPlaces.place-6
+
+-- refused with 7: exactly where 4, 5 and 6 leave the tree, and what it means has no reference
+pub place-7 : (text b : List ℕ) → length b ≡ bufferBytes → (x : Rule) → Spelled text x → (readOf text b .0 ≡ refusedAs 7 0) ↔ (Within text x × (references (meaning text x) ≡ []))
+place-7 = ReadPlaces.place-7
+
+-- refused with 8: exactly where 4 to 7 leave the tree, and a magnitude of what it means is over 2^62
+pub place-8 : (text b : List ℕ) → length b ≡ bufferBytes → (x : Rule) → Spelled text x
+    → (readOf text b .0 ≡ refusedAs 8 0) ↔ (Within text x × (references (meaning text x) ≡ [] → ⊥) × (NoneExceeds (parts (meaning text x)) → ⊥))
+place-8 = ReadPlaces.place-8
 
 -- what `read` fills, `check` accepts
 pub read-opens : (text b : List ℕ) (n : ℕ) (s : List ℕ) → readOf text b ≡ (reading.Frames n, s) → checkedOf (take (n * frameBytes) s) ≡ Accepted

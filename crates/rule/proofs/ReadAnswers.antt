@@ -1,43 +1,32 @@
--- Each answer of `read` says what is so of the text; and two trees of one text are alike. Assumes nothing.
+-- Each answer of `read` says what is so of the text. Assumes nothing.
 use mathlib.Core.Path.{_≡_, refl, ap, sym, subst, _∙_}
 use mathlib.Core.Logic.{_⊎_, inl, inr}
 use mathlib.Core.Bool.{Bool, true, false, cond}
 use mathlib.Core.List.{List, []}
 use mathlib.Core.Option.{Option, none, some}
-use Prim.Native.Nat.{ℕ, _*_, _≤_, _<_, min}
+use Prim.Native.Nat.{ℕ, _*_, _<_}
 use native.Mathlib.Omega.{arith}
-use borrow.Author.Tests.{eqb-true, eqb-false, ltb-true, ltb-false, lt-ltb, le-ltb}
+use borrow.Author.Tests.{eqb-true, eqb-false, ltb-true, ltb-false}
 use lib.Dec.{ltb, eqb}
 use lib.ListN.{length, take}
 use Rattle.rule.specs.Token.{tokens}
 use Rattle.rule.specs.Grammar.{Rule, yield, words, Wrong-at}
-use Rattle.rule.specs.Measure.{Draft, Named, Sized, frames, depth, names, numbers}
-use Rattle.rule.specs.Judge.{Verdict, refused-by, read-as, first-name, first-number, after-number, after-name, verdict}
+use Rattle.rule.specs.Measure.{frames, depth, names, numbers}
+use Rattle.rule.specs.Judge.{refused-by, read-as, first-name, first-number, after-number, after-name, verdict}
 use Rattle.rule.specs.Memory.{codeAt, valueAt}
 use Rattle.rule.specs.Check.{checkedOf}
+use Rattle.rule.specs.Meaning.{meaning}
 use Rattle.rule.specs.Reading.{refusedAs, readOf, treeBytes}
-use Rattle.rule.specs.Answers.{Spelled, Within, Answered, refused-1, refused-2, refused-3, refused-4, refused-5, refused-6, refused-check, accepted}
+use Rattle.rule.specs.Answers.{Spelled, NamesGood, NumbersGood, Within, ReadAs, Answered, refused-1, refused-2, refused-3, refused-4, refused-5, refused-6, refused-7, refused-8, accepted}
 use Rattle.rule.specs.Answers as answers
-use Rattle.rule.specs.declared.Token.{Token}
 use Rattle.rule.specs.declared.Checked.{Checked}
-use Rattle.rule.specs.declared.Checked.the-variants.{Accepted, Refused}
 use Rattle.rule.specs.declared.Reading.{Reading}
 use Rattle.rule.specs.declared.parts.Place.{Place}
-use Rattle.rule.proofs.Rules.{alike}
-use Rattle.rule.proofs.Measures.{note-frame, note-name, note-number, note-depth, frames-read, names-read, numbers-read}
-use Rattle.rule.proofs.Depth.{depth-read}
 use Rattle.rule.proofs.Settle.{one, two-none, two-many}
 use Rattle.rule.proofs.ReadText.{outside, as-judged, either}
-use Rattle.rule.proofs.ReadExactly.{Read, tree-read, tree-refused}
-
--- ---- two trees of one text are alike
-pub unambiguous : (x y : Rule) (ts : List Token) → yield x ≡ words ts → yield y ≡ words ts → (frames x ≡ frames y) × (names x ≡ names y) × (numbers x ≡ numbers y) × (min 17 (depth x) ≡ min 17 (depth y))
-unambiguous x y ts e f = (
-  sym (frames-read x) ∙ (alike (List Draft) note-frame 0 [] x y ts e f ∙ frames-read y),
-  sym (names-read x) ∙ (alike (List Named) note-name 0 [] x y ts e f ∙ names-read y),
-  sym (numbers-read x) ∙ (alike (List Sized) note-number 0 [] x y ts e f ∙ numbers-read y),
-  sym (depth-read x) ∙ (alike ℕ note-depth 0 0 x y ts e f ∙ depth-read y),
-)
+use Rattle.rule.proofs.SpellSame.{first-name-same, first-number-same}
+use Rattle.rule.proofs.ReadChecks.{Checks, no-reference, too-great, proper, checks}
+use Rattle.rule.proofs.ReadFrames.{tree-refused, tree-read}
 
 -- ---- the answers
 module _ (text b : List ℕ) (fit : length b ≡ 512) (size : answers.Sized (length text)) where
@@ -51,27 +40,34 @@ module _ (text b : List ℕ) (fit : length b ≡ 512) (size : answers.Sized (len
     back : (a : Reading × List ℕ) → readOf text b ≡ a → Answered text b a → Answered text b (readOf text b)
     back a e = subst (λ (z : Reading × List ℕ). Answered text b z) (sym e)
 
-    by-check : Within text x → verdict (codeAt text) (valueAt text) x ≡ read-as (frames x) → (a : Checked) → checkedOf (take (length (frames x) * 8) (treeBytes text x)) ≡ a → Answered text b (readOf text b)
-    by-check w v Accepted e = back _ (tree-read text b fit (size .some-bytes) (size .few-bytes) (length (frames x)) (treeBytes text x) (record { tree = x; spells = y; within = v; count = refl; bytes = refl }) e) (accepted fit w e)
-    by-check w v (Refused r) e =
-        back _ (tree-refused text b fit (size .some-bytes) (size .few-bytes) (length (frames x)) (treeBytes text x) (record { tree = x; spells = y; within = v; count = refl; bytes = refl }) (r .number) (r .place) e) (refused-check fit w e)
+    by-check : Within text x → (a : Checked) → checkedOf (take (length (frames x) * 8) (treeBytes text x)) ≡ a → Checks (meaning text x) a → Answered text b (readOf text b)
+    by-check w a e (no-reference h) = back _ (tree-refused text b fit x w 7 0 e) (refused-7 fit w h)
+    by-check w a e (too-great h o) = back _ (tree-refused text b fit x w 8 0 e) (refused-8 fit w h o)
+    by-check w a e (proper h o) =
+        let r : ReadAs text (length (frames x)) _ = record { tree = x; within = w; named = h; exact = o; count = refl; bytes = refl } in
+        back _ (tree-read text b fit (length (frames x)) _ r) (accepted fit r)
 
-    by-six : first-name (codeAt text) (valueAt text) [] (names x) ≡ none → first-number (codeAt text) (valueAt text) (numbers x) ≡ none
+    by-six : NamesGood text x → NumbersGood text x
         → verdict (codeAt text) (valueAt text) x ≡ cond (ltb 16 (depth x)) (refused-by 6 0) (cond (ltb 64 (length (frames x))) (refused-by 6 0) (read-as (frames x)))
         → (q r : Bool) → ltb 16 (depth x) ≡ q → ltb 64 (length (frames x)) ≡ r → Answered text b (readOf text b)
     by-six e f v true r g h = back _ (judged 6 0 (v ∙ rw g) (λ z. omega arith)) (refused-6 fit spelled e f (inl (ltb-true 16 (depth x) g)))
     by-six e f v false true g h = back _ (judged 6 0 (v ∙ rw (g, h)) (λ z. omega arith)) (refused-6 fit spelled e f (inr (ltb-true 64 (length (frames x)) h)))
     by-six e f v false false g h =
-        by-check (record { spelled = spelled; names-good = e; numbers-good = f; shallow = ltb-false 16 (depth x) g; few-frames = ltb-false 64 (length (frames x)) h }) (v ∙ rw (g, h)) (checkedOf (take (length (frames x) * 8) (treeBytes text x))) refl
+        let w : Within text x = record { spelled = spelled; names-good = e; numbers-good = f; shallow = ltb-false 16 (depth x) g; few-frames = ltb-false 64 (length (frames x)) h } in
+        by-check w (checkedOf (take (length (frames x) * 8) (treeBytes text x))) refl (checks text x w)
 
-    by-five : first-name (codeAt text) (valueAt text) [] (names x) ≡ none → verdict (codeAt text) (valueAt text) x ≡ after-number (codeAt text) (valueAt text) x (first-number (codeAt text) (valueAt text) (numbers x))
+    by-five : NamesGood text x → verdict (codeAt text) (valueAt text) x ≡ after-number (codeAt text) (valueAt text) x (first-number (codeAt text) (valueAt text) (numbers x))
         → (o : Option Place) → first-number (codeAt text) (valueAt text) (numbers x) ≡ o → Answered text b (readOf text b)
-    by-five e v (some q) f = back _ (judged 5 (q .start) (v ∙ ap (λ (o : Option Place). after-number (codeAt text) (valueAt text) x o) f) (λ z. omega arith)) (refused-5 fit spelled e f)
-    by-five e v none f = by-six e f (v ∙ ap (λ (o : Option Place). after-number (codeAt text) (valueAt text) x o) f) (ltb 16 (depth x)) (ltb 64 (length (frames x))) refl refl
+    by-five e v (some q) f =
+        back _ (judged 5 (q .start) (v ∙ ap (λ (o : Option Place). after-number (codeAt text) (valueAt text) x o) f) (λ z. omega arith))
+        (refused-5 fit spelled e (record { number = q; first = sym (first-number-same text x) ∙ f; starts = refl }))
+    by-five e v none f = by-six e (sym (first-number-same text x) ∙ f) (v ∙ ap (λ (o : Option Place). after-number (codeAt text) (valueAt text) x o) f) (ltb 16 (depth x)) (ltb 64 (length (frames x))) refl refl
 
     by-four : (o : Option Place) → first-name (codeAt text) (valueAt text) [] (names x) ≡ o → Answered text b (readOf text b)
-    by-four (some q) e = back _ (judged 4 (q .start) (ap (λ (o : Option Place). after-name (codeAt text) (valueAt text) x o) e) (λ z. omega arith)) (refused-4 fit spelled e)
-    by-four none e = by-five e (ap (λ (o : Option Place). after-name (codeAt text) (valueAt text) x o) e) (first-number (codeAt text) (valueAt text) (numbers x)) refl
+    by-four (some q) e =
+        back _ (judged 4 (q .start) (ap (λ (o : Option Place). after-name (codeAt text) (valueAt text) x o) e) (λ z. omega arith))
+        (refused-4 fit spelled (record { name = q; first = sym (first-name-same text x y) ∙ e; starts = refl }))
+    by-four none e = by-five (sym (first-name-same text x y) ∙ e) (ap (λ (o : Option Place). after-name (codeAt text) (valueAt text) x o) e) (first-number (codeAt text) (valueAt text) (numbers x)) refl
 
   in-text : ((x : Rule) × (yield x ≡ words (tokens text))) ⊎ ((p : ℕ) × Wrong-at (length text) (tokens text) p) → Answered text b (readOf text b)
   in-text (inl (x, y)) = by-four x y (first-name (codeAt text) (valueAt text) [] (names x)) refl

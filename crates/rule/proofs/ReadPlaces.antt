@@ -1,127 +1,112 @@
--- The places of refusals 3, 4 and 5, each both ways. Assumes nothing.
-use mathlib.Core.Path.{_≡_, refl, ap, sym, subst, _∙_}
-use mathlib.Core.Logic.{_↔_}
+-- Refusals 3 to 8 of `read`, each both ways, with the places of 3, 4 and 5. Assumes nothing.
+use mathlib.Core.Path.{_≡_, refl, ap, subst, _∙_}
+use mathlib.Core.Logic.{_↔_, inl, inr}
 use mathlib.Core.Bool.{Bool, true, false, cond}
 use mathlib.Core.List.{List, []}
-use mathlib.Core.Option.{Option, none, some}
-use Prim.Native.Nat.{ℕ, _<_}
+use Prim.Native.Nat.{ℕ, zero, suc, _<_}
 use native.Mathlib.Omega.{arith}
-use lib.Dec.{eqb}
+use lib.Dec.{ltb}
 use lib.ListN.{length}
+use borrow.Author.Tests.{lt-ltb}
 use Rattle.rule.specs.Token.{tokens}
 use Rattle.rule.specs.Grammar.{Rule, Wrong-at}
-use Rattle.rule.specs.Measure.{names, numbers, Named, Sized}
-use Rattle.rule.specs.Judge.{first-name, first-number, after-number, after-name}
+use Rattle.rule.specs.Tree.{references, parts, NoneExceeds}
+use Rattle.rule.specs.Measure.{frames, depth}
+use Rattle.rule.specs.Judge.{Verdict, refused-by, verdict}
 use Rattle.rule.specs.Memory.{codeAt, valueAt}
-use Rattle.rule.specs.Order.{orderOf}
-use Rattle.rule.specs.Sizes.{sizesFit}
-use Rattle.rule.specs.Check.{wholeFrames, afterOrder, checkedOf}
-use Rattle.rule.specs.Check as check
-use Rattle.rule.specs.Reading.{refusedAs, readOf}
-use Rattle.rule.specs.Answers.{Spelled, Answered, refused-1, refused-2, refused-3, refused-4, refused-5, refused-6, refused-check, accepted}
+use Rattle.rule.specs.Meaning.{meaning}
+use Rattle.rule.specs.Reading.{bufferBytes, refusedAs, readOf}
+use Rattle.rule.specs.Answers.{Spelled, BadName, NamesGood, BadNumber, NumbersGood, Oversized, Within, Answered, refused-1, refused-2, refused-3, refused-4, refused-5, refused-6, refused-7, refused-8, accepted}
 use Rattle.rule.specs.Answers as answers
-use Rattle.rule.specs.declared.Refusal.{Refusal}
-use Rattle.rule.specs.declared.Checked.{Checked}
-use Rattle.rule.specs.declared.Checked.the-variants.{Accepted, Refused}
 use Rattle.rule.specs.declared.Reading.{Reading}
 use Rattle.rule.specs.declared.Reading.the-variants as reading
-use Rattle.rule.specs.declared.order.Ordered.{Ordered}
-use Rattle.rule.specs.declared.order.Ordered.the-variants.{Fine, At}
-use Rattle.rule.specs.declared.parts.Place.{Place}
 use Rattle.rule.proofs.ReadText.{outside, as-judged}
-use Rattle.rule.proofs.ReadAnswers.{unambiguous, answered}
+use Rattle.rule.proofs.ReadChecks.{check-7, check-8}
+use Rattle.rule.proofs.ReadFrames.{tree-refused}
+use Rattle.rule.proofs.ReadAnswers.{answered}
+use Rattle.rule.proofs.SpellSame.{first-name-same, first-number-same}
+use Rattle.rule.proofs.SpellTrees.{tree-unique}
 
--- the check of frames refuses with 7 or more
-abbrev High : Checked → Type 0
-High Accepted = Unit {0}
-High (Refused r) = 6 < r .number
+-- ---- what is said of the tree of a text is so of every tree that spells it, as there is one only
+module _ (text : List ℕ) (P : Rule → Type 0) where
+  of-all : (x : Rule) → Spelled text x → P x → (y : Rule) → Spelled text y → P y
+  of-all x s p y t = subst P (tree-unique x y (tokens text) (s .spells) (t .spells)) p
 
-high : (s : List ℕ) → High (checkedOf s)
-unfolding checkedOf
-high s = go (wholeFrames (length s)) (orderOf s)
-  where
-    fine : (x y : Bool) → High (cond x (check.refused 7 0) (cond y Accepted (check.refused 8 0)))
-    fine true y = omega arith
-    fine false true = tt
-    fine false false = omega arith
-
-    go : (x : Bool) (o : Ordered) → High (cond x (afterOrder s o) (check.refused 9 0))
-    go false o = omega arith
-    go true (At p) = omega arith
-    go true (Fine m) = fine (eqb m 0) (sizesFit s)
-
-high-refused : (s : List ℕ) (r : Refusal) → checkedOf s ≡ Refused r → 6 < r .number
-high-refused s r e = subst High e (high s)
-
-abbrev refusal-of : Reading → Refusal
-refusal-of (reading.Frames n) = record { number = 0; place = 0 }
-refusal-of (reading.Refused r) = r
-
-same-number : (j k p q : ℕ) → refusedAs j p ≡ refusedAs k q → j ≡ k
-same-number j k p q e = ap (λ (z : Reading). refusal-of z .number) e
-
-same-place : (j k p q : ℕ) → refusedAs j p ≡ refusedAs k q → p ≡ q
-same-place j k p q e = ap (λ (z : Reading). refusal-of z .place) e
-
-no-frames : (n k p : ℕ) → _≡_ {A = Reading} (reading.Frames n) (refusedAs k p) → ⊥
-no-frames n k p e = let z : _≡_ {A = ℕ} 0 1 = cc in omega arith
-
-number-of : (r : Refusal) (k p : ℕ) → _≡_ {A = Reading} (reading.Refused r) (refusedAs k p) → r .number ≡ k
-number-of r k p e = ap (λ (z : Reading). refusal-of z .number) e
-
+-- ---- what an answer says of the text
 module _ (text b : List ℕ) where
-  from-3 : (a : Reading × List ℕ) → Answered text b a → (p : ℕ) → a .0 ≡ refusedAs 3 p → Wrong-at (length text) (tokens text) p
-  from-3 a (refused-1 h) p e = absurd (let z = same-number 1 3 0 p e in omega arith)
-  from-3 a (refused-2 h s) p e = absurd (let z = same-number 2 3 0 p e in omega arith)
-  from-3 a (refused-3 {p = q} h s w) p e = subst (λ (z : ℕ). Wrong-at (length text) (tokens text) z) (same-place 3 3 q p e) w
-  from-3 a (refused-4 {x} {q} h s f) p e = absurd (let z = same-number 4 3 (q .start) p e in omega arith)
-  from-3 a (refused-5 {x} {q} h s f g) p e = absurd (let z = same-number 5 3 (q .start) p e in omega arith)
-  from-3 a (refused-6 h s f g o) p e = absurd (let z = same-number 6 3 0 p e in omega arith)
-  from-3 a (refused-check {x} {r} h w f) p e = absurd (let z = number-of r 3 p e in let y = high-refused _ r f in omega arith)
-  from-3 a (accepted h w f) p e = absurd (no-frames _ 3 p e)
+  -- 7 and 8 of a tree
+  abbrev Unnamed : Rule → Type 0
+  Unnamed x = Within text x × (references (meaning text x) ≡ [])
 
-  -- 3: the first token that with those before it begins no rule
-  pub place-3 : length b ≡ 512 → answers.Sized (length text) → (p : ℕ) → (readOf text b .0 ≡ refusedAs 3 p) ↔ Wrong-at (length text) (tokens text) p
-  place-3 h s p = (from-3 (readOf text b) (answered text b) p, λ w. ap (λ (z : Reading × List ℕ). z .0) (outside text b h (s .some-bytes) (s .few-bytes) p w))
+  abbrev Exceeding : Rule → Type 0
+  Exceeding x = Within text x × (references (meaning text x) ≡ [] → ⊥) × (NoneExceeds (parts (meaning text x)) → ⊥)
 
-  abbrev pub BadName : Rule → ℕ → Type 0
-  BadName x p = (q : Place) × (first-name (codeAt text) (valueAt text) [] (names x) ≡ some q) × (q .start ≡ p)
+  -- by its number and its place
+  abbrev Said : ℕ → ℕ → Type 0
+  Said zero p = Unit {0}
+  Said (suc zero) p = Unit {0}
+  Said (suc (suc zero)) p = Unit {0}
+  Said (suc (suc (suc zero))) p = Wrong-at (length text) (tokens text) p
+  Said (suc (suc (suc (suc zero)))) p = (x : Rule) → Spelled text x → BadName text x p
+  Said (suc (suc (suc (suc (suc zero))))) p = (x : Rule) → Spelled text x → NamesGood text x × BadNumber text x p
+  Said (suc (suc (suc (suc (suc (suc zero)))))) p = (x : Rule) → Spelled text x → NamesGood text x × NumbersGood text x × Oversized x
+  Said (suc (suc (suc (suc (suc (suc (suc zero))))))) p = (x : Rule) → Spelled text x → Unnamed x
+  Said (suc (suc (suc (suc (suc (suc (suc (suc zero)))))))) p = (x : Rule) → Spelled text x → Exceeding x
+  Said (suc (suc (suc (suc (suc (suc (suc (suc (suc k))))))))) p = Unit {0}
 
-  abbrev pub BadNumber : Rule → ℕ → Type 0
-  BadNumber x p = (q : Place) × (first-number (codeAt text) (valueAt text) (numbers x) ≡ some q) × (q .start ≡ p)
+  abbrev SaidBy : Reading → Type 0
+  SaidBy (reading.Frames n) = Unit {0}
+  SaidBy (reading.Refused r) = Said (r .number) (r .place)
 
-  from-4 : (a : Reading × List ℕ) → Answered text b a → (x : Rule) → Spelled text x → (p : ℕ) → a .0 ≡ refusedAs 4 p → BadName x p
-  from-4 a (refused-1 h) x y p e = absurd (let z = same-number 1 4 0 p e in omega arith)
-  from-4 a (refused-2 h s) x y p e = absurd (let z = same-number 2 4 0 p e in omega arith)
-  from-4 a (refused-3 {p = q} h s w) x y p e = absurd (let z = same-number 3 4 q p e in omega arith)
-  from-4 a (refused-4 {x = x′} {q} h s f) x y p e =
-      (q, subst (λ (l : List Named). first-name (codeAt text) (valueAt text) [] l ≡ some q) (unambiguous x′ x (tokens text) (s .spells) (y .spells) .1) f, same-place 4 4 (q .start) p e)
-  from-4 a (refused-5 {x = x′} {q} h s f g) x y p e = absurd (let z = same-number 5 4 (q .start) p e in omega arith)
-  from-4 a (refused-6 h s f g o) x y p e = absurd (let z = same-number 6 4 0 p e in omega arith)
-  from-4 a (refused-check {x = x′} {r} h w f) x y p e = absurd (let z = number-of r 4 p e in let v = high-refused _ r f in omega arith)
-  from-4 a (accepted h w f) x y p e = absurd (no-frames _ 4 p e)
+  says : {a : Reading × List ℕ} → Answered text b a → SaidBy (a .0)
+  says (refused-1 h) = tt
+  says (refused-2 h s) = tt
+  says (refused-3 h s w) = w
+  says (refused-4 {x} {p} h s f) = of-all text (λ y. BadName text y p) x s f
+  says (refused-5 {x} {p} h s f g) = of-all text (λ y. NamesGood text y × BadNumber text y p) x s (f, g)
+  says (refused-6 {x} h s f g o) = of-all text (λ y. NamesGood text y × NumbersGood text y × Oversized y) x s (f, g, o)
+  says (refused-7 {x} h w r) = of-all text Unnamed x (w .spelled) (w, r)
+  says (refused-8 {x} h w r o) = of-all text Exceeding x (w .spelled) (w, r, o)
+  says (accepted h r) = tt
 
-  -- 4: the first bad name of the tree
-  pub place-4 : length b ≡ 512 → (x : Rule) → Spelled text x → (p : ℕ) → (readOf text b .0 ≡ refusedAs 4 p) ↔ BadName x p
-  place-4 h x y p = (
-    from-4 (readOf text b) (answered text b) x y p,
-    λ (q, e, s). ap (λ (z : Reading × List ℕ). z .0) (as-judged text b h (y .sized .some-bytes) (y .sized .few-bytes) x (y .spells) 4 p (ap (λ (o : Option Place). after-name (codeAt text) (valueAt text) x o) e ∙ rw s) (λ z. omega arith)),
-  )
+  said : (k p : ℕ) → readOf text b .0 ≡ refusedAs k p → Said k p
+  said k p e = subst SaidBy e (says (answered text b))
 
-  from-5 : (a : Reading × List ℕ) → Answered text b a → (x : Rule) → Spelled text x → (p : ℕ) → a .0 ≡ refusedAs 5 p → BadNumber x p
-  from-5 a (refused-1 h) x y p e = absurd (let z = same-number 1 5 0 p e in omega arith)
-  from-5 a (refused-2 h s) x y p e = absurd (let z = same-number 2 5 0 p e in omega arith)
-  from-5 a (refused-3 {p = q} h s w) x y p e = absurd (let z = same-number 3 5 q p e in omega arith)
-  from-5 a (refused-4 {x = x′} {q} h s f) x y p e = absurd (let z = same-number 4 5 (q .start) p e in omega arith)
-  from-5 a (refused-5 {x = x′} {q} h s f g) x y p e =
-      (q, subst (λ (l : List Sized). first-number (codeAt text) (valueAt text) l ≡ some q) (unambiguous x′ x (tokens text) (s .spells) (y .spells) .2) g, same-place 5 5 (q .start) p e)
-  from-5 a (refused-6 h s f g o) x y p e = absurd (let z = same-number 6 5 0 p e in omega arith)
-  from-5 a (refused-check {x = x′} {r} h w f) x y p e = absurd (let z = number-of r 5 p e in let v = high-refused _ r f in omega arith)
-  from-5 a (accepted h w f) x y p e = absurd (no-frames _ 5 p e)
+  -- ---- each refusal both ways
+  module _ (fit : length b ≡ bufferBytes) where
+    -- 3: the first token that with those before it begins no rule
+    pub place-3 : answers.Sized (length text) → (p : ℕ) → (readOf text b .0 ≡ refusedAs 3 p) ↔ Wrong-at (length text) (tokens text) p
+    place-3 s p = (said 3 p, λ w. ap (λ (z : Reading × List ℕ). z .0) (outside text b fit (s .some-bytes) (s .few-bytes) p w))
 
-  -- 5: the first number of the tree that is beyond its limit, where no name is bad
-  pub place-5 : length b ≡ 512 → (x : Rule) → Spelled text x → first-name (codeAt text) (valueAt text) [] (names x) ≡ none → (p : ℕ) → (readOf text b .0 ≡ refusedAs 5 p) ↔ BadNumber x p
-  place-5 h x y n p = (
-    from-5 (readOf text b) (answered text b) x y p,
-    λ (q, e, s). ap (λ (z : Reading × List ℕ). z .0) (as-judged text b h (y .sized .some-bytes) (y .sized .few-bytes) x (y .spells) 5 p (ap (λ (o : Option Place). after-name (codeAt text) (valueAt text) x o) n ∙ (ap (λ (o : Option Place). after-number (codeAt text) (valueAt text) x o) e ∙ rw s)) (λ z. omega arith)),
-  )
+    module _ (x : Rule) (y : Spelled text x) where
+      judged : (k p : ℕ) → verdict (codeAt text) (valueAt text) x ≡ refused-by k p → (k ≡ 0 → ⊥) → readOf text b .0 ≡ refusedAs k p
+      judged k p v ne = ap (λ (z : Reading × List ℕ). z .0) (as-judged text b fit (y .sized .some-bytes) (y .sized .few-bytes) x (y .spells) k p v ne)
+
+      -- 4: the first bad name of the tree
+      pub place-4 : (p : ℕ) → (readOf text b .0 ≡ refusedAs 4 p) ↔ BadName text x p
+      place-4 p = (λ e. said 4 p e x y, λ f. judged 4 p (rw (first-name-same text x (y .spells) ∙ f .first, f .starts)) (λ z. omega arith))
+
+      -- 5: the first number of the tree that is beyond its limit, where no name is bad
+      pub place-5 : (p : ℕ) → (readOf text b .0 ≡ refusedAs 5 p) ↔ (NamesGood text x × BadNumber text x p)
+      place-5 p =
+          (λ e. said 5 p e x y, λ (e, f). judged 5 p (rw (first-name-same text x (y .spells) ∙ e, first-number-same text x ∙ f .first, f .starts)) (λ z. omega arith))
+
+      over : NamesGood text x → NumbersGood text x → Oversized x → verdict (codeAt text) (valueAt text) x ≡ refused-by 6 0
+      over e f (inl h) = rw (first-name-same text x (y .spells) ∙ e, first-number-same text x ∙ f, lt-ltb 16 (depth x) h)
+      over e f (inr h) = rw (first-name-same text x (y .spells) ∙ e, first-number-same text x ∙ f, lt-ltb 64 (length (frames x)) h) (either-way (ltb 16 (depth x)))
+        where
+          either-way : (q : Bool) → _≡_ {A = Verdict} (cond q (refused-by 6 0) (refused-by 6 0)) (refused-by 6 0)
+          either-way true = refl
+          either-way false = refl
+
+      -- 6: too deep or too many frames, where no name and no number is bad
+      pub place-6 : (readOf text b .0 ≡ refusedAs 6 0) ↔ (NamesGood text x × NumbersGood text x × Oversized x)
+      place-6 = (λ e. said 6 0 e x y, λ (e, f, o). judged 6 0 (over e f o) (λ z. omega arith))
+
+      -- 7: no reference, where 4, 5 and 6 leave the tree
+      pub place-7 : (readOf text b .0 ≡ refusedAs 7 0) ↔ (Within text x × (references (meaning text x) ≡ []))
+      place-7 = (λ e. said 7 0 e x y, λ (w, r). ap (λ (z : Reading × List ℕ). z .0) (tree-refused text b fit x w 7 0 (check-7 text x w .1 r)))
+
+      -- 8: a magnitude over 2^62, where 4 to 7 leave the tree
+      pub place-8 : (readOf text b .0 ≡ refusedAs 8 0) ↔ (Within text x × (references (meaning text x) ≡ [] → ⊥) × (NoneExceeds (parts (meaning text x)) → ⊥))
+      place-8 = (λ e. said 8 0 e x y, λ (w, r, o). ap (λ (z : Reading × List ℕ). z .0) (tree-refused text b fit x w 8 0 (check-8 text x w .1 (r, o))))

@@ -311,6 +311,6 @@ module _ (code value : Place → ℕ) where
       pair : ℕ → ℕ → ℕ × ℕ
       pair a b = (a, b)
 
-  -- THE REGISTERS SAY WHAT THE TREE SAYS: refusals 4 to 6, in their order, and the number of frames.
+  -- the registers say what the tree says: refusals 4 to 6, in their order, and the number of frames.
   pub told-right : (b₀ : List ℕ) (x : Rule) → told (readRule Mem (remember code value) x (fresh b₀)) ≡ telling (verdict code value x)
   told-right b₀ x = after-four x (first-name code value [] (names x)) _ _ _ _ (names-listed b₀ x .first-is) (number-read b₀ x) (deep-read b₀ x) (count-read b₀ x)

@@ -1,4 +1,4 @@
--- THE GRAMMAR AND THE MACHINE. Assumes nothing.
+-- The machine of the reader accepts exactly what the trees of the grammar spell, and refuses at the right place. Assumes nothing.
 use mathlib.Core.Path.{_≡_, refl, ap, sym, _∙_, subst}
 use mathlib.Core.Logic.{_↔_}
 use mathlib.Core.List.{List, [], _∷_, _++_}
@@ -14,7 +14,7 @@ use Rattle.rule.proofs.Machines
 use Rattle.rule.proofs.Trees.{genRule, ruled}
 
 module _ (M : Type 0) (act : Act → M → M) (n : ℕ) (m : M) where
-  -- 1. COMPLETE: tokens that a tree spells are accepted, and the memory is what the reading of that tree makes it.
+  -- 1. Complete: tokens that a tree spells are accepted, and the memory is what the reading of that tree makes it.
   pub taken : (x : Rule) (ts : List Token) → yield x ≡ words ts → run M act n start m ts ≡ accepted (readRule M act x m)
   taken x ts e = accepts M act n ts (subst (λ (ws : List Word). Gen M act start m ws (readRule M act x m)) e (genRule M act x)) (good-start M act)
 
@@ -43,18 +43,18 @@ module _ (M : Type 0) (act : Act → M → M) (n : ℕ) (m : M) where
   says : (ts : List Token) (a : Answer M) → run M act n start m ts ≡ a → Says-rule ts a
   says ts a e = subst (λ (x : Answer M). Says-rule ts x) e (as-rule ts (run M act n start m ts) (right M act n ts start m (good-start M act)))
 
-  -- 2. SOUND: tokens that are accepted are spelled by a tree, and the memory is what the reading of that tree makes it.
+  -- 2. Sound: tokens that are accepted are spelled by a tree, and the memory is what the reading of that tree makes it.
   pub sound : (ts : List Token) (m′ : M) → run M act n start m ts ≡ accepted m′ → (x : Rule) × (yield x ≡ words ts) × (m′ ≡ readRule M act x m)
   sound ts m′ e = says ts (accepted m′) e
 
-  -- UNAMBIGUOUS: two trees that spell the same tokens are read alike.
+  -- Unambiguous: two trees that spell the same tokens are read alike.
   pub alike : (x y : Rule) (ts : List Token) → yield x ≡ words ts → yield y ≡ words ts → readRule M act x m ≡ readRule M act y m
   alike x y ts e f = inj (sym (taken x ts e) ∙ taken y ts f)
     where
       inj : {a b : M} → _≡_ {A = Answer M} (accepted a) (accepted b) → a ≡ b
       inj e = cc
 
-  -- 3. THE PLACE: refused at p exactly if p is the place of the first token that with those before it begins no rule, or n if the tokens begin one and are none.
+  -- 3. The place: refused at p exactly if p is the place of the first token that with those before it begins no rule, or n if the tokens begin one and are none.
   pub refused-at : (ts : List Token) (p : ℕ) → (run M act n start m ts ≡ refused p) ↔ Wrong-at n ts p
   refused-at ts p = ((λ e. says ts (refused p) e), (λ w. refuses M act n start m (good-start M act) (wrong-back w)))
 

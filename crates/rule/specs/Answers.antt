@@ -2,23 +2,21 @@
 -- From document 01, "What is turned down", 1 to 8. Assumes nothing: definitions.
 use mathlib.Core.Path.{_≡_}
 use mathlib.Core.Logic.{_⊎_}
-use mathlib.Core.List.{List, []}
+use mathlib.Core.List.{List, [], _++_}
 use mathlib.Core.Option.{none, some}
-use Prim.Native.Nat.{ℕ, _*_, _≤_, _<_}
-use lib.ListN.{length, take}
+use Prim.Native.Nat.{ℕ, _-_, _*_, _≤_, _<_}
+use lib.ListN.{length, replicate}
 use Rattle.rule.specs.Limits.{frameLimit, frameBytes}
 use Rattle.rule.specs.ReadLimits.{textLimit, depthLimit}
 use Rattle.rule.specs.Token.{tokens}
 use Rattle.rule.specs.Grammar.{Rule, yield, words, Wrong-at}
+use Rattle.rule.specs.Tree.{postfix, bytesOf, references, parts, NoneExceeds}
 use Rattle.rule.specs.Measure.{frames, depth, names, numbers}
-use Rattle.rule.specs.Judge.{first-name, first-number}
-use Rattle.rule.specs.Memory.{codeAt, valueAt}
-use Rattle.rule.specs.Check.{checkedOf}
-use Rattle.rule.specs.Reading.{bufferBytes, refusedAs, treeBytes}
-use Rattle.rule.specs.declared.Checked.the-variants.{Accepted, Refused}
+use Rattle.rule.specs.Spelling.{firstName, firstNumber}
+use Rattle.rule.specs.Meaning.{meaning}
+use Rattle.rule.specs.Reading.{bufferBytes, refusedAs}
 use Rattle.rule.specs.declared.Reading.{Reading}
 use Rattle.rule.specs.declared.Reading.the-variants as reading
-use Rattle.rule.specs.declared.Refusal.{Refusal}
 use Rattle.rule.specs.declared.parts.Place.{Place}
 
 -- "The text has 1 to 1,024 bytes"
@@ -31,22 +29,56 @@ pub record Spelled (text : List ℕ) (x : Rule) : Type 0 where
   pub sized : Sized (length text)
   pub spells : yield x ≡ words (tokens text)
 
+-- its first bad name starts at p: 4
+pub record BadName (text : List ℕ) (x : Rule) (p : ℕ) : Type 0 where
+  pub name : Place
+  pub first : firstName text [] (names x) ≡ some name
+  pub starts : name .start ≡ p
+
+-- no name of it is bad
+abbrev pub NamesGood : List ℕ → Rule → Type 0
+NamesGood text x = firstName text [] (names x) ≡ none
+
+-- its first number beyond its limit starts at p: 5
+pub record BadNumber (text : List ℕ) (x : Rule) (p : ℕ) : Type 0 where
+  pub number : Place
+  pub first : firstNumber text (numbers x) ≡ some number
+  pub starts : number .start ≡ p
+
+-- no number of it is beyond its limit
+abbrev pub NumbersGood : List ℕ → Rule → Type 0
+NumbersGood text x = firstNumber text (numbers x) ≡ none
+
+-- "depth over 16 or over 64 frames": 6
+abbrev pub Oversized : Rule → Type 0
+Oversized x = (depthLimit < depth x) ⊎ (frameLimit < length (frames x))
+
 -- no name and no number of it is bad, its depth and its frames are within the limits: 4, 5 and 6 leave it
 pub record Within (text : List ℕ) (x : Rule) : Type 0 where
   pub spelled : Spelled text x
-  pub names-good : first-name (codeAt text) (valueAt text) [] (names x) ≡ none
-  pub numbers-good : first-number (codeAt text) (valueAt text) (numbers x) ≡ none
+  pub names-good : NamesGood text x
+  pub numbers-good : NumbersGood text x
   pub shallow : depth x ≤ depthLimit
   pub few-frames : length (frames x) ≤ frameLimit
 
+-- the text is that of a tree that 4, 5 and 6 leave, and 7 and 8 what it means; n counts the frames of what it means, and s is a
+-- buffer that holds them, "zero after the last frame"
+pub record ReadAs (text : List ℕ) (n : ℕ) (s : List ℕ) : Type 0 where
+  pub tree : Rule
+  pub within : Within text tree
+  pub named : references (meaning text tree) ≡ [] → ⊥
+  pub exact : NoneExceeds (parts (meaning text tree))
+  pub count : n ≡ length (frames tree)
+  pub bytes : s ≡ bytesOf (postfix (meaning text tree)) ++ replicate (bufferBytes - n * frameBytes) 0
+
+-- the answer of `read` to a text, with the buffer b, and what the buffer holds then: b itself where it refuses
 pub data Answered (text b : List ℕ) : Reading × List ℕ → Type 0 where
   refused-1 : (length b ≡ bufferBytes → ⊥) → Answered text b (refusedAs 1 0, b)
   refused-2 : length b ≡ bufferBytes → (Sized (length text) → ⊥) → Answered text b (refusedAs 2 0, b)
   refused-3 : {p : ℕ} → length b ≡ bufferBytes → Sized (length text) → Wrong-at (length text) (tokens text) p → Answered text b (refusedAs 3 p, b)
-  refused-4 : {x : Rule} {q : Place} → length b ≡ bufferBytes → Spelled text x → first-name (codeAt text) (valueAt text) [] (names x) ≡ some q → Answered text b (refusedAs 4 (q .start), b)
-  refused-5 : {x : Rule} {q : Place} → length b ≡ bufferBytes → Spelled text x → first-name (codeAt text) (valueAt text) [] (names x) ≡ none
-      → first-number (codeAt text) (valueAt text) (numbers x) ≡ some q → Answered text b (refusedAs 5 (q .start), b)
-  refused-6 : {x : Rule} → length b ≡ bufferBytes → Spelled text x → first-name (codeAt text) (valueAt text) [] (names x) ≡ none → first-number (codeAt text) (valueAt text) (numbers x) ≡ none
-      → (depthLimit < depth x) ⊎ (frameLimit < length (frames x)) → Answered text b (refusedAs 6 0, b)
-  refused-check : {x : Rule} {r : Refusal} → length b ≡ bufferBytes → Within text x → checkedOf (take (length (frames x) * frameBytes) (treeBytes text x)) ≡ Refused r → Answered text b (reading.Refused r, b)
-  accepted : {x : Rule} → length b ≡ bufferBytes → Within text x → checkedOf (take (length (frames x) * frameBytes) (treeBytes text x)) ≡ Accepted → Answered text b (reading.Frames (length (frames x)), treeBytes text x)
+  refused-4 : {x : Rule} {p : ℕ} → length b ≡ bufferBytes → Spelled text x → BadName text x p → Answered text b (refusedAs 4 p, b)
+  refused-5 : {x : Rule} {p : ℕ} → length b ≡ bufferBytes → Spelled text x → NamesGood text x → BadNumber text x p → Answered text b (refusedAs 5 p, b)
+  refused-6 : {x : Rule} → length b ≡ bufferBytes → Spelled text x → NamesGood text x → NumbersGood text x → Oversized x → Answered text b (refusedAs 6 0, b)
+  refused-7 : {x : Rule} → length b ≡ bufferBytes → Within text x → references (meaning text x) ≡ [] → Answered text b (refusedAs 7 0, b)
+  refused-8 : {x : Rule} → length b ≡ bufferBytes → Within text x → (references (meaning text x) ≡ [] → ⊥) → (NoneExceeds (parts (meaning text x)) → ⊥) → Answered text b (refusedAs 8 0, b)
+  accepted : {n : ℕ} {s : List ℕ} → length b ≡ bufferBytes → ReadAs text n s → Answered text b (reading.Frames n, s)

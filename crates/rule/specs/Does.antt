@@ -5,6 +5,7 @@ use Prim.Native.Nat.{ℕ, _≤_, _<_}
 use mathlib.Core.Bool.{cond}
 use lib.Dec.{eqb}
 use lib.ListN.{length}
+use Rattle.rule.specs.Frames.{Arithmetic, Relation, Kind, kindByte}
 use Rattle.rule.specs.Token.{unequalKind, atMostKind, atLeastKind, tokensFrom}
 use Rattle.rule.specs.Grammar.{plusMark, minusMark, equalMark, lessMark, moreMark}
 use Rattle.rule.specs.Machine.{Sym, Answer, refused, run}
@@ -51,13 +52,13 @@ InsideShift n (By g p) = Inside n p
 
 -- the kind of frame that a token stands for, 0 for none: of "+" and "-", and of the relations
 unfoldable pub signByte : ℕ → ℕ
-signByte k = cond (eqb k plusMark) 0x11 (cond (eqb k minusMark) 0x12 0)
+signByte k = cond (eqb k plusMark) (kindByte (Kind.arithmetic Arithmetic.add)) (cond (eqb k minusMark) (kindByte (Kind.arithmetic Arithmetic.subtract)) 0)
 
 unfoldable pub relByte : ℕ → ℕ
 relByte k =
-    cond (eqb k equalMark) 0x21
-    (cond (eqb k unequalKind) 0x22
-    (cond (eqb k lessMark) 0x23
-    (cond (eqb k atMostKind) 0x24
-    (cond (eqb k moreMark) 0x25
-    (cond (eqb k atLeastKind) 0x26 0)))))
+    cond (eqb k equalMark) (kindByte (Kind.relation Relation.equal))
+    (cond (eqb k unequalKind) (kindByte (Kind.relation Relation.unequal))
+    (cond (eqb k lessMark) (kindByte (Kind.relation Relation.less))
+    (cond (eqb k atMostKind) (kindByte (Kind.relation Relation.atMost))
+    (cond (eqb k moreMark) (kindByte (Kind.relation Relation.more))
+    (cond (eqb k atLeastKind) (kindByte (Kind.relation Relation.atLeast)) 0)))))

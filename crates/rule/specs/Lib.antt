@@ -9,6 +9,7 @@ pub mod Measure
 pub mod Machine
 pub mod Judge
 pub mod Memory
+pub mod Spelling
 pub mod Does
 pub mod Frames
 pub mod Tree
@@ -20,4 +21,5 @@ pub mod Build
 pub mod Check
 pub mod Opening
 pub mod Reading
+pub mod Meaning
 pub mod Answers

@@ -5,6 +5,7 @@ use mathlib.Core.Bool.{cond}
 use mathlib.Core.List.{List, [], _∷_}
 use lib.Dec.{leb, eqb}
 use Rattle.rule.specs.ReadLimits.{depthLimit}
+use Rattle.rule.specs.Frames.{Arithmetic, Relation, Connective, Kind}
 use Rattle.rule.specs.Token.{nameKind, numberKind, eventsKind, notesKind, indexKind, absKind, arrowKind, barsKind, ampersandsKind, unequalKind, atMostKind, atLeastKind}
 use Rattle.rule.specs.declared.Token.{Token}
 use Rattle.rule.specs.Grammar.{semicolon, bang, openBrace, closeBrace, openParen, closeParen, openBracket, closeBracket, star, plusMark, minusMark, equalMark, lessMark, moreMark, place}
@@ -19,7 +20,7 @@ use Rattle.rule.specs.declared.parts.Scale.{Scale}
 use Rattle.rule.specs.declared.parts.Scale.the-variants.{Once, Times}
 use Rattle.rule.specs.declared.parts.Shift.{Shift}
 use Rattle.rule.specs.declared.parts.Shift.the-variants.{Unshifted, By}
-use Rattle.rule.specs.Measure.{Draft, lit, index-var, ref, plain}
+use Rattle.rule.specs.Measure.{Draft, lit, index-var, ref, alone}
 
 -- what reading does, in the order of the text
 pub data Act : Type 0 where
@@ -75,31 +76,31 @@ module _ (M : Type 0) (act : Act → M → M) where
       cond (eqb k numberKind) (on s (act (out (lit p)) (act (sized OfLiteral p) m)))
       (cond (eqb k indexKind) (on s (act (out index-var) m))
       (cond (eqb k openParen) (on (sum (deeper d) (want closeParen ∷ s)) (act (enter (deeper d)) m))
-      (cond (eqb k absKind) (on (want openParen ∷ sum (deeper d) (want closeParen ∷ doing (out (plain 0x14)) ∷ s)) (act (enter (deeper d)) m))
+      (cond (eqb k absKind) (on (want openParen ∷ sum (deeper d) (want closeParen ∷ doing (out (alone Kind.absolute)) ∷ s)) (act (enter (deeper d)) m))
       (cond (eqb k nameKind) (on (want openParen ∷ ref-event p ∷ s) (act (uses Note p) m)) stuck))))
 
   -- what a token of kind k, at p, does with the stack
   unfoldable pub step : List Sym → M → ℕ → Place → Next M
   step [] m k p = stuck
   step (unit d ∷ s) m k p =
-      cond (eqb k bang) (on (unit (deeper d) ∷ doing (out (plain 0x31)) ∷ s) (act (enter (deeper d)) m))
+      cond (eqb k bang) (on (unit (deeper d) ∷ doing (out (alone Kind.negation)) ∷ s) (act (enter (deeper d)) m))
       (cond (eqb k openBrace) (on (condition (deeper d) (want closeBrace ∷ s)) (act (enter (deeper d)) m))
       (startFactor d m k p (muls d ∷ adds d ∷ rel d ∷ s)))
-  step (ands d ∷ s) m k p = cond (eqb k ampersandsKind) (on (unit d ∷ doing (out (plain 0x32)) ∷ ands d ∷ s) m) (step s m k p)
-  step (ors d ∷ s) m k p = cond (eqb k barsKind) (on (conj d (doing (out (plain 0x33)) ∷ ors d ∷ s)) m) (step s m k p)
-  step (arrow d ∷ s) m k p = cond (eqb k arrowKind) (on (condition (deeper d) (doing (out (plain 0x34)) ∷ s)) (act (enter (deeper d)) m)) (step s m k p)
+  step (ands d ∷ s) m k p = cond (eqb k ampersandsKind) (on (unit d ∷ doing (out (alone (Kind.connective Connective.and))) ∷ ands d ∷ s) m) (step s m k p)
+  step (ors d ∷ s) m k p = cond (eqb k barsKind) (on (conj d (doing (out (alone (Kind.connective Connective.or))) ∷ ors d ∷ s)) m) (step s m k p)
+  step (arrow d ∷ s) m k p = cond (eqb k arrowKind) (on (condition (deeper d) (doing (out (alone (Kind.connective Connective.implies))) ∷ s)) (act (enter (deeper d)) m)) (step s m k p)
   step (factor d ∷ s) m k p = startFactor d m k p s
-  step (muls d ∷ s) m k p = cond (eqb k star) (on (factor d ∷ doing (out (plain 0x13)) ∷ muls d ∷ s) m) (step s m k p)
+  step (muls d ∷ s) m k p = cond (eqb k star) (on (factor d ∷ doing (out (alone (Kind.arithmetic Arithmetic.multiply))) ∷ muls d ∷ s) m) (step s m k p)
   step (adds d ∷ s) m k p =
-      cond (eqb k plusMark) (on (prod d (doing (out (plain 0x11)) ∷ adds d ∷ s)) m)
-      (cond (eqb k minusMark) (on (prod d (doing (out (plain 0x12)) ∷ adds d ∷ s)) m) (step s m k p))
+      cond (eqb k plusMark) (on (prod d (doing (out (alone (Kind.arithmetic Arithmetic.add))) ∷ adds d ∷ s)) m)
+      (cond (eqb k minusMark) (on (prod d (doing (out (alone (Kind.arithmetic Arithmetic.subtract))) ∷ adds d ∷ s)) m) (step s m k p))
   step (rel d ∷ s) m k p =
-      cond (eqb k equalMark) (on (sum d (doing (out (plain 0x21)) ∷ s)) m)
-      (cond (eqb k unequalKind) (on (sum d (doing (out (plain 0x22)) ∷ s)) m)
-      (cond (eqb k lessMark) (on (sum d (doing (out (plain 0x23)) ∷ s)) m)
-      (cond (eqb k atMostKind) (on (sum d (doing (out (plain 0x24)) ∷ s)) m)
-      (cond (eqb k moreMark) (on (sum d (doing (out (plain 0x25)) ∷ s)) m)
-      (cond (eqb k atLeastKind) (on (sum d (doing (out (plain 0x26)) ∷ s)) m) stuck)))))
+      cond (eqb k equalMark) (on (sum d (doing (out (alone (Kind.relation Relation.equal))) ∷ s)) m)
+      (cond (eqb k unequalKind) (on (sum d (doing (out (alone (Kind.relation Relation.unequal))) ∷ s)) m)
+      (cond (eqb k lessMark) (on (sum d (doing (out (alone (Kind.relation Relation.less))) ∷ s)) m)
+      (cond (eqb k atMostKind) (on (sum d (doing (out (alone (Kind.relation Relation.atMost))) ∷ s)) m)
+      (cond (eqb k moreMark) (on (sum d (doing (out (alone (Kind.relation Relation.more))) ∷ s)) m)
+      (cond (eqb k atLeastKind) (on (sum d (doing (out (alone (Kind.relation Relation.atLeast))) ∷ s)) m) stuck)))))
   step (want x ∷ s) m k p = cond (eqb k x) (on s m) stuck
   step (name-of r ∷ s) m k p = cond (eqb k nameKind) (on s (act (declare r p) m)) stuck
   step (names-of r ∷ s) m k p = cond (eqb k nameKind) (on (names-of r ∷ s) (act (declare r p) m)) (step s m k p)

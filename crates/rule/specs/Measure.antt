@@ -2,6 +2,7 @@
 -- From 'From rule text to frames' of document 01. Assumes nothing: definitions.
 use Prim.Native.Nat.{ℕ, _+_, max}
 use mathlib.Core.List.{List, [], _∷_, _++_}
+use Rattle.rule.specs.Frames.{Arithmetic, Relation, Connective, Kind, kindByte}
 use Rattle.rule.specs.Grammar.{Rel, equal, unequal, less, at-most, more, at-least, Index, index, Cond, a-disj, implies, Disj, a-conj, or, Conj, a-unit, and, CUnit, not, group, relation, Sum, a-prod, add, Prod, a-factor, multiply, Factor, literal, var, parens, absolute, reference, Rule, rule}
 use Rattle.rule.specs.declared.parts.Place.{Place}
 use Rattle.rule.specs.declared.parts.Role.{Role}
@@ -23,35 +24,39 @@ pub data Draft : Type 0 where
   ref : Place → Place → Scale → Shift → Draft
   plain : ℕ → Draft
 
--- "11 add, 12 subtract", "21 to 26 the relations as listed"
+-- of a kind
+abbrev pub alone : Kind → Draft
+alone k = plain (kindByte k)
+
+-- the kinds of "+" and "-", and of the relations
 abbrev pub signKind : Sign → ℕ
-signKind Plus = 0x11
-signKind Minus = 0x12
+signKind Plus = kindByte (Kind.arithmetic Arithmetic.add)
+signKind Minus = kindByte (Kind.arithmetic Arithmetic.subtract)
 
 abbrev pub relKind : Rel → ℕ
-relKind equal = 0x21
-relKind unequal = 0x22
-relKind less = 0x23
-relKind at-most = 0x24
-relKind more = 0x25
-relKind at-least = 0x26
+relKind equal = kindByte (Kind.relation Relation.equal)
+relKind unequal = kindByte (Kind.relation Relation.unequal)
+relKind less = kindByte (Kind.relation Relation.less)
+relKind at-most = kindByte (Kind.relation Relation.atMost)
+relKind more = kindByte (Kind.relation Relation.more)
+relKind at-least = kindByte (Kind.relation Relation.atLeast)
 
--- "in postfix order, left operand first"; "13 multiply, 14 abs", "31 not, 32 and, 33 or, 34 implies"
+-- "in postfix order, left operand first"
 abbrev mutual
   pub framesCond : Cond → List Draft
   framesCond (a-disj x) = framesDisj x
-  framesCond (implies x y) = framesDisj x ++ framesCond y ++ plain 0x34 ∷ []
+  framesCond (implies x y) = framesDisj x ++ framesCond y ++ alone (Kind.connective Connective.implies) ∷ []
 
   pub framesDisj : Disj → List Draft
   framesDisj (a-conj x) = framesConj x
-  framesDisj (or x y) = framesDisj x ++ framesConj y ++ plain 0x33 ∷ []
+  framesDisj (or x y) = framesDisj x ++ framesConj y ++ alone (Kind.connective Connective.or) ∷ []
 
   pub framesConj : Conj → List Draft
   framesConj (a-unit x) = framesUnit x
-  framesConj (and x y) = framesConj x ++ framesUnit y ++ plain 0x32 ∷ []
+  framesConj (and x y) = framesConj x ++ framesUnit y ++ alone (Kind.connective Connective.and) ∷ []
 
   pub framesUnit : CUnit → List Draft
-  framesUnit (not x) = framesUnit x ++ plain 0x31 ∷ []
+  framesUnit (not x) = framesUnit x ++ alone Kind.negation ∷ []
   framesUnit (group x) = framesCond x
   framesUnit (relation x c y) = framesSum x ++ framesSum y ++ plain (relKind c) ∷ []
 
@@ -61,13 +66,13 @@ abbrev mutual
 
   pub framesProd : Prod → List Draft
   framesProd (a-factor x) = framesFactor x
-  framesProd (multiply x y) = framesProd x ++ framesFactor y ++ plain 0x13 ∷ []
+  framesProd (multiply x y) = framesProd x ++ framesFactor y ++ alone (Kind.arithmetic Arithmetic.multiply) ∷ []
 
   pub framesFactor : Factor → List Draft
   framesFactor (literal p) = lit p ∷ []
   framesFactor var = index-var ∷ []
   framesFactor (parens x) = framesSum x
-  framesFactor (absolute x) = framesSum x ++ plain 0x14 ∷ []
+  framesFactor (absolute x) = framesSum x ++ alone Kind.absolute ∷ []
   framesFactor (reference n e (index f o)) = ref n e f o ∷ []
 
 abbrev pub frames : Rule → List Draft

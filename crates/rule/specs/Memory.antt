@@ -6,6 +6,7 @@ use lib.ListN.{length, take, drop, getD, set}
 use lib.Dec.{ltb, leb, eqb}
 use Rattle.rule.specs.Limits.{eventLimit, noteLimit, frameLimit, frameBytes}
 use Rattle.rule.specs.ReadLimits.{depthLimit}
+use Rattle.rule.specs.Frames.{Source, Kind, kindByte}
 use Rattle.rule.specs.Name.{longName, nameCode}
 use Rattle.rule.specs.Number.{numberValue}
 use Rattle.rule.specs.Measure.{Draft, lit, index-var, ref, plain, sized-by}
@@ -99,9 +100,9 @@ module _ (code value : Place → ℕ) where
 
   -- the fields of a frame, with E the declared events and N the notes
   abbrev pub fields : List ℕ → List ℕ → Draft → Fields
-  fields E N (lit p) = record { kind = 0x01; event = 0; note = 0; factor = 0; word = value p }
-  fields E N index-var = record { kind = 0x02; event = 0; note = 0; factor = 0; word = 0 }
-  fields E N (ref n e f o) = record { kind = 0x03; event = position (code e) E; note = position (code n) N; factor = factorOf f; word = offsetOf o }
+  fields E N (lit p) = record { kind = kindByte (Kind.operand Source.literal); event = 0; note = 0; factor = 0; word = value p }
+  fields E N index-var = record { kind = kindByte (Kind.operand Source.instance); event = 0; note = 0; factor = 0; word = 0 }
+  fields E N (ref n e f o) = record { kind = kindByte (Kind.operand Source.reference); event = position (code e) E; note = position (code n) N; factor = factorOf f; word = offsetOf o }
   fields E N (plain k) = record { kind = k; event = 0; note = 0; factor = 0; word = 0 }
 
   abbrev pub misnamed : Role → Place → Mem → Bool

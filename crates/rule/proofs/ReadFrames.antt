@@ -1,0 +1,89 @@
+-- What `read` answers to a tree that 4, 5 and 6 leave: what the check of its frames says of them. Assumes nothing.
+use mathlib.Core.Path.{_≡_, refl, ap, sym, subst, _∙_}
+use mathlib.Core.Bool.{Bool, true, false, cond}
+use mathlib.Core.List.{List, _++_}
+use Prim.Native.Nat.{ℕ, _*_, _-_}
+use native.Mathlib.Omega.{arith}
+use lib.Dec.{ltb, eqb}
+use lib.ListN.{length, take, replicate}
+use borrow.Author.Tests.{le-ltb}
+use Rattle.rule.specs.Grammar.{Rule}
+use Rattle.rule.specs.Tree.{postfix, bytesOf}
+use Rattle.rule.specs.Measure.{frames, depth}
+use Rattle.rule.specs.Judge.{Verdict, read-as, telling, verdict}
+use Rattle.rule.specs.Memory.{Mem, fresh, told, codeAt, valueAt, acts}
+use Rattle.rule.specs.Check.{refused, checkedOf}
+use Rattle.rule.specs.Reading.{refusedAs, afterCheck, settled, readOf, treeBytes}
+use Rattle.rule.specs.Meaning.{meaning}
+use Rattle.rule.specs.Answers.{Within, ReadAs}
+use Rattle.rule.specs.declared.Checked.{Checked}
+use Rattle.rule.specs.declared.Checked.the-variants.{Accepted}
+use Rattle.rule.specs.declared.Reading.{Reading}
+use Rattle.rule.specs.declared.Reading.the-variants as reading
+use Rattle.rule.proofs.Walk.{readRule}
+use Rattle.rule.proofs.Registers.{told-right}
+use Rattle.rule.proofs.Bytes.{bytes-read}
+use Rattle.rule.proofs.ReadText.{in-grammar}
+use Rattle.rule.proofs.TreeBytes.{coded-names, coded-numbers, tree-bytes}
+use Rattle.rule.proofs.ReadChecks.{check-accepted}
+
+-- the registers that refuse nothing tell the number of frames
+told-count : (m : Mem) → told m .0 ≡ 0 → told m .1 ≡ m .count
+told-count m = go (eqb (m .name) 0) (eqb (m .number) 0) (m .deep) (ltb 64 (m .count))
+  where
+    tell : Bool → Bool → Bool → Bool → ℕ × ℕ
+    tell a b c d = cond a (cond b (cond c (6, 0) (cond d (6, 0) (0, m .count))) (5, m .number - 1)) (4, m .name - 1)
+
+    go : (a b c d : Bool) → tell a b c d .0 ≡ 0 → tell a b c d .1 ≡ m .count
+    go false b c d e = absurd (omega arith)
+    go true false c d e = absurd (omega arith)
+    go true true true d e = absurd (omega arith)
+    go true true false true e = absurd (omega arith)
+    go true true false false e = refl
+
+settled-frames : (b : List ℕ) (m : Mem) (n : ℕ) (s : List ℕ) → told m ≡ (0, n) → m .bytes ≡ s → (settled b m ≡ afterCheck b m (checkedOf (take (n * 8) s))) × (m .count ≡ n)
+settled-frames b m n s e f =
+    let z : told m .0 ≡ 0 = ap (λ (q : ℕ × ℕ). q .0) e in
+    let c : m .count ≡ n = sym (told-count m z) ∙ ap (λ (q : ℕ × ℕ). q .1) e in
+    (subst (λ (q : ℕ × ℕ). cond (eqb (q .0) 0) (afterCheck b m (checkedOf (take (m .count * 8) (m .bytes)))) (refusedAs (q .0) (q .1), b) ≡ afterCheck b m (checkedOf (take (n * 8) s))) (sym e) (rw (c, f)), c)
+
+pairs : {u v : Reading} {l m : List ℕ} → u ≡ v → l ≡ m → _≡_ {A = Reading × List ℕ} (u, l) (v, m)
+pairs e f = rw (e, f)
+
+module _ (text b : List ℕ) (fit : length b ≡ 512) where
+  module _ (x : Rule) (w : Within text x) where
+    -- the registers after the tree
+    abbrev after : Mem
+    after = readRule Mem (acts text) x (fresh (replicate 512 0))
+
+    judged-well : verdict (codeAt text) (valueAt text) x ≡ read-as (frames x)
+    judged-well = rw (coded-names text x w, coded-numbers text x w, le-ltb 16 (depth x) (w .shallow), le-ltb 64 (length (frames x)) (w .few-frames))
+
+    told-tree : told after ≡ (0, length (frames x))
+    unfolding acts
+    told-tree = told-right (codeAt text) (valueAt text) (replicate 512 0) x ∙ ap (λ (q : Verdict). telling q) judged-well
+
+    bytes-tree : after .bytes ≡ treeBytes text x
+    unfolding acts
+    bytes-tree = bytes-read (codeAt text) (valueAt text) (replicate 512 0) x (coded-names text x w)
+
+    its-answer : (a : Checked) → checkedOf (take (length (frames x) * 8) (treeBytes text x)) ≡ a → readOf text b ≡ afterCheck b after a
+    its-answer a q =
+        in-grammar text b fit (w .spelled .sized .some-bytes) (w .spelled .sized .few-bytes) x (w .spelled .spells)
+        ∙ (settled-frames b after (length (frames x)) (treeBytes text x) told-tree bytes-tree .0 ∙ ap (λ (c : Checked). afterCheck b after c) q)
+
+    -- 7 or 8 of its frames
+    pub tree-refused : (k p : ℕ) → checkedOf (take (length (frames x) * 8) (treeBytes text x)) ≡ refused k p → readOf text b ≡ (refusedAs k p, b)
+    tree-refused k p = its-answer (refused k p)
+
+    tree-accepted : checkedOf (take (length (frames x) * 8) (treeBytes text x)) ≡ Accepted → readOf text b ≡ (reading.Frames (length (frames x)), treeBytes text x)
+    tree-accepted q =
+        its-answer Accepted q
+        ∙ pairs (ap (λ (k : ℕ). reading.Frames k) (settled-frames b after (length (frames x)) (treeBytes text x) told-tree bytes-tree .1)) bytes-tree
+
+  -- or accepted
+  pub tree-read : (n : ℕ) (s : List ℕ) → ReadAs text n s → readOf text b ≡ (reading.Frames n, s)
+  tree-read n s r =
+      tree-accepted (r .tree) (r .within) (check-accepted text (r .tree) (r .within) .1 (r .named, r .exact))
+      ∙ pairs (ap (λ (k : ℕ). reading.Frames k) (sym (r .count)))
+      (tree-bytes text (r .tree) (r .within) ∙ (ap (λ (k : ℕ). bytesOf (postfix (meaning text (r .tree))) ++ replicate (512 - k * 8) 0) (sym (r .count)) ∙ sym (r .bytes)))

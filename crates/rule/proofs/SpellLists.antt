@@ -1,0 +1,29 @@
+-- What holds of every member of a list. Assumes nothing.
+use mathlib.Core.Path.{_≡_, ap, sym, _∙_}
+use mathlib.Core.List.{List, [], _∷_, _++_, append-assoc}
+use Rattle.rule.specs.Memory.{each}
+use Rattle.rule.specs.Spelling.{In, here, there}
+use Rattle.rule.proofs.Drafts.{each-append, All}
+
+module _ {A : Type 0} where
+  pub all-in : (P : A → Type 0) {l : List A} {a : A} → In a l → All P l → P a
+  all-in P here h = h .0
+  all-in P (there i) h = all-in P i (h .1)
+
+  pub all-map : (P Q : A → Type 0) (l : List A) → ((a : A) → P a → Q a) → All P l → All Q l
+  all-map P Q [] f h = tt
+  all-map P Q (a ∷ l) f h = (f a (h .0), all-map P Q l f (h .1))
+
+  -- each member is one
+  pub all-own : (l : List A) → All (λ a. In a l) l
+  all-own [] = tt
+  all-own (a ∷ l) = (here, all-map (λ b. In b l) (λ b. In b (a ∷ l)) l (λ b i. there i) (all-own l))
+
+module _ {A B : Type 0} (f : A → B) where
+  pub all-each : (P : B → Type 0) (l : List A) → All P (each f l) → All (λ a. P (f a)) l
+  all-each P [] h = tt
+  all-each P (a ∷ l) h = (h .0, all-each P l (h .1))
+
+  -- two parts, one after the other, and then u
+  pub both : (l m : List A) (u : List B) {s t : List B} → s ≡ each f l ++ t → t ≡ each f m ++ u → s ≡ each f (l ++ m) ++ u
+  both l m u d e = d ∙ (ap (λ (k : List B). each f l ++ k) e ∙ (sym (append-assoc (each f l) (each f m) u) ∙ ap (λ (k : List B). k ++ u) (sym (each-append f l m))))
