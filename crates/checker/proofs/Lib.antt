@@ -17,10 +17,10 @@ pub mod Marked
 pub mod CodeCopy
 pub mod CodeBase
 pub mod CodeRing
+pub mod CodeGood
 pub mod CodeFeed
 pub mod Main
 pub mod PullBits
 pub mod PullFound
 pub mod PullReport
-pub mod PullGood
 pub mod PullOffer

@@ -1,5 +1,5 @@
 -- From marks and notes to what a pull gives. Assumes nothing.
-use mathlib.Core.Path.{_≡_, ap, _∙_}
+use mathlib.Core.Path.{_≡_, sym}
 use mathlib.Core.Bool.{true, false}
 use mathlib.Core.List.{List, map}
 use Prim.Native.Nat.{ℕ, _≤_}
@@ -8,51 +8,38 @@ use lib.Dec.{eqb, ltb}
 use lib.IntN.{ℤ}
 use lib.ListN.{length}
 use Rattle.rule.specs.Frames.{frameCount, Bytes}
-use Rattle.rule.specs.Tree.{references}
+use Rattle.rule.specs.Tree.{Reference, references}
 use Rattle.rule.specs.Build.{treeOf}
 use Rattle.rule.specs.References.{referenceCount}
-use Rattle.rule.specs.Check.{checkedOf}
-use Rattle.rule.specs.declared.Checked.the-variants.{Accepted}
 use Rattle.rule.proofs.Facts.{passed}
+use Rattle.verdict.specs.Found.{Found}
 use Rattle.verdict.specs.Settled.{judgement}
 use Rattle.verdict.specs.Marks.{Judgeable}
 use Rattle.verdict.specs.Pass.{judgementOf}
 use Rattle.verdict.specs.declared.Judgement.{Judgement}
 use Rattle.verdict.proofs.Main.{judge-accepted}
 use Rattle.checker.specs.Limits.{windowWords, reportLeast}
-use Rattle.checker.specs.State.{ruleIn, refsIn}
+use Rattle.checker.specs.State.{ruleIn}
 use Rattle.checker.specs.Good.{goodState}
 use Rattle.checker.specs.Report.{reportBytes}
 use Rattle.checker.specs.Answer.{refused}
 use Rattle.checker.specs.Pull.{pullRead, offered, foundHere, notPulled, pulledBy, pullDef}
-use Rattle.checker.specs.Sights.{foundBy, Looked, Lookable, Fillable, headerOf, reportTo}
-use Rattle.checker.specs.Offer.{Countable, Offerable, offeredBy}
+use Rattle.checker.specs.Sights.{Looked, Fillable, headerOf, reportTo}
+use Rattle.checker.specs.Offer.{Offerable}
 use Rattle.checker.specs.declared.State.{State}
 use Rattle.checker.proofs.PullFound.{shown-told}
 use Rattle.checker.proofs.PullReport.{report-is}
-use Rattle.checker.proofs.PullGood.{good-facts}
 
-module _ (s : State) (fs : List ℕ) (n m : ℕ) (o : Offerable s fs n m) where
-  pub offer-accepted : checkedOf fs ≡ Accepted
-  offer-accepted = ap checkedOf (o .own) ∙ good-facts s (o .good) .accepted
-
-  pub offer-counts : Countable (s .totals) (s .next .0)
-  offer-counts = good-facts s (o .good) .totals
-
-  pub offer-look : Lookable (s .next .0) (s .width) n
-  offer-look =
-      let f = good-facts s (o .good) in
-      record { instance-in = f .totals .low; some = f .some; most = f .most; words = o .words }
-
+module _ (fs : List ℕ) (p w n m : ℕ) (o : Offerable fs p w n m) where
   offer-few : frameCount fs ≤ 64
-  offer-few = omega (arith, passed fs offer-accepted .whole .most)
+  offer-few = omega (arith, passed fs (o .accepted) .whole .most)
 
-  module _ (win : List ℤ) (marks : List ℕ) (notes : List ℤ) (l : Looked fs (foundBy (s .width) (s .counts) win (s .next .0)) marks notes) where
-    pub offer-judge : Judgeable fs (s .next .0) marks notes
+  module _ (found : Reference → Found) (marks : List ℕ) (notes : List ℤ) (l : Looked fs found marks notes) where
+    pub offer-judge : Judgeable fs p marks notes
     offer-judge =
         record {
-          accepted = offer-accepted;
-          instance-in = offer-counts .low;
+          accepted = o .accepted;
+          instance-in = o .look .instance-in;
           marked = omega (arith, offer-few, l .marked);
           noted = omega (arith, offer-few, l .noted);
         }
@@ -60,29 +47,21 @@ module _ (s : State) (fs : List ℕ) (n m : ℕ) (o : Offerable s fs n m) where
     pub offer-fill : Fillable fs m marks notes
     offer-fill =
         record {
-          accepted = offer-accepted;
+          accepted = o .accepted;
           room = o .room;
           marked = omega (arith, offer-few, l .marked);
           noted = omega (arith, offer-few, l .noted);
         }
 
-    offer-judged : judgementOf fs (s .next .0) marks notes ≡ judgement (s .next .0) (foundHere s win) (ruleIn s)
-    offer-judged =
-        judge-accepted fs (s .next .0) (foundHere s win) marks notes offer-accepted (shown-told fs (foundHere s win) marks notes (l .shown))
-        ∙ ap (λ (f : List ℕ). judgement (s .next .0) (foundHere s win) (treeOf f)) (o .own)
-
-    -- what is given where the judgement is j
-    pub offer-gives : (buffer : List ℕ) (r j : Judgement) → r ≡ judgementOf fs (s .next .0) marks notes → r ≡ j
-        → pulledBy s win buffer (offered j) ≡ offeredBy s win buffer
-    offer-gives buffer r j e q =
-        let t : j ≡ judgement (s .next .0) (foundHere s win) (ruleIn s) = cc (e, q, offer-judged) in
-        ap (λ (x : Judgement). pulledBy s win buffer (offered x)) t
+    -- where the pass says j, so does the definition
+    pub offer-judged : (r j : Judgement) → r ≡ judgementOf fs p marks notes → r ≡ j → j ≡ judgement p found (treeOf fs)
+    offer-judged r j e q =
+        let d : judgementOf fs p marks notes ≡ judgement p found (treeOf fs) = judge-accepted fs p found marks notes (o .accepted) (shown-told fs found marks notes (l .shown)) in
+        cc (e, q, d)
 
     pub offer-report : Bytes fs
-        → reportTo fs marks notes (headerOf (s .next .0) (referenceCount fs)) (frameCount fs) ≡ reportBytes (s .next .0) (map (foundHere s win) (refsIn s))
-    offer-report b =
-        report-is (foundHere s win) b offer-accepted marks notes (s .next .0) (l .shown)
-        ∙ ap (λ (f : List ℕ). reportBytes (s .next .0) (map (foundHere s win) (references (treeOf f)))) (o .own)
+        → reportTo fs marks notes (headerOf p (referenceCount fs)) (frameCount fs) ≡ reportBytes p (map found (references (treeOf fs)))
+    offer-report b = report-is found b (o .accepted) marks notes p (l .shown)
 
 -- ---- a pull by its tests
 module _ (s : State) (win : List ℤ) (buffer : List ℕ) where
@@ -100,6 +79,6 @@ module _ (s : State) (win : List ℤ) (buffer : List ℕ) where
   pull-14 g l r = rw (g, l, r)
 
   pub pull-offers : goodState s ≡ true → eqb (length win) (windowWords (s .width)) ≡ true → ltb (length buffer) reportLeast ≡ false
-      → offeredBy s win buffer ≡ pullDef s win buffer
+      → (j : Judgement) → j ≡ judgement (s .next .0) (foundHere s win) (ruleIn s) → pulledBy s win buffer (offered j) ≡ pullDef s win buffer
   unfolding pullDef pullRead
-  pull-offers g l r = rw (g, l, r)
+  pull-offers g l r j e = rw (g, l, r, sym e)

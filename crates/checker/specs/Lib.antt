@@ -2,6 +2,7 @@ pub mod Limits
 pub mod Answer
 pub mod Base
 pub mod State
+pub mod Parts
 pub mod Ring
 pub mod Found
 pub mod Open

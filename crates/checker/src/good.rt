@@ -1,12 +1,12 @@
 // 12: the states that are turned down.
-use crate::State;
 use crate::Totals;
+use crate::apart::Rest;
 use crate::base;
 use crate::opening;
 use rule::Checked;
 use verdict::Instance;
 ghost use mathlib.Core.Path.{_≡_};
-ghost use mathlib.Core.Bool.{Bool, true, _&&_};
+ghost use mathlib.Core.Bool.{Bool, true, false, _&&_};
 ghost use Prim.Native.Nat.{_*_, _≤_};
 ghost use lib.Dec.{leb, eqb};
 ghost use lib.ListN.{length, getD, take};
@@ -14,10 +14,11 @@ ghost use Rattle.rule.specs.Limits.{eventLimit, frameLimit, frameBytes};
 ghost use Rattle.rule.specs.Check.{checkedOf};
 ghost use Rattle.rule.specs.declared.Checked.{Checked};
 ghost use Rattle.verdict.specs.Found.{instanceLimit};
-ghost use Rattle.checker.specs.State.{sumOf};
+ghost use Rattle.checker.specs.State.{sumOf, stateFrames};
+ghost use Rattle.checker.specs.Parts.{stateOf};
 ghost use Rattle.checker.specs.Open.{widthFits};
 ghost use Rattle.checker.specs.Good.{isAccepted, allTo, goodState};
-ghost use Rattle.checker.specs.Lows.{countFits, ruleFits, tallyFits};
+ghost use Rattle.checker.specs.Lows.{lowsOf, countFits, ruleFits, tallyFits};
 
 // At most 64 frames of 8 bytes.
 const FRAMES: u32 = 64;
@@ -33,6 +34,12 @@ pub const LINES: u32 = 1000000;
 
 // No instance number is larger.
 const INSTANCES: u32 = 1009999;
+
+// What 12 says of a state; where it fits, lows are the bases of the events.
+pub struct Tested {
+    pub fits: bool,
+    pub lows: [u32; 8],
+}
 
 fn accepted(c: Checked) -> bool
     ensures { λ r. ⌜ r ≡ isAccepted c ⌝ }
@@ -89,39 +96,41 @@ fn totals_fit(totals: Totals, p: Instance) -> bool
     totals.held as u64 + totals.failed as u64 + totals.unknown as u64 == p.0 as u64
 }
 
-// Whether counts, p and totals are those of a checker with these frames.
-fn tally_fits(
-    frames: &[u8],
-    len: u32,
-    width: u32,
-    counts: [u32; 8],
-    p: Instance,
-    totals: Totals,
-) -> bool
-    requires { ⌜ (length (now frames) ≡ frameLimit * frameBytes) × ((len ≤ frameLimit) × (checkedOf (take (len * frameBytes) (now frames)) ≡ Checked.Accepted)) ⌝ }
-    ensures { λ r. ⌜ r ≡ tallyFits (take (len * frameBytes) (now (frames .entry))) width counts (p .0) totals ⌝ }
+fn unfit() -> Tested
+    ensures { λ r. ⌜ r .fits ≡ false ⌝ }
 {
+    let lows = [0u32; 8];
+    Tested { fits: false, lows }
+}
+
+// Whether counts, p and totals are those of a checker with these frames.
+fn tally_fits(frames: &[u8], s: Rest) -> Tested
+    requires { ⌜ (length (now frames) ≡ frameLimit * frameBytes) × ((s .len ≤ frameLimit) × (checkedOf (take (s .len * frameBytes) (now frames)) ≡ Checked.Accepted)) ⌝ }
+    ensures { λ r. ⌜ (r .fits ≡ tallyFits (take (s .len * frameBytes) (now (frames .entry))) (s .width) (s .counts) (s .next .0) (s .totals)) × (r .fits ≡ true → r .lows ≡ lowsOf (take (s .len * frameBytes) (now (frames .entry))) (s .next .0)) ⌝ }
+{
+    let p = s.next;
     if p.0 <= INSTANCES {
-        let n = len as usize * FRAME_BYTES;
+        let n = s.len as usize * FRAME_BYTES;
         let lows = base::lows(&frames[..n], p);
-        counts_fit(width, lows, counts) & totals_fit(totals, p)
+        let counts = s.counts;
+        let totals = s.totals;
+        Tested {
+            fits: counts_fit(s.width, lows, counts) & totals_fit(totals, p),
+            lows,
+        }
     } else {
-        false
+        unfit()
     }
 }
 
-// Whether 12 lets a state through.
-pub fn good(s: State) -> bool
-    ensures { λ r. ⌜ r ≡ goodState s ⌝ }
+// Whether 12 lets a state through: its frames, with those after the last, and its rest.
+pub fn good(frames: &[u8], s: Rest) -> Tested
+    requires { ⌜ length (now frames) ≡ frameLimit * frameBytes ⌝ }
+    ensures { λ r. ⌜ (r .fits ≡ goodState (stateOf (now (frames .entry)) s)) × (r .fits ≡ true → r .lows ≡ lowsOf (stateFrames (stateOf (now (frames .entry)) s)) (s .next .0)) ⌝ }
 {
-    let len = s.len;
-    let width = s.width;
-    if rule_fits(&s.frames, len, width) {
-        let counts = s.counts;
-        let p = s.next;
-        let totals = s.totals;
-        tally_fits(&s.frames, len, width, counts, p, totals)
+    if rule_fits(frames, s.len, s.width) {
+        tally_fits(frames, s)
     } else {
-        false
+        unfit()
     }
 }

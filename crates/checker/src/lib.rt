@@ -1,4 +1,5 @@
 // Opening, feeding and pulling over a state by value and a lent window.
+mod apart; // apart.rt: a state as frames and the rest
 mod base; // base.rt: the base of each event
 mod feeding; // feeding.rt: 12, 13, 15, ignored, 16, 17
 mod found; // found.rt: marks and notes of references

@@ -3,6 +3,8 @@ use crate::PullAnswer;
 use crate::Pulled;
 use crate::State;
 use crate::Totals;
+use crate::apart;
+use crate::apart::Rest;
 use crate::found;
 use crate::good;
 use crate::opening;
@@ -12,11 +14,19 @@ use verdict::Instance;
 use verdict::Judgement;
 use verdict::Truth;
 ghost use mathlib.Core.Path.{_≡_};
+ghost use mathlib.Core.List.{List};
+ghost use Prim.Native.Nat.{ℕ, _+_, _*_};
 ghost use lib.ListN.{length};
+ghost use Rattle.rule.specs.Limits.{frameLimit, frameBytes};
+ghost use Rattle.rule.specs.Tree.{references};
+ghost use Rattle.rule.specs.Build.{treeOf};
+ghost use Rattle.verdict.specs.Settled.{judgement};
 ghost use Rattle.checker.specs.Answer.{pullTold};
-ghost use Rattle.checker.specs.State.{counted, withPulled};
-ghost use Rattle.checker.specs.Pull.{pullDef};
-ghost use Rattle.checker.specs.Offer.{Countable, Offerable, offeredBy};
+ghost use Rattle.checker.specs.State.{counted};
+ghost use Rattle.checker.specs.Parts.{stateOf, withTurn};
+ghost use Rattle.checker.specs.Pull.{offered, pullAnswer, pullReport, stateAfter, pullDef};
+ghost use Rattle.checker.specs.Sights.{foundBy};
+ghost use Rattle.checker.specs.Offer.{Countable, Offerable};
 
 // A frame has 8 bytes.
 const FRAME_BYTES: usize = 8;
@@ -24,13 +34,30 @@ const FRAME_BYTES: usize = 8;
 // A report buffer has at least 166 bytes.
 const REPORT_LEAST: usize = 166;
 
-fn refuse(s: State, number: u8) -> Pulled
-    ensures { λ r. ⌜ r ≡ record { answer = PullAnswer.Refused (record { number = number; place = 0 }); state = s } ⌝ }
+// What a pull gives: the answer, and p and the totals after it.
+pub struct Turn {
+    pub answer: PullAnswer,
+    pub next: Instance,
+    pub totals: Totals,
+}
+
+// An answer that moves nothing.
+fn stay(s: Rest, answer: PullAnswer) -> Turn
+    ensures { λ r. ⌜ r ≡ record { answer = answer; next = s .next; totals = s .totals } ⌝ }
 {
-    Pulled {
-        answer: PullAnswer::Refused(Refusal { number, place: 0 }),
-        state: s,
+    let next = s.next;
+    let totals = s.totals;
+    Turn {
+        answer,
+        next,
+        totals,
     }
+}
+
+fn refuse(s: Rest, number: u8) -> Turn
+    ensures { λ r. ⌜ r ≡ record { answer = PullAnswer.Refused (record { number = number; place = 0 }); next = s .next; totals = s .totals } ⌝ }
+{
+    stay(s, PullAnswer::Refused(Refusal { number, place: 0 }))
 }
 
 // A verdict's total goes up by 1.
@@ -58,56 +85,82 @@ fn count_verdict(t: Totals, p: Instance, v: Truth) -> Totals
 }
 
 // p and that verdict's total go up by 1.
-fn move_on(s: State, v: Truth) -> State
+fn move_on(s: Rest, answer: PullAnswer, v: Truth) -> Turn
     requires { ⌜ Countable (s .totals) (s .next .0) ⌝ }
-    ensures { λ r. ⌜ r ≡ withPulled s v ⌝ }
+    ensures { λ r. ⌜ r ≡ record { answer = answer; next = record { 0 = s .next .0 + 1 }; totals = counted (s .totals) v } ⌝ }
 {
     let p = s.next;
     let t = s.totals;
     let totals = count_verdict(t, p, v);
-    let frames = s.frames;
-    let counts = s.counts;
-    State {
-        frames,
-        len: s.len,
-        width: s.width,
-        counts,
+    Turn {
+        answer,
         next: Instance(p.0 + 1),
         totals,
     }
 }
 
-// What is offered of the next instance, with the frames of a state that 12 lets through.
-fn offer(s: State, frames: &[u8], window: &[i32], report: &mut [u8]) -> Pulled
-    requires { ⌜ Offerable s (now frames) (length (now window)) (length (now report)) ⌝ }
-    ensures { λ r. ⌜ (pullTold (r .answer) ≡ offeredBy s (now (window .entry)) (now (report .entry)) .answer) × ((r .state ≡ offeredBy s (now (window .entry)) (now (report .entry)) .state) × (now (report .exit) ≡ offeredBy s (now (window .entry)) (now (report .entry)) .report)) ⌝ }
+// What is given for a judgement of the next instance.
+fn give(s: Rest, judged: Judgement) -> Turn
+    requires { ⌜ Countable (s .totals) (s .next .0) ⌝ }
+    ensures { λ r. ⌜ (pullTold (r .answer) ≡ pullAnswer (offered judged)) × ((frames : List ℕ) → withTurn (stateOf frames s) (r .next) (r .totals) ≡ stateAfter (stateOf frames s) (offered judged)) ⌝ }
 {
-    let p = s.next;
-    let counts = s.counts;
-    let sights = found::look(frames, p, s.width, counts, window);
+    match judged {
+        Judgement::Unsettled => stay(s, PullAnswer::Waiting),
+        Judgement::True => move_on(s, PullAnswer::True, Truth::True),
+        Judgement::False => move_on(s, PullAnswer::False, Truth::False),
+        Judgement::Unknown => move_on(s, PullAnswer::Unknown, Truth::Unknown),
+    }
+}
+
+// What is offered of instance p of accepted frames; the report is filled where that is false.
+fn offer(
+    frames: &[u8],
+    p: Instance,
+    width: u32,
+    counts: [u32; 8],
+    window: &[i32],
+    report: &mut [u8],
+) -> Judgement
+    requires { ⌜ Offerable (now frames) (p .0) width (length (now window)) (length (now report)) ⌝ }
+    ensures { λ r. ⌜ (r ≡ judgement (p .0) (foundBy width counts (now (window .entry)) (p .0)) (treeOf (now (frames .entry)))) × (now (report .exit) ≡ pullReport (p .0) (references (treeOf (now (frames .entry)))) (foundBy width counts (now (window .entry)) (p .0)) (now (report .entry)) (offered r)) ⌝ }
+{
+    let sights = found::look(frames, p, width, counts, window);
     let marks = sights.marks;
     let notes = sights.notes;
     let judged = verdict::judge(frames, p, &marks, &notes);
     match judged {
-        Judgement::Unsettled => Pulled {
-            answer: PullAnswer::Waiting,
-            state: s,
-        },
-        Judgement::True => Pulled {
-            answer: PullAnswer::True,
-            state: move_on(s, Truth::True),
-        },
+        Judgement::Unsettled => Judgement::Unsettled,
+        Judgement::True => Judgement::True,
         Judgement::False => {
             report::fill(report, frames, p, &marks, &notes);
-            Pulled {
-                answer: PullAnswer::False,
-                state: move_on(s, Truth::False),
-            }
+            Judgement::False
         }
-        Judgement::Unknown => Pulled {
-            answer: PullAnswer::Unknown,
-            state: move_on(s, Truth::Unknown),
-        },
+        Judgement::Unknown => Judgement::Unknown,
+    }
+}
+
+// A pull from a checker, whatever the state, the window and the report buffer are.
+fn decide(frames: &[u8], rest: Rest, window: &[i32], report: &mut [u8]) -> Turn
+    requires { ⌜ length (now frames) ≡ frameLimit * frameBytes ⌝ }
+    ensures { λ r. ⌜ (pullTold (r .answer) ≡ pullDef (stateOf (now (frames .entry)) rest) (now (window .entry)) (now (report .entry)) .answer) × ((withTurn (stateOf (now (frames .entry)) rest) (r .next) (r .totals) ≡ pullDef (stateOf (now (frames .entry)) rest) (now (window .entry)) (now (report .entry)) .state) × (now (report .exit) ≡ pullDef (stateOf (now (frames .entry)) rest) (now (window .entry)) (now (report .entry)) .report)) ⌝ }
+{
+    let tested = good::good(frames, rest);
+    if tested.fits {
+        if opening::window_fits(rest.width, window.len()) {
+            if report.len() < REPORT_LEAST {
+                refuse(rest, 14)
+            } else {
+                let n = rest.len as usize * FRAME_BYTES;
+                let p = rest.next;
+                let counts = rest.counts;
+                let judged = offer(&frames[..n], p, rest.width, counts, window, report);
+                give(rest, judged)
+            }
+        } else {
+            refuse(rest, 13)
+        }
+    } else {
+        refuse(rest, 12)
     }
 }
 
@@ -115,19 +168,13 @@ fn offer(s: State, frames: &[u8], window: &[i32], report: &mut [u8]) -> Pulled
 pub fn pull(state: State, window: &[i32], report: &mut [u8]) -> Pulled
     ensures { λ r. ⌜ (pullTold (r .answer) ≡ pullDef state (now (window .entry)) (now (report .entry)) .answer) × ((r .state ≡ pullDef state (now (window .entry)) (now (report .entry)) .state) × (now (report .exit) ≡ pullDef state (now (window .entry)) (now (report .entry)) .report)) ⌝ }
 {
-    if good::good(state) {
-        if opening::window_fits(state.width, window.len()) {
-            if report.len() < REPORT_LEAST {
-                refuse(state, 14)
-            } else {
-                let n = state.len as usize * FRAME_BYTES;
-                let frames = state.frames;
-                offer(state, &frames[..n], window, report)
-            }
-        } else {
-            refuse(state, 13)
-        }
-    } else {
-        refuse(state, 12)
-    }
+    let rest = apart::rest_of(state);
+    let turn = decide(&state.frames, rest, window, report);
+    let answer = turn.answer;
+    let next = turn.next;
+    let totals = turn.totals;
+    let mut t = state;
+    t.next = next;
+    t.totals = totals;
+    Pulled { answer, state: t }
 }

@@ -1,3 +1,4 @@
+-- `checker::base::lower_by` meets its contract. Assumes nothing.
 use mathlib.Core.Path.{_≡_}
 use borrow.Author.Tests.{eq-eqb, ne-eqb}
 use lib.ListN.{length-set}

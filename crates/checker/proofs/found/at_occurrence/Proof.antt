@@ -1,3 +1,4 @@
+-- `checker::found::at_occurrence` meets its contract. Assumes nothing.
 use mathlib.Core.Path.{_≡_, refl, ap, _∙_}
 use mathlib.Core.Bool.{true, false}
 use Prim.Native.Nat.{ℕ}
@@ -14,26 +15,21 @@ use native.Mathlib.Omega.{arith}
 use Rattle.checker.proofs.found.at_occurrence.Statement.{statement}
 use Rattle.checker.proofs.found.at_occurrence.Tie as tie
 
--- src/found.rt:48:13
 word-requires : tie.Need-word-requires
 word-requires c κs = search needs
 
--- src/found.rt:51:19
 mul-t10 : tie.Need-mul-t10
 mul-t10 c = omega (arith, word-most (c .before .before .before .args .width) (c .before .before .before .args .event) (c .before .before .before .args .k .0) (c .before .before .before .args .note) (c .before .before .before .pre .0 .some) (c .before .before .before .pre .0 .event) (c .before .before .before .pre .0 .note), c .word .ensures, c .before .before .before .pre .1)
 
--- src/found.rt:51:19
 shared-slice-copy-out-t12 : tie.Need-shared-slice-copy-out-t12
 shared-slice-copy-out-t12 c = omega (arith, word-most (c .before .before .before .args .width) (c .before .before .before .args .event) (c .before .before .before .args .k .0) (c .before .before .before .args .note) (c .before .before .before .pre .0 .some) (c .before .before .before .pre .0 .event) (c .before .before .before .pre .0 .note), c .word .ensures, c .before .before .before .pre .1)
 
--- src/found.rt:43:1
 returns : tie.Need-returns
 returns c =
     let h : ltb (c .before .before .before .before .args .k .0) (c .before .before .before .before .args .count) ≡ true = lt-ltb (c .before .before .before .before .args .k .0) (c .before .before .before .before .args .count) (c .before .before .if1 .taken) in
     let z = getD (c .before .before .before .before .args .window .now) (c .before .word .result) (pos 0) in
     rw h (record { mark-is = refl; note-is = toZ-ofZ w32 z (sfits-of (c .t12 .given)) ∙ ap (λ (i : ℕ). getD (c .before .before .before .before .args .window .now) i (pos 0)) (c .before .word .ensures) })
 
--- src/found.rt:43:1
 returns-2 : tie.Need-returns-2
 returns-2 c =
     let h : ltb (c .before .before .args .k .0) (c .before .before .args .count) ≡ false = le-ltb (c .before .before .args .k .0) (c .before .before .args .count) (c .if1 .left) in

@@ -1,3 +1,4 @@
+-- `checker::found::of_reference` meets its contract. Assumes nothing.
 use lib.IntN.{ℤ}
 use mir.Syntax.{w32}
 use mir.Val.{SFits}
@@ -12,35 +13,27 @@ use native.Mathlib.Omega.{arith}
 use Rattle.checker.proofs.found.of_reference.Statement.{statement}
 use Rattle.checker.proofs.found.of_reference.Tie as tie
 
--- src/found.rt:66:13
 cast-e : tie.Need-cast-e
 cast-e c = search needs
 
--- src/found.rt:67:17
 mul-count : tie.Need-mul-count
 mul-count c = search needs
 
--- src/found.rt:67:17
 array-read-count : tie.Need-array-read-count
 array-read-count c = search needs
 
--- src/found.rt:68:9
 occurrence-of-requires : tie.Need-occurrence-of-requires
 occurrence-of-requires c κs = search needs
 
--- src/found.rt:70:24
 enum-told : tie.Need-enum-told
 enum-told c = search needs
 
--- src/found.rt:74:19
 enum-known-meant : tie.Need-enum-known-meant
 enum-known-meant c = search needs
 
--- src/found.rt:74:25
 at-occurrence-requires : tie.Need-at-occurrence-requires
 at-occurrence-requires c κs = search needs
 
--- src/found.rt:62:1
 returns : tie.Need-returns
 returns c =
     let a = c .before .before .before .before .before .args in
@@ -48,7 +41,6 @@ returns c =
     let q = ap (λ (z : ℤ). meantBy (occurrence (a .x .factor) z (a .p .0))) (toZ-ofZ w32 (a .x .value) f) in
     void-shows (c .before .before .before .before .before .args .width) (c .before .before .before .before .before .args .window .now) (getD (c .before .before .before .before .before .args .t4) (c .before .before .before .before .before .args .x .event) 0) (c .before .before .before .before .before .args .x .event) (c .before .before .before .before .before .args .x .note) (occurrence (c .before .before .before .before .before .args .x .factor) (c .before .before .before .before .before .args .x .value) (c .before .before .before .before .before .args .p .0)) (sym (c .enum-told .given .1) ∙ c .before .before .occurrence-of .ensures ∙ q)
 
--- src/found.rt:62:1
 returns-2 : tie.Need-returns-2
 returns-2 c =
     let a = c .before .before .before .before .before .before .before .args in

@@ -1,3 +1,4 @@
+-- `checker::good::count_fits` meets its contract. Assumes nothing.
 use borrow.Author.Tests.{eq-eqb, ne-eqb}
 use Rattle.checker.specs.Lows.{noBase}
 use borrow.Author.Needs.{needs}

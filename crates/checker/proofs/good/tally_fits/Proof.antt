@@ -1,21 +1,27 @@
-use mathlib.Core.Path.{sym}
-use Prim.Native.Nat.{_*_}
+-- `checker::good::tally_fits` meets its contract. Assumes nothing.
+use mathlib.Core.Path.{sym, _∙_}
+use mathlib.Core.List.{List}
+use Prim.Native.Nat.{ℕ, _*_}
 use lib.ListN.{take}
 use lib.Seq.{length-take-le}
-use Rattle.checker.proofs.CodeFeed.{tally-by, tally-no}
+use Rattle.numbers.proofs.Bools.{true-false}
+use Rattle.checker.proofs.CodeGood.{tally-by, tally-no}
 use borrow.Author.Needs.{needs}
 use native.Mathlib.Omega.{arith}
 use Rattle.checker.proofs.good.tally_fits.Statement.{statement}
 use Rattle.checker.proofs.good.tally_fits.Tie as tie
 
+cast-n : tie.Need-cast-n
+cast-n c = search needs
+
 mul-n : tie.Need-mul-n
 mul-n c = search needs
 
 slice-aggregate-lows : tie.Need-slice-aggregate-lows
-slice-aggregate-lows c = sym (length-take-le _ _ (omega (arith, c .before .before .before .before .pre .0, c .before .before .before .before .pre .1 .0)))
+slice-aggregate-lows c = sym (length-take-le _ _ (omega (arith, c .before .before .before .before .before .before .pre .0, c .before .before .before .before .before .before .pre .1 .0)))
 
 lows-requires : tie.Need-lows-requires
-lows-requires c κs = record { accepted = c .before .before .before .before .pre .1 .1; instance-in = c .before .if1 .taken }
+lows-requires c κs = record { accepted = c .before .before .before .before .before .before .pre .1 .1; instance-in = c .before .before .if1 .taken }
 
 counts-fit-requires : tie.Need-counts-fit-requires
 counts-fit-requires c κs = search needs
@@ -23,15 +29,22 @@ counts-fit-requires c κs = search needs
 totals-fit-requires : tie.Need-totals-fit-requires
 totals-fit-requires c κs = search needs
 
+unfit-requires : tie.Need-unfit-requires
+unfit-requires c κs = search needs
+
 returns : tie.Need-returns
 returns c =
-    let a = c .before .before .before .before .before .before .before .args in
-    tally-by (take (a .len * 8) (a .frames .now)) (a .width) (a .counts) (a .p .0) (a .totals) (c .before .before .lows .result) (c .before .counts-fit .result) (c .totals-fit .result) (c .before .before .before .before .if1 .taken) (c .before .before .lows .ensures) (c .before .counts-fit .ensures) (c .totals-fit .ensures)
+    let s = c .before .before .before .before .before .before .before .before .before .before .before .args .s in
+    let fs : List ℕ = take (s .len * 8) (c .before .before .before .before .before .before .before .before .before .before .before .args .frames .now) in (
+      tally-by fs (s .width) (s .counts) (s .next .0) (s .totals) (c .before .before .before .before .lows .result) (c .before .counts-fit .result) (c .totals-fit .result) (c .before .before .before .before .before .before .before .if1 .taken) (c .before .before .before .before .lows .ensures) (c .before .counts-fit .ensures) (c .totals-fit .ensures),
+      λ q. c .before .before .before .before .lows .ensures,
+    )
 
 returns-2 : tie.Need-returns-2
 returns-2 c =
-    let a = c .before .before .before .args in
-    tally-no (take (a .len * 8) (a .frames .now)) (a .width) (a .counts) (a .p .0) (a .totals) (c .if1 .left)
+    let s = c .before .before .before .before .before .args .s in
+    let fs : List ℕ = take (s .len * 8) (c .before .before .before .before .before .args .frames .now) in
+    (c .unfit .ensures ∙ tally-no fs (s .width) (s .counts) (s .next .0) (s .totals) (c .before .if1 .left), λ q. absurd (true-false (sym q ∙ c .unfit .ensures)))
 
 pub tally-fits-spec : {M : Type 1} → statement M
-tally-fits-spec = tie.close (tie.spec mul-n slice-aggregate-lows lows-requires counts-fit-requires totals-fit-requires returns returns-2)
+tally-fits-spec = tie.close (tie.spec cast-n mul-n slice-aggregate-lows lows-requires counts-fit-requires totals-fit-requires unfit-requires returns returns-2)

@@ -1,3 +1,4 @@
+-- `checker::opening::clear` meets its contract. Assumes nothing.
 use Prim.Native.Nat.{ℕ}
 use Prim.Native.Nat.{_+_, _-_, _≤_}
 use mathlib.Core.Path.{_≡_, refl, sym, _∙_, ap}

@@ -1,3 +1,4 @@
+-- `checker::opening::fresh` meets its contract. Assumes nothing.
 use Rattle.checker.specs.State.{freshState}
 use borrow.Author.Needs.{needs}
 use Rattle.checker.proofs.opening.fresh.Statement.{statement}

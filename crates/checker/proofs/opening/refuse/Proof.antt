@@ -1,3 +1,4 @@
+-- `checker::opening::refuse` meets its contract. Assumes nothing.
 use borrow.Author.Needs.{needs}
 use Rattle.checker.proofs.opening.refuse.Statement.{statement}
 use Rattle.checker.proofs.opening.refuse.Tie as tie

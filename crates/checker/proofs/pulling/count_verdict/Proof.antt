@@ -1,40 +1,32 @@
+-- `checker::pulling::count_verdict` meets its contract. Assumes nothing.
 use borrow.Author.Needs.{needs}
 use Rattle.checker.proofs.pulling.count_verdict.Statement.{statement}
 use Rattle.checker.proofs.pulling.count_verdict.Tie as tie
 
--- src/pull.rt:37:19
 enum-told : tie.Need-enum-told
 enum-told c = search needs
 
--- src/pull.rt:37:19
 add-t5 : tie.Need-add-t5
 add-t5 c = search needs
 
--- src/pull.rt:43:21
 enum-told-2 : tie.Need-enum-told-2
 enum-told-2 c = search needs
 
--- src/pull.rt:43:21
 add-t6 : tie.Need-add-t6
 add-t6 c = search needs
 
--- src/pull.rt:49:22
 enum-told-3 : tie.Need-enum-told-3
 enum-told-3 c = search needs
 
--- src/pull.rt:49:22
 add-t7 : tie.Need-add-t7
 add-t7 c = search needs
 
--- src/pull.rt:31:1
 returns : tie.Need-returns
 returns c = rw (c .before .enum-told .given .1)
 
--- src/pull.rt:31:1
 returns-2 : tie.Need-returns-2
 returns-2 c = rw (c .before .enum-told2 .given .1)
 
--- src/pull.rt:31:1
 returns-3 : tie.Need-returns-3
 returns-3 c = rw (c .before .enum-told3 .given .1)
 

@@ -1,3 +1,4 @@
+-- `checker::report::bits` meets its contract. Assumes nothing.
 use mathlib.Core.Path.{_≡_, ap, _∙_}
 use Prim.Native.Nat.{_^_, _<_}
 use mathlib.Core.Bool.{true}
@@ -22,27 +23,21 @@ small s = s .fits .z .sfits
 neg : (s : tie.Start) → ltZ (toZ w32 (ofZ w32 (s .args .z))) (pos 0) ≡ true → negsuc 0 -ℤ toZ w32 (ofZ w32 (s .args .z)) ≡ pos (mag (s .args .z))
 neg s e = ap (λ (x : ℤ). negsuc 0 -ℤ x) (same s) ∙ below (s .args .z) (rw (same s) at e)
 
--- src/report.rt:35:17
 sub-k : tie.Need-sub-k
 sub-k c = rw (neg (c .before) (c .if1 .taken)) (record { sfits = omega (arith, c .before .fits .z .sfits) })
 
--- src/report.rt:36:23
 cast-result : tie.Need-cast-result
 cast-result c = rw (neg (c .before) (c .if1 .taken), toZ-pos w32 {n = mag (c .before .args .z)} (small (c .before))) (tt, record { fits = omega (arith, small (c .before)) })
 
--- src/report.rt:36:9
 sub-result : tie.Need-sub-result
 sub-result c = rw (neg (c .before) (c .if1 .taken), toZ-pos w32 {n = mag (c .before .args .z)} (small (c .before))) (omega (arith, small (c .before)))
 
--- src/report.rt:38:9
 cast-result-2 : tie.Need-cast-result-2
 cast-result-2 c = rw (same (c .before)) (is-not-negative (c .before .args .z) (rw (same (c .before)) at (c .if1 .left)), record { fits = omega (arith, natAbs-mag (c .before .args .z), small (c .before)) })
 
--- src/report.rt:31:1
 returns : tie.Need-returns
 returns c = rw (neg (c .before) (c .if1 .taken), toZ-pos w32 {n = mag (c .before .args .z)} (small (c .before))) (bits-below (c .before .args .z) (rw (same (c .before)) at (c .if1 .taken)) (small (c .before)))
 
--- src/report.rt:31:1
 returns-2 : tie.Need-returns-2
 returns-2 c = rw (same (c .before)) (bits-from (c .before .args .z) (rw (same (c .before)) at (c .if1 .left)))
 

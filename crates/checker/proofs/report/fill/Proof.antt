@@ -1,3 +1,4 @@
+-- `checker::report::fill` meets its contract. Assumes nothing.
 use mathlib.Core.Path.{_≡_, refl, ap, _∙_}
 use Prim.Native.Nat.{_≤_, _-_}
 use borrow.Author.Needs.{sfits-of}
@@ -22,66 +23,51 @@ Inv-loop report₀ frames marks notes n count at₀ k₀ report at k = (k ≤ n)
 abbrev μ-loop : tie.MeasureT-loop
 μ-loop report₀ frames marks notes n count at₀ k₀ report at k = n - k
 
--- src/report.rt:91:9
 reference-count-requires : tie.Need-reference-count-requires Inv-loop μ-loop
 reference-count-requires c κs = search needs
 
--- src/report.rt:92:27
 cast-put-header : tie.Need-cast-put-header Inv-loop μ-loop
 cast-put-header c = omega (arith, few (bytes-by (c .before .before .before .before .before .args .frames .now) (λ i l. c .before .before .before .shared-slice-known .given i .fits)) (c .before .before .before .before .before .pre .accepted), c .before .reference-count .ensures)
 
--- src/report.rt:92:5
 put-header-requires : tie.Need-put-header-requires Inv-loop μ-loop
 put-header-requires c κs = search needs
 
--- src/report.rt:95:5
 loop-holds : tie.Need-loop-holds Inv-loop μ-loop
 loop-holds c = (omega arith, kept-first (c .before .before .before .before .before .before .before .before .args .frames .now) (c .before .before .before .before .before .before .before .before .args .marks .now) (c .before .before .before .before .before .before .before .before .args .notes .now) (c .before .before .before .before .before .before .before .before .args .report .now) _ (headerOf (c .before .before .before .before .before .before .before .before .args .p .0) (c .before .before .before .before .reference-count .result)) (c .before .before .put-header .ensures) (c .before .before .before .before .before .before .before .before .pre .room))
 
--- src/report.rt:96:43
 mul-put-frame : tie.Need-mul-put-frame Inv-loop μ-loop
 mul-put-frame c = search needs
 
--- src/report.rt:96:36
 shared-slice-read-put-frame : tie.Need-shared-slice-read-put-frame Inv-loop μ-loop
 shared-slice-read-put-frame c = search needs
 
--- src/report.rt:96:61
 shared-slice-read-put-frame-2 : tie.Need-shared-slice-read-put-frame-2 Inv-loop μ-loop
 shared-slice-read-put-frame-2 c = search needs
 
--- src/report.rt:96:71
 mul-put-frame-2 : tie.Need-mul-put-frame-2 Inv-loop μ-loop
 mul-put-frame-2 c = search needs
 
--- src/report.rt:96:71
 shared-slice-copy-out-put-frame : tie.Need-shared-slice-copy-out-put-frame Inv-loop μ-loop
 shared-slice-copy-out-put-frame c = search needs
 
--- src/report.rt:96:9
 put-frame-requires : tie.Need-put-frame-requires Inv-loop μ-loop
 put-frame-requires c κs = λ e. kept-room (c .before .before .before .before .before .before .before .before .before .before .before .before .before .before .args .frames .now) (c .before .before .before .before .before .before .before .before .before .before .before .before .before .before .args .marks .now) (c .before .before .before .before .before .before .before .before .before .before .before .before .before .before .args .notes .now) (few (bytes-by (c .before .before .before .before .before .before .before .before .before .before .before .before .before .before .args .frames .now) (λ i l. c .before .before .before .before .before .before .before .before .before .before .before .before .shared-slice-known .given i .fits)) (c .before .before .before .before .before .before .before .before .before .before .before .before .before .before .pre .accepted)) _ _ (c .before .before .before .before .before .loop .at) (c .before .before .before .before .before .loop .k) (c .before .before .before .before .before .loop .inv .1) (omega arith) e
 
--- src/report.rt:97:9
 add-k : tie.Need-add-k Inv-loop μ-loop
 add-k c = search needs
 
--- src/report.rt:95:5
 loop-less : tie.Need-loop-less Inv-loop μ-loop
 loop-less c = omega arith
 
--- src/report.rt:95:5
 loop-again : tie.Need-loop-again Inv-loop μ-loop
 loop-again c =
     let z = getD (c .before .before .before .before .before .before .before .before .before .before .before .before .before .before .before .before .before .args .notes .now) (c .before .before .before .before .before .before .before .before .loop .k) (pos 0) in
     let g = rw (toZ-ofZ w32 z (sfits-of (c .before .before .before .put-frame-arg2 .given))) at (c .before .before .put-frame .ensures) in
     (omega arith, kept-next (c .before .before .before .before .before .before .before .before .before .before .before .before .before .before .before .before .before .args .frames .now) (c .before .before .before .before .before .before .before .before .before .before .before .before .before .before .before .before .before .args .marks .now) (c .before .before .before .before .before .before .before .before .before .before .before .before .before .before .before .before .before .args .notes .now) (few (bytes-by (c .before .before .before .before .before .before .before .before .before .before .before .before .before .before .before .before .before .args .frames .now) (λ i l. c .before .before .before .before .before .before .before .before .before .before .before .before .before .before .before .shared-slice-known .given i .fits)) (c .before .before .before .before .before .before .before .before .before .before .before .before .before .before .before .before .before .pre .accepted)) _ _ (c .before .before .before .before .before .before .before .before .loop .at) (c .before .before .before .before .before .before .before .before .loop .k) (c .before .before .before .before .before .before .before .before .loop .inv .1) (omega arith) _ _ (g .0) (g .1))
 
--- src/report.rt:86:1
 same-length : tie.Need-same-length Inv-loop μ-loop
 same-length c = kept-length (c .before .before .before .before .before .before .before .before .before .before .args .frames .now) (c .before .before .before .before .before .before .before .before .before .before .args .marks .now) (c .before .before .before .before .before .before .before .before .before .before .args .notes .now) (few (bytes-by (c .before .before .before .before .before .before .before .before .before .before .args .frames .now) (λ i l. c .before .before .before .before .before .before .before .before .shared-slice-known .given i .fits)) (c .before .before .before .before .before .before .before .before .before .before .pre .accepted)) _ _ (c .before .loop .at) (c .before .loop .k) (c .before .loop .inv .1) (omega arith) ∙ ap length (c .before .before .before .before .put-header .ensures) ∙ length-sets (c .before .before .before .before .before .before .before .before .before .before .args .report .now) 0 (headerOf (c .before .before .before .before .before .before .before .before .before .before .args .p .0) (c .before .before .before .before .before .before .reference-count .result))
 
--- src/report.rt:86:1
 returns : tie.Need-returns Inv-loop μ-loop
 returns c =
     let q : sets (c .before .before .before .before .before .before .before .before .before .before .args .report .now) 0 (headerOf (c .before .before .before .before .before .before .before .before .before .before .args .p .0) (c .before .before .before .before .before .before .reference-count .result)) ≡ sets (c .before .before .before .before .before .before .before .before .before .before .args .report .now) 0 (headerOf (c .before .before .before .before .before .before .before .before .before .before .args .p .0) (referenceCount (c .before .before .before .before .before .before .before .before .before .before .args .frames .now))) = rw (c .before .before .before .before .before .before .reference-count .ensures) in

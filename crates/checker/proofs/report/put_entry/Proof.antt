@@ -1,3 +1,4 @@
+-- `checker::report::put_entry` meets its contract. Assumes nothing.
 use mir.ValLaws.{toZ-ofZ}
 use mathlib.Core.Path.{_≡_, ap, _∙_}
 use mathlib.Core.List.{[]}
@@ -13,30 +14,24 @@ use borrow.Author.Needs.{needs}
 use Rattle.checker.proofs.report.put_entry.Statement.{statement}
 use Rattle.checker.proofs.report.put_entry.Tie as tie
 
--- src/report.rt:68:5
 slice-write-report : tie.Need-slice-write-report
 slice-write-report c = search needs
 
--- src/report.rt:69:22
 add-put-word : tie.Need-add-put-word
 add-put-word c = search needs
 
--- src/report.rt:69:30
 bits-requires : tie.Need-bits-requires
 bits-requires c κs = search needs
 
--- src/report.rt:69:5
 put-word-requires : tie.Need-put-word-requires
 put-word-requires c κs = simp length-set (omega (arith, c .before .before .before .pre))
 
--- src/report.rt:64:1
 same-length : tie.Need-same-length
 same-length c =
     let r = c .before .before .before .before .before .before .args .report .now in
     let i = c .before .before .before .before .before .before .args .at in
     ap length (c .before .before .put-word .ensures) ∙ length-sets (set r i (c .before .before .before .before .before .before .args .mark)) (i + 1) (wordBytes (c .before .before .before .bits .result) []) ∙ length-set r i (c .before .before .before .before .before .before .args .mark)
 
--- src/report.rt:64:1
 returns : tie.Need-returns
 returns c =
     let l = set (c .before .before .before .before .before .before .args .report .now) (c .before .before .before .before .before .before .args .at) (c .before .before .before .before .before .before .args .mark) in

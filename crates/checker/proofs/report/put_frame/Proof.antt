@@ -1,3 +1,4 @@
+-- `checker::report::put_frame` meets its contract. Assumes nothing.
 use lib.IntN.{ℤ}
 use lib.Seq.{sets}
 use mir.Syntax.{w32}
@@ -13,26 +14,21 @@ use borrow.Author.Needs.{needs}
 use Rattle.checker.proofs.report.put_frame.Statement.{statement}
 use Rattle.checker.proofs.report.put_frame.Tie as tie
 
--- src/report.rt:78:9
 put-entry-requires : tie.Need-put-entry-requires
 put-entry-requires c κs = c .before .before .before .pre (c .before .if1 .taken)
 
--- src/report.rt:79:9
 add-result : tie.Need-add-result
 add-result c = omega (arith, c .before .before .before .before .before .before .pre (c .before .before .before .before .if1 .taken))
 
--- src/report.rt:73:1
 same-length : tie.Need-same-length
 same-length c = search needs
 
--- src/report.rt:73:1
 returns : tie.Need-returns
 returns c =
     let h : eqb (c .before .before .before .before .before .before .args .kind) referenceByte ≡ true = eq-eqb (c .before .before .before .before .before .before .args .kind) referenceByte (c .before .before .before .before .if1 .taken) in
     let q = ap (λ (z : ℤ). sets (c .before .before .before .before .before .before .args .report .now) (c .before .before .before .before .before .before .args .at) (entryOf (c .before .before .before .before .before .before .args .mark) z)) (toZ-ofZ w32 (c .before .before .before .before .before .before .args .note) (c .before .before .before .before .before .before .fits .note)) in
     rw h (c .before .before .put-entry .ensures ∙ q, refl)
 
--- src/report.rt:73:1
 returns-2 : tie.Need-returns-2
 returns-2 c =
     let h : eqb (c .before .before .args .kind) referenceByte ≡ false = ne-eqb (c .before .before .args .kind) referenceByte (c .if1 .left) in

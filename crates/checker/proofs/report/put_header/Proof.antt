@@ -1,3 +1,4 @@
+-- `checker::report::put_header` meets its contract. Assumes nothing.
 use mathlib.Core.Path.{ap}
 use mathlib.Core.List.{List}
 use Prim.Native.Nat.{ℕ}
@@ -6,23 +7,18 @@ use borrow.Author.Needs.{needs}
 use Rattle.checker.proofs.report.put_header.Statement.{statement}
 use Rattle.checker.proofs.report.put_header.Tie as tie
 
--- src/report.rt:58:5
 put-word-requires : tie.Need-put-word-requires
 put-word-requires c κs = search needs
 
--- src/report.rt:59:5
 slice-write-report : tie.Need-slice-write-report
 slice-write-report c = search needs
 
--- src/report.rt:60:5
 slice-write-report-2 : tie.Need-slice-write-report-2
 slice-write-report-2 c = search needs
 
--- src/report.rt:54:1
 same-length : tie.Need-same-length
 same-length c = search needs
 
--- src/report.rt:54:1
 returns : tie.Need-returns
 returns c = ap (λ (l : List ℕ). set (set l 4 0) 5 (c .before .before .before .before .before .args .count)) (c .before .before .put-word .ensures)
 

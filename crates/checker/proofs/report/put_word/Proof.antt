@@ -1,3 +1,4 @@
+-- `checker::report::put_word` meets its contract. Assumes nothing.
 use mathlib.Core.Path.{_≡_}
 use lib.ListN.{length-set}
 use Prim.Native.Nat.{suc, _+_}
@@ -6,55 +7,42 @@ use borrow.Author.Needs.{needs}
 use Rattle.checker.proofs.report.put_word.Statement.{statement}
 use Rattle.checker.proofs.report.put_word.Tie as tie
 
--- src/report.rt:47:18
 cast-report : tie.Need-cast-report
 cast-report c = search needs
 
--- src/report.rt:47:5
 slice-write-report : tie.Need-slice-write-report
 slice-write-report c = search needs
 
--- src/report.rt:48:22
 cast-report-2 : tie.Need-cast-report-2
 cast-report-2 c = search needs
 
--- src/report.rt:48:12
 add-report : tie.Need-add-report
 add-report c = search needs
 
--- src/report.rt:48:5
 slice-write-report-2 : tie.Need-slice-write-report-2
 slice-write-report-2 c = simp length-set (omega (arith, c .pre))
 
--- src/report.rt:49:22
 cast-report-3 : tie.Need-cast-report-3
 cast-report-3 c = search needs
 
--- src/report.rt:49:12
 add-report-2 : tie.Need-add-report-2
 add-report-2 c = search needs
 
--- src/report.rt:49:5
 slice-write-report-3 : tie.Need-slice-write-report-3
 slice-write-report-3 c = simp length-set (omega (arith, c .pre))
 
--- src/report.rt:50:22
 cast-report-4 : tie.Need-cast-report-4
 cast-report-4 c = search needs
 
--- src/report.rt:50:12
 add-report-3 : tie.Need-add-report-3
 add-report-3 c = search needs
 
--- src/report.rt:50:5
 slice-write-report-4 : tie.Need-slice-write-report-4
 slice-write-report-4 c = simp length-set (omega (arith, c .pre))
 
--- src/report.rt:43:1
 same-length : tie.Need-same-length
 same-length c = search needs
 
--- src/report.rt:43:1
 returns : tie.Need-returns
 returns c =
     let e1 : c .args .at + 1 ≡ suc (c .args .at) = omega arith in

@@ -1,3 +1,4 @@
+-- `checker::words::keep` meets its contract. Assumes nothing.
 use borrow.Author.Tests.{le-leb, lt-leb}
 use Rattle.checker.specs.Ring.{kept}
 use borrow.Author.Needs.{needs}

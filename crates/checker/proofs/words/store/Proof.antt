@@ -1,3 +1,4 @@
+-- `checker::words::store` meets its contract. Assumes nothing.
 use mathlib.Core.Path.{_≡_}
 use Rattle.checker.proofs.CodeRing.{word-most}
 use lib.ListN.{length-set}

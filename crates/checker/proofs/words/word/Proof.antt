@@ -1,3 +1,4 @@
+-- `checker::words::word` meets its contract. Assumes nothing.
 use Rattle.checker.proofs.CodeRing.{row-most, word-most}
 use borrow.Author.Needs.{needs}
 use native.Mathlib.Omega.{arith}

@@ -1,0 +1,132 @@
+-- `checker::pulling::decide` meets its contract. Assumes nothing.
+use mathlib.Core.Path.{_≡_, sym, ap, _∙_}
+use mathlib.Core.Bool.{true, false}
+use mathlib.Core.List.{List}
+use Prim.Native.Nat.{ℕ}
+use native.Mathlib.Omega.{arith}
+use borrow.Author.Needs.{needs}
+use borrow.Author.Tests.{eqb-true, lt-ltb, le-ltb}
+use lib.Dec.{eqb}
+use lib.IntN.{ℤ}
+use lib.ListN.{length}
+use lib.Seq.{length-take-le}
+use Rattle.verdict.specs.declared.Judgement.{Judgement}
+use Rattle.checker.specs.Limits.{windowWords}
+use Rattle.checker.specs.Answer.{pullTold, refused}
+use Rattle.checker.specs.Parts.{stateOf, withTurn}
+use Rattle.checker.specs.Good.{goodState}
+use Rattle.checker.specs.Pull.{PullResult, offered, notPulled, pulledBy, pullDef}
+use Rattle.checker.specs.declared.State.{State}
+use Rattle.checker.specs.declared.pulling.Turn.{Turn}
+use Rattle.checker.proofs.CodeGood.{good-facts}
+use Rattle.checker.proofs.PullOffer.{pull-12, pull-13, pull-14, pull-offers}
+use Rattle.checker.proofs.pulling.decide.Statement.{statement}
+use Rattle.checker.proofs.pulling.decide.Tie as tie
+
+good-requires : tie.Need-good-requires
+good-requires c κs = search needs
+
+window-fits-requires : tie.Need-window-fits-requires
+window-fits-requires c κs = search needs
+
+refuse-requires : tie.Need-refuse-requires
+refuse-requires c κs = search needs
+
+cast-n : tie.Need-cast-n
+cast-n c = search needs
+
+mul-n : tie.Need-mul-n
+mul-n c =
+    let s : State = stateOf (c .before .before .before .before .before .before .before .before .args .frames .now) (c .before .before .before .before .before .before .before .before .args .rest) in
+    let g : goodState s ≡ true = sym (c .before .before .before .before .before .good2 .ensures .0) ∙ c .before .before .before .before .if1 .taken in
+    omega (arith, good-facts s g .few)
+
+slice-aggregate-offer : tie.Need-slice-aggregate-offer
+slice-aggregate-offer c =
+    let s : State = stateOf (c .before .before .before .before .before .before .before .before .before .before .before .args .frames .now) (c .before .before .before .before .before .before .before .before .before .before .before .args .rest) in
+    let g : goodState s ≡ true = sym (c .before .before .before .before .before .before .before .before .good2 .ensures .0) ∙ c .before .before .before .before .before .before .before .if1 .taken in
+    sym (length-take-le _ _ (omega (arith, c .before .before .before .before .before .before .before .before .before .before .before .pre, good-facts s g .few)))
+
+offer-requires : tie.Need-offer-requires
+offer-requires c κs =
+    let a = c .before .before .before .before .before .before .before .before .before .before .before .before .args in
+    let s : State = stateOf (a .frames .now) (a .rest) in
+    let win : List ℤ = a .window .now in
+    let g : goodState s ≡ true = sym (c .before .before .before .before .before .before .before .before .before .good2 .ensures .0) ∙ c .before .before .before .before .before .before .before .before .if1 .taken in
+    let l : eqb (length win) (windowWords (s .width)) ≡ true = sym (c .before .before .before .before .before .before .before .window-fits .ensures) ∙ c .before .before .before .before .before .before .if2 .taken in
+    let f = good-facts s g in
+    record {
+      accepted = f .accepted;
+      look = record { instance-in = f .totals .low; some = f .some; most = f .most; words = eqb-true (length win) (windowWords (s .width)) l };
+      room = c .before .before .before .before .before .if3 .left;
+    }
+
+give-requires : tie.Need-give-requires
+give-requires c κs =
+    let s : State = stateOf (c .before .before .before .before .before .before .before .before .before .before .before .before .before .before .before .args .frames .now) (c .before .before .before .before .before .before .before .before .before .before .before .before .before .before .before .args .rest) in
+    let g : goodState s ≡ true = sym (c .before .before .before .before .before .before .before .before .before .before .before .before .good2 .ensures .0) ∙ c .before .before .before .before .before .before .before .before .before .before .before .if1 .taken in
+    good-facts s g .totals
+
+refuse-requires-2 : tie.Need-refuse-requires-2
+refuse-requires-2 c κs = search needs
+
+refuse-requires-3 : tie.Need-refuse-requires-3
+refuse-requires-3 c κs = search needs
+
+returns : tie.Need-returns
+returns c =
+    let a = c .before .before .before .before .before .before .before .before .args in
+    let s : State = stateOf (a .frames .now) (a .rest) in
+    let win : List ℤ = a .window .now in
+    let out : List ℕ = a .report .now in
+    let g : goodState s ≡ true = sym (c .before .before .before .before .before .good2 .ensures .0) ∙ c .before .before .before .before .if1 .taken in
+    let l : eqb (length win) (windowWords (s .width)) ≡ true = sym (c .before .before .before .window-fits .ensures) ∙ c .before .before .if2 .taken in
+    let e : notPulled s out (refused 14 0) ≡ pullDef s win out = pull-14 s win out g l (lt-ltb (length out) 166 (c .before .if3 .taken)) in (
+      ap (λ (x : Turn). pullTold (x .answer)) (c .refuse .ensures) ∙ ap (λ (x : PullResult). x .answer) e,
+      (ap (λ (x : Turn). withTurn s (x .next) (x .totals)) (c .refuse .ensures) ∙ ap (λ (x : PullResult). x .state) e, ap (λ (x : PullResult). x .report) e),
+    )
+
+same-length : tie.Need-same-length
+same-length c = search needs
+
+returns-2 : tie.Need-returns-2
+returns-2 c =
+    let a = c .before .before .before .before .before .before .before .before .before .before .before .before .before .before .before .before .args in
+    let s : State = stateOf (a .frames .now) (a .rest) in
+    let win : List ℤ = a .window .now in
+    let out : List ℕ = a .report .now in
+    let g : goodState s ≡ true = sym (c .before .before .before .before .before .before .before .before .before .before .before .before .before .good2 .ensures .0) ∙ c .before .before .before .before .before .before .before .before .before .before .before .before .if1 .taken in
+    let l : eqb (length win) (windowWords (s .width)) ≡ true = sym (c .before .before .before .before .before .before .before .before .before .before .before .window-fits .ensures) ∙ c .before .before .before .before .before .before .before .before .before .before .if2 .taken in
+    let j : Judgement = c .before .before .before .offer .result in
+    let e : pulledBy s win out (offered j) ≡ pullDef s win out = pull-offers s win out g l (le-ltb (length out) 166 (c .before .before .before .before .before .before .before .before .before .if3 .left)) j (c .before .before .before .offer .ensures .0) in (
+      c .give .ensures .0 ∙ ap (λ (x : PullResult). x .answer) e,
+      (c .give .ensures .1 (a .frames .now) ∙ ap (λ (x : PullResult). x .state) e, c .before .before .before .offer .ensures .1 ∙ ap (λ (x : PullResult). x .report) e),
+    )
+
+returns-3 : tie.Need-returns-3
+returns-3 c =
+    let a = c .before .before .before .before .before .before .before .args in
+    let s : State = stateOf (a .frames .now) (a .rest) in
+    let win : List ℤ = a .window .now in
+    let out : List ℕ = a .report .now in
+    let g : goodState s ≡ true = sym (c .before .before .before .before .good2 .ensures .0) ∙ c .before .before .before .if1 .taken in
+    let l : eqb (length win) (windowWords (s .width)) ≡ false = sym (c .before .before .window-fits .ensures) ∙ c .before .if2 .left in
+    let e : notPulled s out (refused 13 0) ≡ pullDef s win out = pull-13 s win out g l in (
+      ap (λ (x : Turn). pullTold (x .answer)) (c .refuse2 .ensures) ∙ ap (λ (x : PullResult). x .answer) e,
+      (ap (λ (x : Turn). withTurn s (x .next) (x .totals)) (c .refuse2 .ensures) ∙ ap (λ (x : PullResult). x .state) e, ap (λ (x : PullResult). x .report) e),
+    )
+
+returns-4 : tie.Need-returns-4
+returns-4 c =
+    let a = c .before .before .before .before .before .args in
+    let s : State = stateOf (a .frames .now) (a .rest) in
+    let win : List ℤ = a .window .now in
+    let out : List ℕ = a .report .now in
+    let g : goodState s ≡ false = sym (c .before .before .good2 .ensures .0) ∙ c .before .if1 .left in
+    let e : notPulled s out (refused 12 0) ≡ pullDef s win out = pull-12 s win out g in (
+      ap (λ (x : Turn). pullTold (x .answer)) (c .refuse3 .ensures) ∙ ap (λ (x : PullResult). x .answer) e,
+      (ap (λ (x : Turn). withTurn s (x .next) (x .totals)) (c .refuse3 .ensures) ∙ ap (λ (x : PullResult). x .state) e, ap (λ (x : PullResult). x .report) e),
+    )
+
+pub decide-spec : {M : Type 1} → statement M
+decide-spec = tie.close (tie.spec good-requires window-fits-requires refuse-requires cast-n mul-n slice-aggregate-offer offer-requires give-requires refuse-requires-2 refuse-requires-3 returns same-length returns-2 returns-3 returns-4)
