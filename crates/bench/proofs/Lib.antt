@@ -1,0 +1,4 @@
+pub mod HexLaws
+pub mod CutLaws
+pub mod RunLaws
+pub mod ChunkLaws
