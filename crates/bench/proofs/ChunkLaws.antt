@@ -60,7 +60,7 @@ unfolding fedLine
 after-kept x l = rw (feed-kept (x .state) (x .words) l)
 
 -- ---- what is kept, part by part
-kept-on : (a t : List ℕ) → take keptLimit (take keptLimit a ++ t) ≡ take keptLimit (a ++ t)
+pub kept-on : (a t : List ℕ) → take keptLimit (take keptLimit a ++ t) ≡ take keptLimit (a ++ t)
 kept-on a t =
     elim (decLt keptLimit (length a)) [
       | yes h ↦

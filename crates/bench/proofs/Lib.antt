@@ -2,3 +2,5 @@ pub mod HexLaws
 pub mod CutLaws
 pub mod RunLaws
 pub mod ChunkLaws
+pub mod Whole
+pub mod Headlines
