@@ -1,0 +1,41 @@
+-- The headline statements of this crate, each proved where it is cited. Assumes nothing.
+use mathlib.Core.Path.{_≡_}
+use mathlib.Core.List.{List, [], _++_, map}
+use Prim.Native.Nat.{ℕ, _/_, _%_, _<_}
+use lib.IntN.{ℤ}
+use lib.ListN.{take}
+use Rattle.log.specs.Pair.{pairOf}
+use Rattle.log.specs.Walk.{linesOf}
+use Rattle.log.specs.declared.digit.Pair.the-variants.{Byte}
+use Rattle.verdict.specs.declared.Truth.the-variants.{False}
+use Rattle.checker.specs.Answer.{verdict}
+use Rattle.checker.specs.State.{refsIn}
+use Rattle.checker.specs.Report.{reportBytes}
+use Rattle.checker.specs.Pull.{foundHere, pullDef}
+use Rattle.checker.specs.declared.State.{State}
+use Rattle.bench.specs.Print.{hexDigit, reportPart}
+use Rattle.bench.specs.Kept.{keptLimit}
+use Rattle.bench.specs.Progress.{Progress, blank, Open, afterLine, afterLines, afterBytes, atEnd}
+use Rattle.bench.proofs.ChunkLaws
+use Rattle.bench.proofs.Whole
+
+-- "a line cut by the buffer's end is one line": chunks one after the other do what all their bytes at once do
+pub chunks-join : (o : Open) (s t : List ℕ) → afterBytes o (s ++ t) ≡ afterBytes (afterBytes o s) t
+chunks-join = Whole.bytes-cut
+
+-- the bytes of a log, with what is held at its end as a line, are the log's lines, each fed whole
+pub log-lines : (x : Progress) (log : List ℕ) → atEnd (afterBytes (record { progress = x; held = [] }) log) ≡ afterLines x (linesOf log)
+log-lines = Whole.log-whole
+
+-- the first 35 bytes of a line decide it
+pub kept-decides : (x : Progress) (line : List ℕ) → afterLine x (take keptLimit line) ≡ afterLine x line
+kept-decides = ChunkLaws.after-kept
+
+-- what is printed of a false verdict is its report, whole and nothing else
+pub report-whole : (s : State) (win : List ℤ) → pullDef s win blank .answer ≡ verdict False
+    → reportPart (pullDef s win blank .report) ≡ reportBytes (s .next .0) (map (foundHere s win) (refsIn s))
+report-whole = Whole.report-printed
+
+-- two printed digits are the byte, as a log line's digits are read
+pub digits-back : (b : ℕ) → b < 256 → pairOf (hexDigit (b / 16)) (hexDigit (b % 16)) ≡ Byte b
+digits-back = Whole.hex-back

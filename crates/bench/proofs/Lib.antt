@@ -1,0 +1,6 @@
+pub mod HexLaws
+pub mod CutLaws
+pub mod RunLaws
+pub mod ChunkLaws
+pub mod Whole
+pub mod Headlines

@@ -1,0 +1,135 @@
+-- Progress, step by step: what waits, what was written out before, and what each step adds. Assumes nothing.
+use mathlib.Core.Path.{_≡_, refl, sym, ap, _∙_}
+use mathlib.Core.Bool.{Bool, true, false, cond}
+use mathlib.Core.List.{List, [], _∷_, _++_, append-assoc, append-nil}
+use Prim.Native.Nat.{ℕ, zero, suc, _+_, _-_, _*_, _≤_, _<_, min}
+use native.Mathlib.Omega.{arith}
+use native.Mathlib.Decide.{decLt}
+use lib.IntN.{ℤ}
+use lib.ListN.{length, getD, take, drop, length-append}
+use lib.Seq.{sets, sets-eq, take-at, take-all, length-take-le}
+use Rattle.checker.specs.Limits.{reportLeast}
+use Rattle.checker.specs.Answer.{Answer, pullTold}
+use Rattle.checker.specs.Feed.{feedDef}
+use Rattle.checker.specs.Pull.{pullDef}
+use Rattle.checker.specs.declared.PullAnswer.{PullAnswer}
+use Rattle.checker.specs.declared.State.{State}
+use Rattle.bench.specs.Print.{outBytes, reportPart}
+use Rattle.bench.specs.Progress.{Progress, blank, pullOf, printed, isVerdict, pulledOnce, pulls, pullLimit, countedBy, fedLine, afterLine, progressOf, Ends, before, After}
+use Rattle.bench.specs.declared.Run.{Run}
+
+-- ---- what waits
+pub ends-none : (s : List ℕ) → Ends s s
+ends-none s = record { written = []; same = refl }
+
+pub ends-all : (s t : List ℕ) → Ends (take 0 t) s
+ends-all s t = record { written = s; same = sym (append-nil s) }
+
+-- a line put behind what waits
+pub ends-more : (out out′ : List ℕ) (full at n : ℕ) (line : List ℕ) → Ends (take at out) (take full out) → out′ ≡ sets out at line
+    → at + length line ≤ length out → n ≡ at + length line → Ends (take n out′) (take full out ++ line)
+ends-more out out′ full at n line e p h q =
+    let l : length (take at out ++ line) ≡ at + length line = omega (arith, length-append (take at out) line, length-take-le at out (omega arith)) in
+    let a : take n out′ ≡ take at out ++ line =
+    rw (q, p, sets-eq line out at h) (take-at (take at out ++ line) (drop (at + length line) out) (at + length line) l) in
+    record {
+      written = e .written;
+      same = ap (λ (s : List ℕ). s ++ line) (e .same) ∙ append-assoc (e .written) (take at out) line ∙ ap (λ (s : List ℕ). e .written ++ s) (sym a);
+    }
+
+-- a report's bytes, where the buffer has as many as any report
+pub report-part : (report : List ℕ) (n : ℕ) → n ≡ min (6 + 5 * getD report 5 0) reportLeast → length report ≡ reportLeast → take n report ≡ reportPart report
+report-part report n e l = go (6 + 5 * getD report 5 0) e
+  where
+    go : (m : ℕ) → n ≡ min m reportLeast → take n report ≡ take m report
+    go m q =
+        elim (decLt reportLeast m) [
+          | yes h ↦ take-all n report (omega arith) ∙ sym (take-all m report (omega arith))
+          | no h ↦ let w : n ≡ m = omega arith in rw w
+        ]
+
+-- ---- after each other
+pub after-refl : (x : Progress) → After x x
+after-refl x = record { written = []; same = refl }
+
+pub after-trans : {x y z : Progress} → After x y → After y z → After x z
+after-trans {x} {y} {z} p q =
+    record {
+      written = p .written ++ q .written;
+      same =
+          p .same
+          ∙ ap (before (p .written)) (q .same)
+          ∙ ap (λ (s : List ℕ). record { state = z .state; words = z .words; counts = z .counts; said = s }) (sym (append-assoc (p .written) (q .written) (z .said)));
+    }
+
+-- ---- what was written before stays in front
+once-before : (w : List ℕ) (x : Progress) → pulledOnce (before w x) ≡ before w (pulledOnce x)
+unfolding pulledOnce
+once-before w x = rw (append-assoc w (x .said) (printed (pullOf x .answer) (pullOf x .report)))
+
+pulls-before : (k : ℕ) (w : List ℕ) (x : Progress) → pulls k (before w x) ≡ before w (pulls k x)
+unfolding pulls
+pulls-before zero w x = refl
+pulls-before (suc k) w x = go (isVerdict (pullOf x .answer)) (once-before w x) (pulls-before k w (pulledOnce x))
+  where
+    go : (t : Bool) → pulledOnce (before w x) ≡ before w (pulledOnce x) → pulls k (before w (pulledOnce x)) ≡ before w (pulls k (pulledOnce x))
+        → cond t (pulls k (pulledOnce (before w x))) (pulledOnce (before w x)) ≡ before w (cond t (pulls k (pulledOnce x)) (pulledOnce x))
+    go true e i = ap (pulls k) e ∙ i
+    go false e i = e
+
+-- ---- one pull
+pub pulled-as : (x : Progress) (st : State) (said : List ℕ) → st ≡ pullOf x .state → Ends said (x .said ++ printed (pullOf x .answer) (pullOf x .report))
+    → After (pulledOnce x) (record { state = st; words = x .words; counts = x .counts; said = said })
+unfolding pulledOnce
+pulled-as x st said e f = record { written = f .written; same = rw (e, f .same) }
+
+-- one pull as the code makes it, whatever the answer
+pub pulled-arm : (r q : Run) (win : List ℤ) (out out′ report : List ℕ) (st : State) (full : ℕ) (more : Bool) (a : PullAnswer)
+    → q ≡ record { state = st; counts = r .counts; held = r .held; full = full; more = more }
+    → st ≡ pullDef (r .state) win report .state → pullTold a ≡ pullDef (r .state) win report .answer → report ≡ blank
+    → full ≤ outBytes → more ≡ isVerdict (pullTold a)
+    → Ends (take full out′) (take (r .full) out ++ printed (pullTold a) (pullDef (r .state) win report .report))
+    → (q .full ≤ outBytes) × ((q .held ≡ r .held) × ((q .more ≡ isVerdict (pullOf (progressOf r win out) .answer)) × After (pulledOnce (progressOf r win out)) (progressOf q win out′)))
+pulled-arm r q win out out′ report st full more a e f g b h m n =
+    let f′ : st ≡ pullDef (r .state) win blank .state = rw b at f in
+    let g′ : pullTold a ≡ pullDef (r .state) win blank .answer = rw b at g in
+    let n′ : Ends (take full out′) (take (r .full) out ++ printed (pullDef (r .state) win blank .answer) (pullDef (r .state) win blank .report)) = rw (b, g′) at n in
+    rw e (h, (refl, (m ∙ ap isVerdict g′, pulled-as (progressOf r win out) st (take full out′) f′ n′)))
+
+-- one that prints nothing
+pub pulled-quiet : (r q : Run) (win : List ℤ) (out report : List ℕ) (st : State) (more : Bool) (a : PullAnswer)
+    → q ≡ record { state = st; counts = r .counts; held = r .held; full = r .full; more = more }
+    → st ≡ pullDef (r .state) win report .state → pullTold a ≡ pullDef (r .state) win report .answer → report ≡ blank
+    → r .full ≤ outBytes → more ≡ isVerdict (pullTold a) → printed (pullTold a) (pullDef (r .state) win report .report) ≡ []
+    → (q .full ≤ outBytes) × ((q .held ≡ r .held) × ((q .more ≡ isVerdict (pullOf (progressOf r win out) .answer)) × After (pulledOnce (progressOf r win out)) (progressOf q win out)))
+pulled-quiet r q win out report st more a e f g b h m n =
+    pulled-arm r q win out out report st (r .full) more a e f g b h m (record { written = []; same = rw n (append-nil (take (r .full) out)) })
+
+-- ---- pulls until waiting
+pub pull-next : (want x y : Progress) (left : ℕ) (more : Bool) → 0 < left → After want (pulls left x) → After (pulledOnce x) y
+    → more ≡ isVerdict (pullOf x .answer) → After want (cond more (pulls (left - 1) y) y)
+unfolding pulls
+pull-next want x y zero more h p q e = absurd (omega arith)
+pull-next want x y (suc k) more h p q e =
+    let n : suc k - 1 ≡ k = omega arith in
+    rw (n, e) (go (isVerdict (pullOf x .answer)) p)
+  where
+    go : (t : Bool) → After want (cond t (pulls k (pulledOnce x)) (pulledOnce x)) → After want (cond t (pulls k y) y)
+    go true r = after-trans r (record { written = q .written; same = ap (pulls k) (q .same) ∙ pulls-before k (q .written) y })
+    go false r = after-trans r q
+
+pub pull-end : (want x : Progress) (left : ℕ) (more : Bool) → left ≡ 0 → After want (cond more (pulls left x) x) → After want x
+unfolding pulls
+pull-end want x left true e p = rw e at p
+pull-end want x left false e p = p
+
+-- ---- a line
+pub fed-as : (r q : Run) (win win′ : List ℤ) (out line : List ℕ)
+    → q ≡ record { state = feedDef (r .state) win line .state; counts = countedBy (feedDef (r .state) win line .answer) (r .counts); held = r .held; full = r .full; more = r .more }
+    → win′ ≡ feedDef (r .state) win line .words → progressOf q win′ out ≡ fedLine (progressOf r win out) line
+unfolding fedLine
+fed-as r q win win′ out line e f = rw (e, f)
+
+pub line-before : (w : List ℕ) (x : Progress) (line : List ℕ) → afterLine (before w x) line ≡ before w (afterLine x line)
+unfolding fedLine
+line-before w x line = pulls-before pullLimit w (fedLine x line)

@@ -1,0 +1,121 @@
+-- The log's lines whatever its chunks, and the reports that are printed. Assumes nothing.
+use mathlib.Core.Path.{_≡_, refl, sym, ap, _∙_}
+use mathlib.Core.Bool.{Bool, true, false, cond}
+use mathlib.Core.List.{List, [], _∷_, _++_, map}
+use Prim.Native.Nat.{ℕ, _+_, _*_, _/_, _%_, _<_}
+use native.Mathlib.Omega.{arith}
+use borrow.Author.Tests.{lt-ltb, eqb-true}
+use lib.Dec.{eqb, ltb}
+use lib.IntN.{ℤ}
+use lib.ListN.{length, take, drop}
+use lib.Seq.{take-at}
+use Rattle.numbers.proofs.Bools.{T-true}
+use Rattle.numbers.proofs.Ranges.{tested}
+use Rattle.log.specs.Digit.{digitValue}
+use Rattle.log.specs.Pair.{pairOf}
+use Rattle.log.specs.Walk.{onto, linesOf}
+use Rattle.log.specs.declared.digit.Pair.the-variants.{Byte}
+use Rattle.verdict.specs.Found.{Found}
+use Rattle.verdict.specs.declared.Truth.the-variants.{True, False, Unknown}
+use Rattle.checker.specs.Answer.{verdict, refused}
+use Rattle.checker.specs.State.{refsIn, ruleIn}
+use Rattle.checker.specs.Open.{windowFits}
+use Rattle.checker.specs.Good.{goodState}
+use Rattle.checker.specs.Report.{entries, reportBytes, written}
+use Rattle.checker.specs.Pull.{PullRead, short, waits, gave, pullRead, PullResult, notPulled, foundHere, pulledBy, pullDef}
+use Rattle.checker.specs.declared.State.{State}
+use Rattle.bench.specs.Print.{hexDigit, reportPart}
+use Rattle.bench.specs.Kept.{keptLimit, kept}
+use Rattle.bench.specs.Progress.{Progress, blank, Open, afterLine, afterLines, afterBytes, atEnd}
+use Rattle.bench.proofs.ChunkLaws.{after-kept, kept-on}
+
+-- ---- chunks
+abbrev stepped : Open → ℕ → Open
+stepped o b = cond (eqb b 10) (record { progress = afterLine (o .progress) (o .held); held = [] }) (record { progress = o .progress; held = kept (o .held) (b ∷ []) })
+
+pub bytes-cut : (o : Open) (s t : List ℕ) → afterBytes o (s ++ t) ≡ afterBytes (afterBytes o s) t
+unfolding afterBytes
+bytes-cut o [] t = refl
+bytes-cut o (b ∷ s) t = bytes-cut (stepped o b) s t
+
+-- ---- lines, the first of which has begun before
+abbrev from : List ℕ → List (List ℕ) → List (List ℕ)
+from [] ls = ls
+from (b ∷ p) ls = onto b (from p ls)
+
+from-ended : (p : List ℕ) (ls : List (List ℕ)) → from p ([] ∷ ls) ≡ p ∷ ls
+from-ended [] ls = refl
+from-ended (b ∷ p) ls = ap (onto b) (from-ended p ls)
+
+from-more : (p : List ℕ) (b : ℕ) (ls : List (List ℕ)) → from (p ++ (b ∷ [])) ls ≡ from p (onto b ls)
+from-more [] b ls = refl
+from-more (c ∷ p) b ls = ap (onto c) (from-more p b ls)
+
+from-last : (b : ℕ) (p : List ℕ) → from (b ∷ p) [] ≡ (b ∷ p) ∷ []
+from-last b [] = refl
+from-last b (c ∷ p) = ap (onto b) (from-last c p)
+
+abbrev after : Progress → List ℕ → List ℕ → Progress
+after x h s = atEnd (afterBytes (record { progress = x; held = h }) s)
+
+whole-from : (x : Progress) (p s : List ℕ) → after x (take keptLimit p) s ≡ afterLines x (from p (linesOf s))
+unfolding afterBytes afterLines linesOf
+whole-from x [] [] = refl
+whole-from x (b ∷ p) [] = after-kept x (b ∷ p) ∙ ap (afterLines x) (sym (from-last b p))
+whole-from x p (c ∷ s) = go (eqb c 10) (λ y q. whole-from y q s)
+  where
+    go : (t : Bool) → ((y : Progress) (q : List ℕ) → after y (take keptLimit q) s ≡ afterLines y (from q (linesOf s)))
+        → atEnd (afterBytes (cond t (record { progress = afterLine x (take keptLimit p); held = [] }) (record { progress = x; held = kept (take keptLimit p) (c ∷ []) })) s)
+        ≡ afterLines x (from p (cond t ([] ∷ linesOf s) (onto c (linesOf s))))
+    go true i =
+        i (afterLine x (take keptLimit p)) []
+        ∙ ap (λ (y : Progress). afterLines y (linesOf s)) (after-kept x p)
+        ∙ ap (afterLines x) (sym (from-ended p (linesOf s)))
+    go false i =
+        ap (λ (h : List ℕ). after x h s) (kept-on p (c ∷ []))
+        ∙ i x (p ++ (c ∷ []))
+        ∙ ap (afterLines x) (from-more p c (linesOf s))
+
+pub log-whole : (x : Progress) (log : List ℕ) → atEnd (afterBytes (record { progress = x; held = [] }) log) ≡ afterLines x (linesOf log)
+log-whole x log = whole-from x [] log
+
+-- ---- reports
+entries-length : (xs : List Found) → length (entries xs) ≡ 5 * length xs
+entries-length [] = refl
+entries-length (x ∷ xs) = omega (arith, entries-length xs)
+
+report-back : (p : ℕ) (xs : List Found) (buffer : List ℕ) → reportPart (written (reportBytes p xs) buffer) ≡ reportBytes p xs
+unfolding reportBytes
+report-back p xs buffer = take-at (reportBytes p xs) (drop (length (reportBytes p xs)) buffer) (6 + 5 * length xs) (omega (arith, entries-length xs))
+
+module _ (s : State) (win : List ℤ) where
+  abbrev pulledWith : Bool → Bool → PullRead → PullResult
+  pulledWith a b x = cond a (cond b (pulledBy s win blank x) (notPulled s blank (refused 13 0))) (notPulled s blank (refused 12 0))
+
+  by-cases : (a b : Bool) (x : PullRead) → pulledWith a b x .answer ≡ verdict False
+      → reportPart (pulledWith a b x .report) ≡ reportBytes (s .next .0) (map (foundHere s win) (refsIn s))
+  by-cases false b x e = absurd (let z : _≡_ {A = ℕ} 0 1 = cc in omega arith)
+  by-cases true false x e = absurd (let z : _≡_ {A = ℕ} 0 1 = cc in omega arith)
+  by-cases true true short e = absurd (let z : _≡_ {A = ℕ} 0 1 = cc in omega arith)
+  by-cases true true waits e = absurd (let z : _≡_ {A = ℕ} 0 1 = cc in omega arith)
+  by-cases true true (gave True) e = absurd (let z : _≡_ {A = ℕ} 0 1 = cc in omega arith)
+  by-cases true true (gave Unknown) e = absurd (let z : _≡_ {A = ℕ} 0 1 = cc in omega arith)
+  by-cases true true (gave False) e = report-back (s .next .0) (map (foundHere s win) (refsIn s)) blank
+
+  pub report-printed : pullDef s win blank .answer ≡ verdict False
+      → reportPart (pullDef s win blank .report) ≡ reportBytes (s .next .0) (map (foundHere s win) (refsIn s))
+  unfolding pullDef
+  report-printed = by-cases (goodState s) (windowFits (s .width) win) (pullRead (ruleIn s) (s .next .0) (foundHere s win) (length blank))
+
+-- ---- digits
+digit-back : (d : ℕ) → d < 16 → digitValue (hexDigit d) ≡ d
+unfolding digitValue
+digit-back d h = eqb-true (digitValue (hexDigit d)) d (T-true _ (tested (λ (k : ℕ). eqb (digitValue (hexDigit k)) k) 0 16 d tt (omega arith) (omega arith)))
+
+pub hex-back : (b : ℕ) → b < 256 → pairOf (hexDigit (b / 16)) (hexDigit (b % 16)) ≡ Byte b
+unfolding pairOf
+hex-back b h =
+    let i : b / 16 < 16 = omega arith in
+    let j : b % 16 < 16 = omega arith in
+    let k : 16 * (b / 16) + b % 16 ≡ b = omega arith in
+    rw (digit-back (b / 16) i, digit-back (b % 16) j, lt-ltb (b / 16) 16 i, lt-ltb (b % 16) 16 j, k)

@@ -1,0 +1,4 @@
+pub mod Print
+pub mod Kept
+pub mod Progress
+pub mod Output

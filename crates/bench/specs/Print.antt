@@ -1,0 +1,48 @@
+-- What the program prints: lines of hexadecimal capitals. From document 01, "Bench program". Assumes nothing: definitions.
+use mathlib.Core.Bool.{cond}
+use mathlib.Core.List.{List, [], _∷_, _++_}
+use Prim.Native.Nat.{ℕ, _+_, _-_, _*_, _/_, _%_}
+use lib.Dec.{ltb}
+use lib.ListN.{getD, take}
+use Rattle.rule.specs.Tree.{wordBytes}
+use Rattle.rule.specs.declared.Refusal.{Refusal}
+use Rattle.checker.specs.declared.Totals.{Totals}
+use Rattle.bench.specs.declared.Counts.{Counts}
+
+-- the bytes of the buffer that output waits in
+abbrev pub outBytes : ℕ
+outBytes = 65536
+
+-- the digit of a number below 16: 0-9 A-F
+abbrev pub hexDigit : ℕ → ℕ
+hexDigit d = cond (ltb d 10) (0x30 + d) (0x41 + (d - 10))
+
+-- two digits for each byte, the high one first
+unfoldable pub hexOf : List ℕ → List ℕ
+hexOf [] = []
+hexOf (b ∷ bs) = hexDigit (b / 16) ∷ (hexDigit (b % 16) ∷ hexOf bs)
+
+-- LF ends a line
+abbrev pub lineFeed : List ℕ
+lineFeed = 10 ∷ []
+
+-- bytes as a "hexadecimal line"
+abbrev pub hexLine : List ℕ → List ℕ
+hexLine bytes = hexOf bytes ++ lineFeed
+
+-- "true, false, unknown, accepted, ignored, refused, 4 bytes each"
+abbrev pub totalsBytes : Totals → Counts → List ℕ
+totalsBytes t c =
+    wordBytes (t .held) (wordBytes (t .failed) (wordBytes (t .unknown) (wordBytes (c .accepted) (wordBytes (c .ignored) (wordBytes (c .refused) [])))))
+
+-- ".. on one line"
+abbrev pub totalsLine : Totals → Counts → List ℕ
+totalsLine t c = hexLine (totalsBytes t c)
+
+-- "`EE`, number (1 byte), place (2 bytes)"
+abbrev pub refusedLine : Refusal → List ℕ
+refusedLine r = hexLine (0xEE ∷ (r .number ∷ (r .place / 256 % 256 ∷ (r .place % 256 ∷ []))))
+
+-- the report in a buffer: six bytes, of which the last is the reference count, and five for each reference
+abbrev pub reportPart : List ℕ → List ℕ
+reportPart report = take (6 + 5 * getD report 5 0) report

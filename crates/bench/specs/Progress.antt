@@ -1,0 +1,158 @@
+-- What the program does with a rule and a log, in document 01's words, "Bench program". Assumes nothing: definitions.
+use mathlib.Core.Path.{_≡_}
+use mathlib.Core.Bool.{Bool, true, false, cond}
+use mathlib.Core.List.{List, [], _∷_, _++_}
+use Prim.Native.Nat.{ℕ, zero, suc, _+_, _%_, _^_}
+use lib.Dec.{eqb}
+use lib.IntN.{ℤ}
+use lib.ListN.{take, replicate}
+use Rattle.verdict.specs.declared.Truth.{Truth}
+use Rattle.verdict.specs.declared.Truth.the-variants.{True, False, Unknown}
+use Rattle.checker.specs.Limits.{reportLeast}
+use Rattle.checker.specs.Answer.{Answer, opened, accepted, ignored, waiting, verdict, refused}
+use Rattle.checker.specs.Feed.{FeedResult, feedDef}
+use Rattle.checker.specs.Pull.{PullResult, pullDef}
+use Rattle.checker.specs.declared.State.{State}
+use Rattle.bench.specs.Print.{hexLine, reportPart}
+use Rattle.bench.specs.Kept.{kept}
+use Rattle.bench.specs.declared.Counts.{Counts}
+use Rattle.bench.specs.declared.Run.{Run}
+
+-- how far the program has come: the checker's state and window, the counts of lines, and all that it has printed
+pub record Progress : Type 0 where
+  pub state : State
+  pub words : List ℤ
+  pub counts : Counts
+  pub said : List ℕ
+
+-- ---- pulling
+-- the report buffer that each pull is lent
+abbrev pub blank : List ℕ
+blank = replicate reportLeast 0
+
+abbrev pub pullOf : Progress → PullResult
+pullOf x = pullDef (x .state) (x .words) blank
+
+-- "prints reports as hexadecimal lines": what a pull has printed
+abbrev pub printed : Answer → List ℕ → List ℕ
+printed (verdict False) report = hexLine (reportPart report)
+printed (verdict True) report = []
+printed (verdict Unknown) report = []
+printed opened report = []
+printed accepted report = []
+printed ignored report = []
+printed waiting report = []
+printed (refused number place) report = []
+
+-- a verdict was given
+abbrev pub isVerdict : Answer → Bool
+isVerdict (verdict v) = true
+isVerdict opened = false
+isVerdict accepted = false
+isVerdict ignored = false
+isVerdict waiting = false
+isVerdict (refused number place) = false
+
+-- one pull
+unfoldable pub pulledOnce : Progress → Progress
+pulledOnce x =
+    record {
+      state = pullOf x .state;
+      words = x .words;
+      counts = x .counts;
+      said = x .said ++ printed (pullOf x .answer) (pullOf x .report);
+    }
+
+-- "pulls until waiting", in at most so many pulls
+unfoldable pub pulls : ℕ → Progress → Progress
+pulls zero x = x
+pulls (suc k) x = cond (isVerdict (pullOf x .answer)) (pulls k (pulledOnce x)) (pulledOnce x)
+
+-- more than the verdicts that a checker gives in its life, p being at most 1,010,000
+abbrev pub pullLimit : ℕ
+pullLimit = 1010001
+
+-- ---- feeding
+-- "(modulo 2^32)"
+abbrev pub oneMore : ℕ → ℕ
+oneMore n = (n + 1) % 2 ^ 32
+
+-- "accepted, ignored, refused": the counts after a line's answer
+abbrev pub countedBy : Answer → Counts → Counts
+countedBy accepted c = record { accepted = oneMore (c .accepted); ignored = c .ignored; refused = c .refused }
+countedBy ignored c = record { accepted = c .accepted; ignored = oneMore (c .ignored); refused = c .refused }
+countedBy (refused number place) c = record { accepted = c .accepted; ignored = c .ignored; refused = oneMore (c .refused) }
+countedBy opened c = c
+countedBy waiting c = c
+countedBy (verdict v) c = c
+
+abbrev pub feedOf : Progress → List ℕ → FeedResult
+feedOf x line = feedDef (x .state) (x .words) line
+
+unfoldable pub fedLine : Progress → List ℕ → Progress
+fedLine x line =
+    record {
+      state = feedOf x line .state;
+      words = feedOf x line .words;
+      counts = countedBy (feedOf x line .answer) (x .counts);
+      said = x .said;
+    }
+
+-- a line: it is fed, and then "pulls until waiting .. after each"
+abbrev pub afterLine : Progress → List ℕ → Progress
+afterLine x line = pulls pullLimit (fedLine x line)
+
+-- the lines of a log, one after the other
+unfoldable pub afterLines : Progress → List (List ℕ) → Progress
+afterLines x [] = x
+afterLines x (l ∷ ls) = afterLines (afterLine x l) ls
+
+-- ---- the log in chunks
+-- progress, and what is kept of a line whose end has not come yet
+pub record Open : Type 0 where
+  pub progress : Progress
+  pub held : List ℕ
+
+-- the bytes of a chunk, one after the other
+unfoldable pub afterBytes : Open → List ℕ → Open
+afterBytes o [] = o
+afterBytes o (b ∷ s) =
+    afterBytes
+    (cond (eqb b 10) (record { progress = afterLine (o .progress) (o .held); held = [] }) (record { progress = o .progress; held = kept (o .held) (b ∷ []) }))
+    s
+
+abbrev pub lastLine : Progress → List ℕ → Progress
+lastLine x [] = x
+lastLine x (b ∷ bs) = afterLine x (b ∷ bs)
+
+-- "the last may lack it": at the log's end, what is held is a line
+abbrev pub atEnd : Open → Progress
+atEnd o = lastLine (o .progress) (o .held)
+
+-- ---- what the code carries
+-- a run's progress, with what waits in its output buffer as all that was printed
+abbrev pub progressOf : Run → List ℤ → List ℕ → Progress
+progressOf r win out = record { state = r .state; words = win; counts = r .counts; said = take (r .full) out }
+
+-- what waits is the end of what is to be printed: the rest was written out before
+pub record Ends (got want : List ℕ) : Type 0 where
+  pub written : List ℕ
+  pub same : want ≡ written ++ got
+
+-- the same progress with more printed before
+abbrev pub before : List ℕ → Progress → Progress
+before w x = record { state = x .state; words = x .words; counts = x .counts; said = w ++ x .said }
+
+-- what is got is what is wanted, but for what was written out before
+pub record After (want got : Progress) : Type 0 where
+  pub written : List ℕ
+  pub same : want ≡ before written got
+
+-- a run with the bytes of a cut line that it holds
+abbrev pub openOf : Run → List ℕ → List ℤ → List ℕ → Open
+openOf r carry win out = record { progress = progressOf r win out; held = take (r .held) carry }
+
+-- the same with a cut line
+pub record AfterOpen (want got : Open) : Type 0 where
+  pub progress : After (want .progress) (got .progress)
+  pub held : got .held ≡ want .held

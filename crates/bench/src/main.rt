@@ -1,0 +1,233 @@
+// The bench program: the rule from the file rule.loc, the log from standard input; reports, and at the end the totals, as
+// hexadecimal lines on standard output.
+mod cut; // cut.rt: a line that a chunk's end cuts
+mod hex; // hex.rt: hexadecimal lines
+mod step; // step.rt: one line, and the pulls after it
+
+use checker::OpenAnswer;
+use checker::State;
+use libc::STDIN_FILENO;
+use libc::STDOUT_FILENO;
+use log::walk::Found;
+use rule::Reading;
+use rule::Refusal;
+ghost use mathlib.Core.Path.{_≡_};
+ghost use mathlib.Core.List.{_++_};
+ghost use Prim.Native.Nat.{_≤_};
+ghost use lib.ListN.{length, take};
+ghost use Rattle.bench.specs.Print.{outBytes};
+ghost use Rattle.bench.specs.Kept.{keptLimit};
+ghost use Rattle.bench.specs.Progress.{afterLine, afterBytes, atEnd, progressOf, After, openOf, AfterOpen};
+
+// How many lines were accepted, ignored and refused.
+pub struct Counts {
+    pub accepted: u32,
+    pub ignored: u32,
+    pub refused: u32,
+}
+
+// What is carried from line to line beside the window and the two buffers: the checker's state, the counts, how many bytes of a
+// cut line are held, how many bytes of output wait, and whether there is more to do.
+pub struct Run {
+    pub state: State,
+    pub counts: Counts,
+    pub held: usize,
+    pub full: usize,
+    pub more: bool,
+}
+
+// A frame has 8 bytes.
+const FRAME_BYTES: usize = 8;
+
+// The document's W for this program.
+const WIDTH: u32 = 64;
+
+// A line that ends in a chunk: with what is held of it, where something is.
+fn ended(r: Run, carry: &mut [u8], window: &mut [i32], out: &mut [u8], part: &[u8]) -> Run
+    requires { ⌜ (r .full ≤ outBytes) × ((r .held ≤ keptLimit) × ((length (now carry) ≡ keptLimit) × (length (now out) ≡ outBytes))) ⌝ }
+    ensures { λ q. ⌜ (q .full ≤ outBytes) × ((q .held ≡ 0) × After (afterLine (progressOf r (now (window .entry)) (now (out .entry))) (take (r .held) (now (carry .entry)) ++ now (part .entry))) (progressOf q (now (window .exit)) (now (out .exit)))) ⌝ }
+{
+    let held = r.held;
+    if held == 0 {
+        return step::one_line(r, window, out, part);
+    }
+    let n = cut::keep(carry, held, part);
+    let mut q = step::one_line(r, window, out, &carry[..n]);
+    q.held = 0;
+    q
+}
+
+// The lines that end in a chunk; what is left of the last is held.
+fn chunk(r: Run, carry: &mut [u8], window: &mut [i32], out: &mut [u8], s: &[u8]) -> Run
+    requires { ⌜ (r .full ≤ outBytes) × ((r .held ≤ keptLimit) × ((length (now carry) ≡ keptLimit) × (length (now out) ≡ outBytes))) ⌝ }
+    ensures { λ q. ⌜ (q .full ≤ outBytes) × ((q .held ≤ keptLimit) × AfterOpen (afterBytes (openOf r (now (carry .entry)) (now (window .entry)) (now (out .entry))) (now (s .entry))) (openOf q (now (carry .exit)) (now (window .exit)) (now (out .exit)))) ⌝ }
+{
+    let mut q = r;
+    let mut at = 0;
+    while at < s.len() {
+        let Found::Line { start, end, next } = log::walk::line_from(s, at) else {
+            return q;
+        };
+        if end < next {
+            q = ended(q, carry, window, out, &s[start..end]);
+            at = next;
+        } else {
+            let held = q.held;
+            q.held = cut::keep(carry, held, &s[start..end]);
+            at = s.len();
+        }
+    }
+    q
+}
+
+// One read, and the lines that end in it. The end of the input and a read that fails end the log. Proved safe only: no contract
+// can say what is read.
+fn turn(r: Run, carry: &mut [u8], window: &mut [i32], out: &mut [u8]) -> Run
+    requires { ⌜ (r .full ≤ outBytes) × ((r .held ≤ keptLimit) × ((length (now carry) ≡ keptLimit) × (length (now out) ≡ outBytes))) ⌝ }
+    ensures { λ q. ⌜ (q .full ≤ outBytes) × (q .held ≤ keptLimit) ⌝ }
+{
+    let mut buf = [0u8; 65536];
+    let got = libc::read(STDIN_FILENO, &mut buf);
+    if got <= 0 {
+        let mut q = r;
+        q.more = false;
+        return q;
+    }
+    let n = io::count(got, &buf);
+    let mut q = chunk(r, carry, window, out, &buf[..n]);
+    q.more = true;
+    q
+}
+
+// The log has ended: what is held is a line.
+fn last(r: Run, carry: &[u8], window: &mut [i32], out: &mut [u8]) -> Run
+    requires { ⌜ (r .full ≤ outBytes) × ((r .held ≤ keptLimit) × ((length (now carry) ≡ keptLimit) × (length (now out) ≡ outBytes))) ⌝ }
+    ensures { λ q. ⌜ (q .full ≤ outBytes) × After (atEnd (openOf r (now (carry .entry)) (now (window .entry)) (now (out .entry)))) (progressOf q (now (window .exit)) (now (out .exit))) ⌝ }
+{
+    let held = r.held;
+    if held == 0 {
+        return r;
+    }
+    step::one_line(r, window, out, &carry[..held])
+}
+
+// Reads the log to its end. Proved safe only: the input need not end.
+fn all(r: Run, carry: &mut [u8], window: &mut [i32], out: &mut [u8]) -> Run
+    requires { ⌜ (r .full ≤ outBytes) × ((r .held ≤ keptLimit) × ((length (now carry) ≡ keptLimit) × (length (now out) ≡ outBytes))) ⌝ }
+    ensures { λ q. ⌜ q .full ≤ outBytes ⌝ }
+{
+    let mut q = r;
+    q.more = true;
+    let mut turns = u64::MAX;
+    while turns > 0 && q.more {
+        q = turn(q, carry, window, out);
+        turns -= 1;
+    }
+    last(q, carry, window, out)
+}
+
+// Writes out what waits, and the totals after it.
+fn finish(r: Run, out: &mut [u8])
+    requires { ⌜ (r .full ≤ outBytes) × (length (now out) ≡ outBytes) ⌝ }
+{
+    let full = r.full;
+    let totals = r.state.totals;
+    let counts = r.counts;
+    let at = step::make_room(out, full);
+    let end = hex::put_totals(out, at, totals, counts);
+    io::write_all(STDOUT_FILENO, &out[..end]);
+}
+
+// A checker's whole run over the log.
+fn run_log(state: State, carry: &mut [u8], window: &mut [i32], out: &mut [u8])
+    requires { ⌜ (length (now carry) ≡ keptLimit) × (length (now out) ≡ outBytes) ⌝ }
+{
+    let counts = Counts {
+        accepted: 0,
+        ignored: 0,
+        refused: 0,
+    };
+    let first = Run {
+        state,
+        counts,
+        held: 0,
+        full: 0,
+        more: true,
+    };
+    let r = step::pull_all(first, window, out);
+    let q = all(r, carry, window, out);
+    finish(q, out);
+}
+
+fn run_with(state: State, window: &mut [i32]) {
+    let mut carry = [0u8; 35];
+    let mut out = [0u8; 65536];
+    run_log(state, &mut carry, window, &mut out);
+}
+
+// The line of a refused rule.
+fn say_refused(r: Refusal) {
+    let mut line = [0u8; 9];
+    let n = hex::put_refused(&mut line, r);
+    io::write_all(STDOUT_FILENO, &line[..n]);
+}
+
+// A rule's frames are opened and run.
+fn run_frames(frames: &[u8]) {
+    let mut window = [0i32; 2048];
+    let opened = checker::open(frames, WIDTH, &mut window);
+    let state = opened.state;
+    let answer = opened.answer;
+    match answer {
+        OpenAnswer::Opened => {
+            run_with(state, &mut window);
+        }
+        OpenAnswer::Refused(r) => {
+            say_refused(r);
+        }
+    }
+}
+
+// The first frames of a buffer.
+fn run_first(frames: &[u8], count: u32) {
+    let n = count as usize * FRAME_BYTES;
+    if n <= frames.len() {
+        run_frames(&frames[..n]);
+    } else {
+        run_frames(frames);
+    }
+}
+
+// A rule's text is read; a refused one is said, and no log is read.
+fn run_text(text: &[u8]) {
+    let mut frames = [0u8; 512];
+    match rule::read(text, &mut frames) {
+        Reading::Frames(count) => run_first(&frames, count),
+        Reading::Refused(r) => say_refused(r),
+    }
+}
+
+// Reads the rule's file as far as there is room, and answers how many bytes it has. A file that can't be read counts as an
+// empty text.
+fn read_rule(text: &mut [u8]) -> usize
+    ensures { λ r. ⌜ (r ≤ length (now (text .exit))) × (r ≡ length (take r (now (text .exit)))) ⌝ }
+{
+    let fd = os::open_read(b"rule.loc");
+    if fd < 0 {
+        return 0;
+    }
+    let n = io::read_full(fd, text);
+    libc::close(fd);
+    n
+}
+
+fn run_rule(text: &mut [u8]) {
+    let n = read_rule(text);
+    run_text(&text[..n]);
+}
+
+// One byte more than a rule's text may have tells a text that is too long.
+fn main() {
+    let mut text = [0u8; 1025];
+    run_rule(&mut text);
+}

@@ -1,0 +1,168 @@
+// One line of the log: it is fed, and verdicts are pulled until waiting. Reports wait in an output buffer.
+use crate::Counts;
+use crate::Run;
+use crate::hex;
+use checker::FeedAnswer;
+use checker::PullAnswer;
+use checker::State;
+use libc::STDOUT_FILENO;
+ghost use mathlib.Core.Path.{_≡_};
+ghost use mathlib.Core.List.{_++_};
+ghost use Prim.Native.Nat.{_+_, _*_, _≤_, min};
+ghost use lib.ListN.{length, take};
+ghost use Rattle.checker.specs.Limits.{reportLeast};
+ghost use Rattle.checker.specs.Answer.{feedTold};
+ghost use Rattle.checker.specs.Feed.{feedDef};
+ghost use Rattle.bench.specs.Print.{outBytes, hexLine, reportPart};
+ghost use Rattle.bench.specs.Progress.{blank, pullOf, isVerdict, pulledOnce, pulls, pullLimit, countedBy, fedLine, afterLine, progressOf, Ends, After};
+
+// With so many bytes waiting there is room for every line.
+const ROOMY: usize = 65200;
+
+// A report has at most so many bytes.
+const REPORT: usize = 166;
+
+// More than the verdicts that a checker gives in its life.
+const PULLS: u32 = 1010001;
+
+// Writes out what waits where a line may lack room, and answers how many bytes then wait. That they are written is not proved:
+// no contract can say it.
+pub fn make_room(out: &[u8], full: usize) -> usize
+    requires { ⌜ (full ≤ outBytes) × (length (now out) ≡ outBytes) ⌝ }
+    ensures { λ r. ⌜ (r ≤ 65200) × Ends (take r (now (out .entry))) (take full (now (out .entry))) ⌝ }
+{
+    if full <= ROOMY {
+        return full;
+    }
+    io::write_all(STDOUT_FILENO, &out[..full]);
+    0
+}
+
+// How long a report is: six bytes, and five for each reference.
+fn report_length(references: u8) -> usize
+    ensures { λ r. ⌜ (r ≤ reportLeast) × (r ≡ min (6 + 5 * references) reportLeast) ⌝ }
+{
+    let n = 6 + 5 * references as usize;
+    if n <= REPORT { n } else { REPORT }
+}
+
+// A report as a line.
+fn say_report(out: &mut [u8], full: usize, report: &[u8]) -> usize
+    requires { ⌜ (full ≤ outBytes) × ((length (now out) ≡ outBytes) × (length (now report) ≡ reportLeast)) ⌝ }
+    ensures { λ r. ⌜ (r ≤ outBytes) × Ends (take r (now (out .exit))) (take full (now (out .entry)) ++ hexLine (reportPart (now (report .entry)))) ⌝ }
+{
+    let at = make_room(out, full);
+    let n = report_length(report[5]);
+    hex::put_line(out, at, &report[..n])
+}
+
+// A run with another state.
+fn with_state(r: Run, state: State, full: usize, more: bool) -> Run
+    ensures { λ q. ⌜ q ≡ record { state = state; counts = r .counts; held = r .held; full = full; more = more } ⌝ }
+{
+    let counts = r.counts;
+    Run {
+        state,
+        counts,
+        held: r.held,
+        full,
+        more,
+    }
+}
+
+// One pull into a report buffer of zeros.
+fn pull_into(r: Run, window: &[i32], out: &mut [u8], report: &mut [u8]) -> Run
+    requires { ⌜ (r .full ≤ outBytes) × ((length (now out) ≡ outBytes) × (now report ≡ blank)) ⌝ }
+    ensures { λ q. ⌜ (q .full ≤ outBytes) × ((q .held ≡ r .held) × ((q .more ≡ isVerdict (pullOf (progressOf r (now (window .entry)) (now (out .entry))) .answer)) × After (pulledOnce (progressOf r (now (window .entry)) (now (out .entry)))) (progressOf q (now (window .entry)) (now (out .exit))))) ⌝ }
+{
+    let state = r.state;
+    let full = r.full;
+    let pulled = checker::pull(state, window, report);
+    let next = pulled.state;
+    let answer = pulled.answer;
+    match answer {
+        PullAnswer::True => with_state(r, next, full, true),
+        PullAnswer::False => {
+            let end = say_report(out, full, report);
+            with_state(r, next, end, true)
+        }
+        PullAnswer::Unknown => with_state(r, next, full, true),
+        PullAnswer::Waiting => with_state(r, next, full, false),
+        PullAnswer::Refused(_) => with_state(r, next, full, false),
+    }
+}
+
+// One pull.
+fn pull_once(r: Run, window: &[i32], out: &mut [u8]) -> Run
+    requires { ⌜ (r .full ≤ outBytes) × (length (now out) ≡ outBytes) ⌝ }
+    ensures { λ q. ⌜ (q .full ≤ outBytes) × ((q .held ≡ r .held) × ((q .more ≡ isVerdict (pullOf (progressOf r (now (window .entry)) (now (out .entry))) .answer)) × After (pulledOnce (progressOf r (now (window .entry)) (now (out .entry)))) (progressOf q (now (window .entry)) (now (out .exit))))) ⌝ }
+{
+    let mut report = [0u8; 166];
+    pull_into(r, window, out, &mut report)
+}
+
+// Pulls until waiting.
+pub fn pull_all(r: Run, window: &[i32], out: &mut [u8]) -> Run
+    requires { ⌜ (r .full ≤ outBytes) × (length (now out) ≡ outBytes) ⌝ }
+    ensures { λ q. ⌜ (q .full ≤ outBytes) × ((q .held ≡ r .held) × After (pulls pullLimit (progressOf r (now (window .entry)) (now (out .entry)))) (progressOf q (now (window .entry)) (now (out .exit)))) ⌝ }
+{
+    let mut q = r;
+    q.more = true;
+    let mut left = PULLS;
+    while left > 0 && q.more {
+        q = pull_once(q, window, out);
+        left -= 1;
+    }
+    q
+}
+
+// The counts after an answer.
+fn counted(c: Counts, answer: FeedAnswer) -> Counts
+    ensures { λ r. ⌜ r ≡ countedBy (feedTold answer) c ⌝ }
+{
+    match answer {
+        FeedAnswer::Accepted => Counts {
+            accepted: std::num::wrapping_add_u32(c.accepted, 1),
+            ignored: c.ignored,
+            refused: c.refused,
+        },
+        FeedAnswer::Ignored => Counts {
+            accepted: c.accepted,
+            ignored: std::num::wrapping_add_u32(c.ignored, 1),
+            refused: c.refused,
+        },
+        FeedAnswer::Refused(_) => Counts {
+            accepted: c.accepted,
+            ignored: c.ignored,
+            refused: std::num::wrapping_add_u32(c.refused, 1),
+        },
+    }
+}
+
+// Feeds a line and counts its answer.
+fn feed_line(r: Run, window: &mut [i32], line: &[u8]) -> Run
+    ensures { λ q. ⌜ (q ≡ record { state = feedDef (r .state) (now (window .entry)) (now (line .entry)) .state; counts = countedBy (feedDef (r .state) (now (window .entry)) (now (line .entry)) .answer) (r .counts); held = r .held; full = r .full; more = r .more }) × (now (window .exit) ≡ feedDef (r .state) (now (window .entry)) (now (line .entry)) .words) ⌝ }
+{
+    let state = r.state;
+    let before = r.counts;
+    let fed = checker::feed(state, window, line);
+    let next = fed.state;
+    let answer = fed.answer;
+    let counts = counted(before, answer);
+    Run {
+        state: next,
+        counts,
+        held: r.held,
+        full: r.full,
+        more: r.more,
+    }
+}
+
+// One line of the log, without its LF.
+pub fn one_line(r: Run, window: &mut [i32], out: &mut [u8], line: &[u8]) -> Run
+    requires { ⌜ (r .full ≤ outBytes) × (length (now out) ≡ outBytes) ⌝ }
+    ensures { λ q. ⌜ (q .full ≤ outBytes) × ((q .held ≡ r .held) × After (afterLine (progressOf r (now (window .entry)) (now (out .entry))) (now (line .entry))) (progressOf q (now (window .exit)) (now (out .exit)))) ⌝ }
+{
+    let q = feed_line(r, window, line);
+    pull_all(q, window, out)
+}
