@@ -88,7 +88,8 @@ fn collected(room: &Room, words: &[String], log: &str) -> u64 {
     number.unwrap_or_else(|| panic!("callgrind counted nothing: {told}"))
 }
 
-/// What a run under callgrind does: `steps WHAT KIND TIMES`.
+/// What a run under callgrind does: `steps WHAT KIND TIMES`. A whole log comes on standard input; `awk` and `log` print
+/// the script of a rule and a log of so many lines.
 pub fn steps(words: &[String]) {
     let [what, name, times] = words else {
         panic!("steps WHAT KIND TIMES");
@@ -106,7 +107,8 @@ pub fn steps(words: &[String]) {
         "states" => _ = black_box(ways::states(&frames, &input())),
         "feed" => feed(&frames, times),
         "pull" => pull(&frames, times),
-        "awk" => println!("{}", awk::script(&kind.rule())),
+        "awk" => print!("{}", awk::script(&kind.rule())),
+        "log" => print!("{}", String::from_utf8_lossy(&logs::make(times))),
         other => panic!("no step {other}"),
     }
 }

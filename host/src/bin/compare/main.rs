@@ -6,13 +6,14 @@
 //! With the word `quick` the logs are a tenth as long.
 
 mod awk;
+mod clock;
 mod counts;
 mod logs;
 mod rules;
 mod ways;
 
 use rules::{kinds, Kind};
-use std::time::{Duration, Instant};
+use std::time::Duration;
 use ways::{Found, Room, WAYS};
 
 /// Lines of the logs.
@@ -78,9 +79,9 @@ fn measure(room: &Room, kind: &Kind, sizes: &[usize; 3], logs: &[Vec<u8>; 3]) ->
 }
 
 fn timed(run: impl FnOnce() -> Found) -> (Duration, Found) {
-    let began = Instant::now();
+    let began = clock::own();
     let found = run();
-    (began.elapsed(), found)
+    (clock::own() - began, found)
 }
 
 fn heading(title: &str, columns: &[String]) {
@@ -89,7 +90,8 @@ fn heading(title: &str, columns: &[String]) {
 }
 
 fn print_speed(all: &[(Kind, Best)], lines: usize) {
-    let title = format!("Thousand lines a second, {lines} lines, best of {ROUNDS}");
+    let title =
+        format!("Thousand lines a second of processor time, {lines} lines, best of {ROUNDS}");
     heading(&title, &WAYS.map(String::from));
     let speeds = |best: &Best| best[1].map(|time| lines as f64 / time.as_secs_f64());
     for (kind, best) in all {
@@ -114,7 +116,10 @@ fn told(sizes: &[usize; 3]) -> String {
 }
 
 fn print_growth(all: &[(Kind, Best)], sizes: &[usize; 3]) {
-    let title = format!("Nanoseconds a line as the log grows: {}", told(sizes));
+    let title = format!(
+        "Nanoseconds of processor time a line as the log grows: {}",
+        told(sizes)
+    );
     heading(&title, &WAYS.map(String::from));
     for (kind, best) in all {
         let cell = |way: usize| {

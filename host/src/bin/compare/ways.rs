@@ -1,6 +1,7 @@
 //! The ways to check a log: the library, the bench program, the second checker by its machine, which trusts what it
 //! holds, and by states handed in, which it checks at each call as the library does, and awk.
 
+use crate::clock;
 use crate::rules::Kind;
 use dillplatter_host::part::{self, Checker};
 use dillplatter_host::second::{self, Fed, Machine, Pulled};
@@ -9,7 +10,7 @@ use std::hint::black_box;
 use std::io::Write;
 use std::path::{Path, PathBuf};
 use std::process::{Child, Command, Stdio};
-use std::time::{Duration, Instant};
+use std::time::Duration;
 
 pub const WAYS: [&str; 5] = ["library", "bench", "second", "second, by states", "awk"];
 
@@ -112,15 +113,15 @@ impl Room {
         command
     }
 
-    /// The time of a program with a log in a file.
+    /// The processor time of a program with a log in a file.
     pub fn time(&self, words: &[String], log: &str) -> Duration {
         let input = File::open(self.0.join(log)).expect("the log");
         let output = File::create(self.0.join("out")).expect("room for the output");
         let mut command = self.command(words);
         command.stdin(input).stdout(output);
-        let began = Instant::now();
+        let began = clock::children();
         let status = command.status().expect("the program runs");
-        let time = began.elapsed();
+        let time = clock::children() - began;
         assert!(status.success(), "{words:?}");
         time
     }
