@@ -201,53 +201,60 @@ fn number(state: &State, words: usize) -> u8 {
     }
 }
 
+/// A state at p 7, where the bases are a 15 and c 4.
+fn good() -> State {
+    state(7, [19, 0, 8])
+}
+
+/// The good state is refused once it is changed.
+#[track_caller]
+fn refused(change: impl Fn(&mut State)) {
+    let mut state = good();
+    change(&mut state);
+    assert_eq!(number(&state, 128), 12);
+}
+
 #[test]
-fn each_field_by_itself() {
-    // Bases at p 7: a 15, c 4.
-    let good = state(7, [19, 0, 8]);
-    assert_eq!(number(&good, 128), 0);
-    let refused = |change: &dyn Fn(&mut State)| {
-        let mut state = good.clone();
-        change(&mut state);
-        assert_eq!(number(&state, 128), 12);
-    };
-    refused(&|state| state.counts[0] = 20);
-    refused(&|state| state.counts[2] = 9);
-    (3..8)
-        .chain([1])
-        .for_each(|event| refused(&|state| state.counts[event] = 1));
+fn counts_p_and_totals() {
+    assert_eq!(number(&good(), 128), 0);
+    refused(|state| state.counts[0] = 20);
+    refused(|state| state.counts[2] = 9);
+    for event in [1, 3, 4, 5, 6, 7] {
+        refused(|state| state.counts[event] = 1);
+    }
     for count in [1_000_001, 1 << 31, u32::MAX] {
-        refused(&|state| state.counts[0] = count);
+        refused(|state| state.counts[0] = count);
     }
     for value in [0, 6, 8, 1 << 31, u32::MAX] {
-        refused(&|state| state.p = value);
-        refused(&|state| state.totals.held = value);
-        refused(&|state| state.totals.failed = value.max(1));
-        refused(&|state| state.totals.unknown = value.max(1));
+        refused(|state| state.p = value);
+        refused(|state| state.totals.held = value);
+        refused(|state| state.totals.failed = value.max(1));
+        refused(|state| state.totals.unknown = value.max(1));
     }
     // The sum comes round to 7.
-    refused(&|state| (state.totals.held, state.totals.failed) = (u32::MAX, 8));
+    refused(|state| (state.totals.held, state.totals.failed) = (u32::MAX, 8));
+}
+
+#[test]
+fn frames_width_and_window() {
     for len in [0, 1, 6, 8, 64, 65, 1 << 29, (1 << 29) + 7, u32::MAX] {
-        refused(&|state| state.len = len);
+        refused(|state| state.len = len);
     }
     for w in [0, 257, 1 << 27, (1 << 27) + 4, u32::MAX] {
-        refused(&|state| state.w = w);
+        refused(|state| state.w = w);
     }
     // A kind, an event, a note, a factor, or the sign of a word.
     for byte in (0..56).filter(|byte| byte % 8 <= 4) {
-        refused(&|state| state.frames[byte] ^= 0x80);
+        refused(|state| state.frames[byte] ^= 0x80);
     }
+    // Bytes after the last frame are not looked at.
     for byte in 56..512 {
-        let mut state = good.clone();
+        let mut state = good();
         state.frames[byte] = 0xFF;
-        assert_eq!(
-            number(&state, 128),
-            0,
-            "bytes after the last frame are not looked at"
-        );
+        assert_eq!(number(&state, 128), 0, "byte {byte}");
     }
     for words in (0..=300).filter(|words| *words != 128) {
-        assert_eq!(number(&good, words), 13, "{words} words");
+        assert_eq!(number(&good(), words), 13, "{words} words");
     }
     assert_eq!(number(&State::zero(), 0), 12);
     assert_eq!(number(&State::zero(), 128), 12);

@@ -53,7 +53,7 @@ fn events_and_notes() {
 }
 
 #[test]
-fn factors_offsets_literals() {
+fn factors_and_offsets() {
     for number in 0..=300_u64 {
         let expected = |fits, place| if fits { Ok(3) } else { behind_head(5, place) };
         let factor = condition(&format!("t(a[{number}*i]) = 1"));
@@ -64,6 +64,10 @@ fn factors_offsets_literals() {
             assert_eq!(offset, expected(number <= 9_999, 6));
         }
     }
+}
+
+#[test]
+fn literals() {
     for limit in [
         (1 << 31) - 1,
         1 << 31,
@@ -164,6 +168,10 @@ fn a_group_ends_its_depth() {
             }
         );
     }
+}
+
+#[test]
+fn depth_on_either_side_of_an_arrow() {
     for left in 0..=18 {
         for right in 0..=18 {
             let text = format!(
@@ -171,7 +179,7 @@ fn a_group_ends_its_depth() {
                 "!".repeat(left),
                 "!".repeat(right)
             );
-            let fits = left <= 16 && right + 1 <= 16;
+            let fits = left <= 16 && right < 16;
             assert_eq!(
                 condition(&text),
                 if fits {
