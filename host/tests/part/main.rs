@@ -11,6 +11,7 @@ mod damage;
 mod examples;
 mod forged;
 mod limits;
+mod lines;
 mod lists;
 mod opening;
 mod pair;

@@ -6,7 +6,7 @@ use std::cell::Cell;
 const LEAST: usize = 200_000;
 
 /// The fewest calls of each test that makes many.
-const OF_TESTS: [(&str, usize); 11] = [
+const OF_TESTS: [(&str, usize); 12] = [
     ("vectors", 6_000),
     ("random texts", 9_000),
     ("damaged texts", 20_000),
@@ -14,6 +14,7 @@ const OF_TESTS: [(&str, usize); 11] = [
     ("bytes of frames", 60_000),
     ("short lists of frames", 37_000),
     ("damaged frames", 20_000),
+    ("bytes of a line", 8_700),
     ("random lists of calls", 200_000),
     ("several widths", 40_000),
     ("forged states", 60_000),
