@@ -1,7 +1,8 @@
 //! Host side of Dillplatter, a log checker for Logic of Constraints.
 //!
-//! [`second`] is the second checker. It is written from document 01 alone, keeps the whole log, and shares no
-//! code or table with the proved part. A test drives it call by call:
+//! [`part`] calls the proved part through its C interface. [`second`] is the second checker. It is written from
+//! document 01 alone, keeps the whole log, and shares no code or table with the proved part. A test drives it call by
+//! call:
 //!
 //! ```
 //! use dillplatter_host::second::{open, read, Fed, Pulled, Truth};
@@ -16,4 +17,5 @@
 //! assert_eq!((machine.p(), machine.totals().failed), (1, 1));
 //! ```
 
+pub mod part;
 pub mod second;

@@ -1,0 +1,169 @@
+//! An awk script that does for one rule what the bench program does: the same lines in, the same lines out.
+
+use dillplatter_host::second::frames::{Condition, Reference, Relation, Rule, Sum};
+use std::collections::BTreeSet;
+
+const FUNCTIONS: &str = r#"
+function min(a, b) { return a < b ? a : b }
+function max(a, b) { return a > b ? a : b }
+function abs(a) { return a < 0 ? -a : a }
+function word(at) {
+    v = H[substr($0, at, 2)] * 16777216 + H[substr($0, at + 2, 2)] * 65536
+    v += H[substr($0, at + 4, 2)] * 256 + H[substr($0, at + 6, 2)]
+    return v > 2147483647 ? v - 4294967296 : v
+}
+function unsigned(a) { return a < 0 ? a + 4294967296 : a }
+BEGIN { for (k = 0; k < 256; k++) H[sprintf("%02X", k)] = k; while (pull()); }
+length($0) != 34 || /[^0-9A-F]/ { refused++; while (pull()); next }
+{ feed(H[substr($0, 1, 2)]); while (pull()); }
+END { printf "%08X%08X%08X%08X%08X%08X\n", T[2], T[0], T[1], accepted, ignored, refused }
+"#;
+
+/// The script of a rule, with W 64. Values are 0 false, 1 unknown, 2 true; s, k, v are a reference's mark, occurrence, note.
+pub fn script(rule: &Rule) -> String {
+    [begin(rule).as_str(), FUNCTIONS, &feed(rule), &pull(rule)].concat()
+}
+
+/// Counts and lows are numbers from the start, so that they name places of arrays.
+fn begin(rule: &Rule) -> String {
+    let zeros: String = events(rule)
+        .into_iter()
+        .map(|event| format!("c{event} = 0; low{event} = 0; "))
+        .collect();
+    format!("BEGIN {{ {zeros}p = 0 }}")
+}
+
+fn events(rule: &Rule) -> BTreeSet<usize> {
+    rule.references
+        .iter()
+        .map(|reference| reference.event)
+        .collect()
+}
+
+fn notes(rule: &Rule, event: usize) -> BTreeSet<usize> {
+    let of_event = rule
+        .references
+        .iter()
+        .filter(|reference| reference.event == event);
+    of_event.map(|reference| reference.note).collect()
+}
+
+fn occurrence(reference: &Reference) -> String {
+    format!("({} * p + {})", reference.factor, reference.offset)
+}
+
+/// The base of an event at p.
+fn base(rule: &Rule, event: usize) -> String {
+    let of_event = rule
+        .references
+        .iter()
+        .filter(|reference| reference.event == event);
+    let lows = of_event.map(|reference| format!("max(0, {})", occurrence(reference)));
+    let lowest = lows.collect::<BTreeSet<String>>().into_iter();
+    lowest
+        .reduce(|a, b| format!("min({a}, {b})"))
+        .expect("the event is referenced")
+}
+
+fn feed(rule: &Rule) -> String {
+    let mut script = "function feed(e) {\n".to_string();
+    for event in events(rule) {
+        let store = |note: usize| format!("n{event}_{note}[c{event}] = word({}); ", 3 + 8 * note);
+        let stores: String = notes(rule, event).into_iter().map(store).collect();
+        script += &format!(
+            "    if (e == {event}) {{\n        \
+             if (c{event} >= 1000000 || c{event} >= low{event} + 64) {{ refused++; return }}\n        \
+             {stores}c{event}++; accepted++; return\n    }}\n"
+        );
+    }
+    script + "    ignored++\n}\n"
+}
+
+fn pull(rule: &Rule) -> String {
+    let mut script = "function pull() {\n".to_string();
+    for (r, reference) in rule.references.iter().enumerate() {
+        let (event, note, k) = (reference.event, reference.note, occurrence(reference));
+        script += &format!("    k = {k}; s{r} = k < 0 ? 2 : (k < c{event} ? 0 : 1); v{r} = s{r} ? 0 : n{event}_{note}[k]\n");
+    }
+    let all = |sign: &str, between: &str| {
+        let each = (0..rule.references.len()).map(|r| format!("s{r} {sign}"));
+        each.collect::<Vec<String>>().join(between)
+    };
+    script += &format!("    value = {}\n", condition(&rule.condition));
+    script += &format!(
+        "    if ({}) if (value == 1 || !({})) return 0\n",
+        all("== 1", " || "),
+        all("== 0", " || ")
+    );
+    script += &format!(
+        "    if (value == 0) {{ printf \"%08X00%02X\", p, {}",
+        rule.references.len()
+    );
+    for r in 0..rule.references.len() {
+        script += &format!("; printf \"%02X%08X\", s{r}, unsigned(v{r})");
+    }
+    script += "; print \"\" }\n    T[value]++; p++\n";
+    for event in events(rule) {
+        let deletes: String = notes(rule, event)
+            .into_iter()
+            .map(|note| format!("delete n{event}_{note}[low{event}]; "))
+            .collect();
+        script += &format!(
+            "    b = {}; while (low{event} < b) {{ {deletes}low{event}++ }}\n",
+            base(rule, event)
+        );
+    }
+    script + "    return 1\n}\n"
+}
+
+fn condition(tree: &Condition) -> String {
+    match tree {
+        Condition::Relation(relation, left, right) => {
+            let mut used = BTreeSet::new();
+            let (left, right) = (sum(left, &mut used), sum(right, &mut used));
+            let holds = format!("({left} {} {right} ? 2 : 0)", sign(*relation));
+            let missing: Vec<String> = used.into_iter().map(|r| format!("s{r}")).collect();
+            if missing.is_empty() {
+                return holds;
+            }
+            format!("({} ? 1 : {holds})", missing.join(" || "))
+        }
+        Condition::Not(inner) => format!("(2 - {})", condition(inner)),
+        Condition::And(left, right) => format!("min({}, {})", condition(left), condition(right)),
+        Condition::Or(left, right) => format!("max({}, {})", condition(left), condition(right)),
+        Condition::Implies(left, right) => {
+            format!("max(2 - {}, {})", condition(left), condition(right))
+        }
+    }
+}
+
+fn sign(relation: Relation) -> &'static str {
+    match relation {
+        Relation::Equal => "==",
+        Relation::Unequal => "!=",
+        Relation::Less => "<",
+        Relation::AtMost => "<=",
+        Relation::Greater => ">",
+        Relation::AtLeast => ">=",
+    }
+}
+
+/// A sum; the references that it names are added to a set.
+fn sum(tree: &Sum, used: &mut BTreeSet<usize>) -> String {
+    let mut two = |left: &Sum, sign: &str, right: &Sum| {
+        let left = sum(left, used);
+        format!("({left} {sign} {})", sum(right, used))
+    };
+    match tree {
+        Sum::Literal(value) => value.to_string(),
+        Sum::Instance => "p".into(),
+        Sum::Reference(number) => {
+            used.insert(*number);
+            format!("v{number}")
+        }
+        Sum::Add(left, right) => two(left, "+", right),
+        Sum::Subtract(left, right) => two(left, "-", right),
+        Sum::Multiply(left, right) => two(left, "*", right),
+        Sum::Abs(inner) => format!("abs({})", sum(inner, used)),
+    }
+}

@@ -1,0 +1,180 @@
+//! Instructions by callgrind, which no other load on the machine changes.
+
+use crate::rules::{kinds, Kind};
+use crate::ways::{self, Room};
+use crate::{awk, logs};
+use dillplatter_host::part::{Fed, Pulled, State};
+use dillplatter_host::second;
+use std::hint::black_box;
+use std::io::Read;
+use std::process::{Command, Stdio};
+
+/// Lines of the shorter and the longer log.
+const LINES: [usize; 2] = [10_000, 20_000];
+/// Calls of the shorter and the longer run.
+const CALLS: [usize; 2] = [1_000, 2_000];
+
+/// What one kind of rule costs.
+pub struct Counts {
+    /// Instructions a line, one for each way.
+    pub lines: Vec<u64>,
+    /// Instructions of one feed and one pull.
+    pub calls: Vec<u64>,
+}
+
+/// Whether callgrind is at hand.
+pub fn at_hand() -> bool {
+    let version = Command::new("valgrind")
+        .arg("--version")
+        .stdout(Stdio::null())
+        .status();
+    version.is_ok_and(|status| status.success())
+}
+
+/// Counts for one kind of rule; the difference of two runs leaves out what is done once.
+pub fn count(room: &Room, kind: &Kind) -> Counts {
+    room.put_rule(kind);
+    let own = |what: &str, times: usize| {
+        let program = std::env::current_exe()
+            .expect("a path")
+            .display()
+            .to_string();
+        vec![
+            program,
+            "steps".into(),
+            what.into(),
+            kind.name.into(),
+            times.to_string(),
+        ]
+    };
+    let whole = |words: &dyn Fn(usize) -> Vec<String>| {
+        let of = |lines| collected(room, &words(lines), &logs::name(lines));
+        (of(LINES[1]) - of(LINES[0])) / (LINES[1] - LINES[0]) as u64
+    };
+    for lines in LINES {
+        room.put(&logs::name(lines), &logs::make(lines));
+    }
+    let lines = vec![
+        whole(&|lines| own("library", lines)),
+        whole(&|_| ways::bench()),
+        whole(&|lines| own("second", lines)),
+        whole(&|lines| own("states", lines)),
+        whole(&|_| ways::awk()),
+    ];
+    let single = |what| {
+        let of = |times| collected(room, &own(what, times), &logs::name(LINES[0]));
+        (of(CALLS[1]) - of(CALLS[0])) / (CALLS[1] - CALLS[0]) as u64
+    };
+    Counts {
+        lines,
+        calls: vec![single("feed"), single("pull")],
+    }
+}
+
+/// The instructions of a program with a log in a file.
+fn collected(room: &Room, words: &[String], log: &str) -> u64 {
+    let tool = [
+        "valgrind",
+        "--tool=callgrind",
+        "--callgrind-out-file=/dev/null",
+    ]
+    .map(String::from);
+    let mut command = room.command(&[tool.to_vec(), words.to_vec()].concat());
+    let input = std::fs::File::open(room.0.join(log)).expect("the log");
+    let output = command.stdin(input).output().expect("valgrind runs");
+    let told = String::from_utf8_lossy(&output.stderr).into_owned();
+    let line = told.lines().find(|line| line.contains("Collected :"));
+    let number = line.and_then(|line| line.split_whitespace().last()?.parse().ok());
+    number.unwrap_or_else(|| panic!("callgrind counted nothing: {told}"))
+}
+
+/// What a run under callgrind does: `steps WHAT KIND TIMES`. A whole log comes on standard input; `awk` and `log` print
+/// the script of a rule and a log of so many lines.
+pub fn steps(words: &[String]) {
+    let [what, name, times] = words else {
+        panic!("steps WHAT KIND TIMES");
+    };
+    let all = kinds();
+    let kind = all
+        .iter()
+        .find(|kind| kind.name == name)
+        .expect("a kind of rule");
+    let times: usize = times.parse().expect("a number");
+    let frames = kind.frames();
+    match what.as_str() {
+        "library" => _ = black_box(ways::library(&frames, &input())),
+        "second" => _ = black_box(ways::second(&frames, &input())),
+        "states" => _ = black_box(ways::states(&frames, &input())),
+        "feed" => feed(&frames, times),
+        "pull" => pull(&frames, times),
+        "awk" => print!("{}", awk::script(&kind.rule())),
+        "log" => print!("{}", String::from_utf8_lossy(&logs::make(times))),
+        other => panic!("no step {other}"),
+    }
+}
+
+/// The log on standard input.
+fn input() -> Vec<u8> {
+    let mut log = Vec::new();
+    std::io::stdin().read_to_end(&mut log).expect("the log");
+    log
+}
+
+/// A state in the middle of a log: the next line is accepted, or the next instance is settled.
+fn middle(frames: &[u8], settled: bool) -> (State, Vec<i32>, Vec<u8>) {
+    let log = logs::make(1_000);
+    let mut window = vec![0; 32 * 64];
+    let (mut state, opened) = State::open(frames, 64, &mut window);
+    opened.expect("the frames open");
+    for line in log.chunks(35).map(|line| &line[..34]) {
+        let before = state;
+        let accepted = state.feed(&mut window, line) == Fed::Accepted;
+        if accepted && !settled && before.next > 300 {
+            return (before, window, line.to_vec());
+        }
+        loop {
+            let before = state;
+            if state.pull(&window, &mut [0; 166]) != Pulled::True {
+                break;
+            }
+            if settled && before.next > 300 {
+                return (before, window, Vec::new());
+            }
+        }
+    }
+    panic!("no such state");
+}
+
+/// The same feed again and again.
+fn feed(frames: &[u8], times: usize) {
+    let (state, mut window, line) = middle(frames, false);
+    for _ in 0..times {
+        let mut state = black_box(state);
+        assert_eq!(state.feed(&mut window, &line), Fed::Accepted);
+    }
+}
+
+/// The same pull again and again.
+fn pull(frames: &[u8], times: usize) {
+    let (state, window, _) = middle(frames, true);
+    for _ in 0..times {
+        let mut state = black_box(state);
+        assert_eq!(state.pull(&window, &mut [0; 166]), Pulled::True);
+    }
+}
+
+/// That awk, the bench program and the second checker print the same for a kind of rule.
+pub fn agree(room: &Room, kind: &Kind) {
+    let log = logs::make(LINES[0]);
+    room.put_rule(kind);
+    room.put(&logs::name(LINES[0]), &log);
+    let expected = second::bench(kind.text.as_bytes(), &log).into_bytes();
+    for words in [ways::bench(), ways::awk()] {
+        room.time(&words, &logs::name(LINES[0]));
+        assert!(
+            room.printed() == expected,
+            "{words:?} prints other lines for {}",
+            kind.name
+        );
+    }
+}

@@ -1,0 +1,194 @@
+//! The proved part, called through its C interface, behind safe functions.
+//!
+//! [`read`], [`State::open`], [`State::feed`] and [`State::pull`] are the four calls, one for one, on memory that the
+//! caller lends. [`Checker`] has a window of its own:
+//!
+//! ```
+//! use dillplatter_host::part::{read_rule, Checker, Fed, Pulled};
+//!
+//! let frames = read_rule(b"events in out; notes t; t(out[i]) - t(in[i]) <= 25").unwrap();
+//! let mut checker = Checker::open(&frames, 64).unwrap();
+//! let mut report = [0; 166];
+//! assert_eq!(checker.feed(b"000000000A000000000000000000000000"), Fed::Accepted);
+//! assert_eq!(checker.feed(b"0100000028000000000000000000000000"), Fed::Accepted);
+//! assert_eq!(checker.pull(&mut report), Pulled::False);
+//! assert_eq!(report[..16], [0, 0, 0, 0, 0, 2, 0, 0, 0, 0, 40, 0, 0, 0, 0, 10]);
+//! assert_eq!(checker.state().totals.failed, 1);
+//! ```
+
+mod calls;
+
+use calls::{told, Told};
+
+/// Bytes of the buffer that a rule's frames are read into.
+pub const FRAME_BUFFER: usize = 512;
+/// Bytes of one frame.
+pub const FRAME_BYTES: usize = 8;
+/// The fewest bytes of a report buffer.
+pub const REPORT_BYTES: usize = 166;
+/// Window words for each of W.
+pub const WINDOW_WORDS: usize = 32;
+
+/// How many verdicts of each value were pulled.
+#[repr(C)]
+#[derive(Clone, Copy, Debug, Default, PartialEq, Eq)]
+pub struct Totals {
+    pub held: u32,
+    pub failed: u32,
+    pub unknown: u32,
+}
+
+/// What a checker carries from call to call, as the C interface lays it out. A caller may hand in any.
+#[repr(C)]
+#[derive(Clone, Copy, Debug, PartialEq, Eq)]
+pub struct State {
+    pub frames: [u8; FRAME_BUFFER],
+    /// How many frames there are.
+    pub len: u32,
+    /// W.
+    pub width: u32,
+    /// Lines accepted of each event.
+    pub counts: [u32; 8],
+    /// p, the number of the next instance.
+    pub next: u32,
+    pub totals: Totals,
+}
+
+const _: () = assert!(size_of::<Totals>() == 12 && size_of::<State>() == 568);
+
+/// A refusal: document 01's number, and its place (0 if none is named).
+#[derive(Clone, Copy, Debug, PartialEq, Eq)]
+pub struct Refusal {
+    pub number: u32,
+    pub place: u32,
+}
+
+/// What feeding answers.
+#[derive(Clone, Copy, Debug, PartialEq, Eq)]
+pub enum Fed {
+    Accepted,
+    Ignored,
+    /// 12, 13, 15, 16 or 17.
+    Refused(Refusal),
+}
+
+/// What pulling answers.
+#[derive(Clone, Copy, Debug, PartialEq, Eq)]
+pub enum Pulled {
+    True,
+    /// The report is filled.
+    False,
+    Unknown,
+    Waiting,
+    /// 12, 13 or 14.
+    Refused(Refusal),
+}
+
+/// Reads a rule's text into a buffer of 512 bytes: the number of frames, or a refusal (1 to 8), which leaves the
+/// buffer as it was.
+pub fn read(text: &[u8], frames: &mut [u8]) -> Result<u32, Refusal> {
+    let (answer, count) = calls::read(text, frames);
+    match answer {
+        Told::Read => Ok(count),
+        Told::Refused(refusal) if count == 0 => Err(refusal),
+        other => panic!("reading answered {other:?} and {count} frames"),
+    }
+}
+
+/// The frames of a rule's text, or a refusal (2 to 8).
+pub fn read_rule(text: &[u8]) -> Result<Vec<u8>, Refusal> {
+    let mut buffer = vec![0; FRAME_BUFFER];
+    let count = read(text, &mut buffer)?;
+    buffer.truncate(FRAME_BYTES * count as usize);
+    Ok(buffer)
+}
+
+impl State {
+    /// The state that is zero throughout; a refused opening hands it back.
+    pub const ZERO: State = State {
+        frames: [0; FRAME_BUFFER],
+        len: 0,
+        width: 0,
+        counts: [0; 8],
+        next: 0,
+        totals: Totals {
+            held: 0,
+            failed: 0,
+            unknown: 0,
+        },
+    };
+
+    /// Opens a checker for frames and W, with a window of 32 x W words that is set to 0. The state is zero throughout
+    /// where there is a refusal (9, 10, 7, 8, 11), which leaves the window as it was.
+    pub fn open(frames: &[u8], width: u32, window: &mut [i32]) -> (State, Result<(), Refusal>) {
+        let result = calls::open(frames, width, window);
+        match told(&result) {
+            Told::Opened => (result.state, Ok(())),
+            Told::Refused(refusal) => (result.state, Err(refusal)),
+            other => panic!("opening answered {other:?}"),
+        }
+    }
+
+    /// Feeds a log line. Only an accepted line changes the state, and at most four words of the window.
+    pub fn feed(&mut self, window: &mut [i32], line: &[u8]) -> Fed {
+        let result = calls::feed(self, window, line);
+        *self = result.state;
+        match told(&result) {
+            Told::Accepted => Fed::Accepted,
+            Told::Ignored => Fed::Ignored,
+            Told::Refused(refusal) => Fed::Refused(refusal),
+            other => panic!("feeding answered {other:?}"),
+        }
+    }
+
+    /// Pulls the next verdict. Only a verdict changes the state, and only a false one writes to the report.
+    pub fn pull(&mut self, window: &[i32], report: &mut [u8]) -> Pulled {
+        let result = calls::pull(self, window, report);
+        *self = result.state;
+        match told(&result) {
+            Told::True => Pulled::True,
+            Told::False => Pulled::False,
+            Told::Unknown => Pulled::Unknown,
+            Told::Waiting => Pulled::Waiting,
+            Told::Refused(refusal) => Pulled::Refused(refusal),
+            other => panic!("pulling answered {other:?}"),
+        }
+    }
+}
+
+/// A state with its window.
+#[derive(Clone, Debug)]
+pub struct Checker {
+    state: State,
+    window: Vec<i32>,
+}
+
+impl Checker {
+    /// A fresh checker for frames and W.
+    pub fn open(frames: &[u8], width: u32) -> Result<Checker, Refusal> {
+        // Opening takes W up to 256, so a window for a larger one is not made.
+        let mut window = vec![0; WINDOW_WORDS * width.min(257) as usize];
+        let (state, opened) = State::open(frames, width, &mut window);
+        opened.map(|()| Checker { state, window })
+    }
+
+    /// Feeds a log line: accepted, ignored, or refused (15, 16, 17).
+    pub fn feed(&mut self, line: &[u8]) -> Fed {
+        self.state.feed(&mut self.window, line)
+    }
+
+    /// Pulls the next verdict: one, waiting, or refused (14). A false one fills the report.
+    pub fn pull(&mut self, report: &mut [u8]) -> Pulled {
+        self.state.pull(&self.window, report)
+    }
+
+    /// The state as it is.
+    pub fn state(&self) -> &State {
+        &self.state
+    }
+
+    /// The window as it is.
+    pub fn window(&self) -> &[i32] {
+        &self.window
+    }
+}

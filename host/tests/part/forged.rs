@@ -1,0 +1,261 @@
+//! States and windows that no opening gave: each field changed, random bytes, random words.
+
+use crate::damage::{damage_frames, random_line};
+use crate::lists::{events, frames};
+use crate::pair::Pair;
+use crate::quota::Quota;
+use crate::random::Random;
+use dillplatter_host::second::{Fed, Pulled, State, Totals};
+use std::collections::BTreeMap;
+
+fn word(random: &mut Random) -> u32 {
+    let any = (random.below(1 << 32)) as u32;
+    random.pick(&[
+        0,
+        1,
+        2,
+        63,
+        64,
+        65,
+        255,
+        256,
+        257,
+        999_999,
+        1_000_000,
+        1_000_001,
+        1_009_998,
+        1_009_999,
+        1_010_000,
+        1 << 31,
+        u32::MAX,
+        any,
+    ])
+}
+
+fn near(random: &mut Random, value: u32) -> u32 {
+    let step = random.pick(&[1, 1, 2, 3, 8, 64]);
+    match random.below(3) {
+        0 => value.wrapping_add(step),
+        1 => value.wrapping_sub(step),
+        _ => word(random),
+    }
+}
+
+/// A state that calls on a fresh checker gave.
+fn honest(random: &mut Random) -> (State, Vec<usize>) {
+    let frames = frames(random);
+    let w = random.pick(&[1, 2, 3, 5, 16, 64]);
+    let mut pair = Pair::open(&frames, w, &vec![0; 32 * w as usize]).unwrap();
+    let events = events(&pair);
+    for _ in 0..random.below(30) {
+        if random.once_in(3) {
+            pair.pull(&mut [0; 166]);
+        } else {
+            pair.feed(&random_line(random, &events));
+        }
+    }
+    (pair.model().clone(), events)
+}
+
+/// Moves p, and the totals and counts with it, so that the state may still pass.
+fn move_on(random: &mut Random, state: &mut State, events: &[usize]) {
+    state.p = random.pick(&[
+        1, 7, 1_000, 9_999, 10_000, 111_111, 500_000, 999_999, 1_000_000, 1_009_998, 1_009_999,
+    ]);
+    let failed = random.below(state.p as usize + 1) as u32;
+    let unknown = random.below((state.p - failed) as usize + 1) as u32;
+    state.totals = Totals {
+        held: state.p - failed - unknown,
+        failed,
+        unknown,
+    };
+    for event in events {
+        let far = u64::from(state.p) * random.pick(&[1, 1, 1, 2, 3, 9]);
+        let count =
+            far as i64 + random.pick(&[-10_000, -9_999, -3, -2, -1, 0, 1, 2, 3, 4, 9_999, 10_003]);
+        state.counts[*event] = count.clamp(0, 1_000_000) as u32;
+    }
+}
+
+/// Changes one field.
+fn change(random: &mut Random, state: &mut State) {
+    match random.below(9) {
+        0 => state.frames[random.below(512)] = random.below(256) as u8,
+        1 => {
+            let mut frames = state.frames[..8 * state.len.min(64) as usize].to_vec();
+            damage_frames(random, &mut frames);
+            frames.resize(512, 0);
+            state.frames.copy_from_slice(&frames);
+        }
+        2 => state.len = near(random, state.len),
+        3 => state.w = near(random, state.w),
+        4 => {
+            let event = random.below(8);
+            state.counts[event] = near(random, state.counts[event]);
+        }
+        5 => state.p = near(random, state.p),
+        6 => state.totals.held = near(random, state.totals.held),
+        7 => state.totals.failed = near(random, state.totals.failed),
+        _ => state.totals.unknown = near(random, state.totals.unknown),
+    }
+}
+
+/// A state of random bytes.
+fn noise(random: &mut Random) -> State {
+    let mut state = State::zero();
+    for byte in &mut state.frames {
+        *byte = random.below(256) as u8;
+    }
+    state.len = word(random);
+    state.w = word(random);
+    state.counts = [0; 8].map(|_: u32| word(random));
+    state.p = word(random);
+    state.totals = Totals {
+        held: word(random),
+        failed: word(random),
+        unknown: word(random),
+    };
+    state
+}
+
+/// A window of random words, mostly of the right length.
+fn window(random: &mut Random, w: u32) -> Vec<i32> {
+    let right = 32 * w.min(300) as i32;
+    let length = right + random.pick(&[0, 0, 0, 0, 0, 0, 0, 0, 0, 0, -1, 1, 32, -32]);
+    (0..length.max(0))
+        .map(|_| {
+            let small = random.below(9) as i32 - 4;
+            let any = random.below(1 << 32) as u32 as i32;
+            random.pick(&[small, small, small, any, i32::MIN, i32::MAX])
+        })
+        .collect()
+}
+
+/// Some calls on a state; each answer is counted.
+fn calls(random: &mut Random, state: State, events: &[usize], seen: &mut BTreeMap<String, usize>) {
+    let window = window(random, state.w);
+    let mut pair = Pair::forged(state, window);
+    for _ in 0..4 {
+        let words = if random.once_in(2) {
+            format!("{:?}", pair.feed(&random_line(random, events)))
+        } else {
+            let length = random.pick(&[166, 166, 166, 300, 165]);
+            format!("{:?}", pair.pull(&mut vec![0xA5; length]))
+        };
+        let words = words.split("place").next().unwrap().to_string();
+        *seen.entry(words).or_default() += 1;
+    }
+}
+
+#[test]
+fn forged_states_and_windows() {
+    let quota = Quota::begin("forged states");
+    let mut seen: BTreeMap<String, usize> = BTreeMap::new();
+    for seed in 0..15_000 {
+        let random = &mut Random::new(seed + 70_000_000);
+        let (mut state, events) = honest(random);
+        if random.once_in(2) {
+            move_on(random, &mut state, &events);
+        }
+        match random.below(5) {
+            0 => {}
+            1 => {
+                change(random, &mut state);
+                change(random, &mut state);
+            }
+            2 if random.once_in(4) => state = noise(random),
+            _ => change(random, &mut state),
+        }
+        calls(random, state, &events, &mut seen);
+    }
+    // Accepted, ignored, 12, 13, 15, 16, 17; three verdicts, waiting, 14.
+    assert_eq!(seen.len(), 12, "{seen:?}");
+    for (answer, times) in &seen {
+        assert!(*times > 100, "{answer} came {times} times");
+    }
+    quota.end();
+}
+
+const RULE: &str = "events a b c; notes t; t(a[2*i+1]) > 0 || t(c[i-3]) > 0";
+
+/// An honest state of the rule at some p, with counts of a, b and c.
+fn state(p: u32, counts: [u32; 3]) -> State {
+    let mut state = Pair::of_text(RULE, 4).model().clone();
+    state.counts[..3].copy_from_slice(&counts);
+    state.p = p;
+    state.totals.held = p;
+    state
+}
+
+/// The refusal of both calls before they look at their own arguments; 0 if there is none.
+fn number(state: &State, words: usize) -> u8 {
+    let mut pair = Pair::forged(state.clone(), vec![1; words]);
+    let (fed, pulled) = (pair.feed(b""), pair.pull(&mut []));
+    match (fed, pulled) {
+        (Fed::Refused(one), Pulled::Refused(other)) if one == other => one.number,
+        (Fed::Refused(one), Pulled::Refused(other)) => {
+            assert_eq!((one.number, other.number), (15, 14));
+            0
+        }
+        other => panic!("{other:?}"),
+    }
+}
+
+/// A state at p 7, where the bases are a 15 and c 4.
+fn good() -> State {
+    state(7, [19, 0, 8])
+}
+
+/// The good state is refused once it is changed.
+#[track_caller]
+fn refused(change: impl Fn(&mut State)) {
+    let mut state = good();
+    change(&mut state);
+    assert_eq!(number(&state, 128), 12);
+}
+
+#[test]
+fn counts_p_and_totals() {
+    assert_eq!(number(&good(), 128), 0);
+    refused(|state| state.counts[0] = 20);
+    refused(|state| state.counts[2] = 9);
+    for event in [1, 3, 4, 5, 6, 7] {
+        refused(|state| state.counts[event] = 1);
+    }
+    for count in [1_000_001, 1 << 31, u32::MAX] {
+        refused(|state| state.counts[0] = count);
+    }
+    for value in [0, 6, 8, 1 << 31, u32::MAX] {
+        refused(|state| state.p = value);
+        refused(|state| state.totals.held = value);
+        refused(|state| state.totals.failed = value.max(1));
+        refused(|state| state.totals.unknown = value.max(1));
+    }
+    // The sum comes round to 7.
+    refused(|state| (state.totals.held, state.totals.failed) = (u32::MAX, 8));
+}
+
+#[test]
+fn frames_width_and_window() {
+    for len in [0, 1, 6, 8, 64, 65, 1 << 29, (1 << 29) + 7, u32::MAX] {
+        refused(|state| state.len = len);
+    }
+    for w in [0, 257, 1 << 27, (1 << 27) + 4, u32::MAX] {
+        refused(|state| state.w = w);
+    }
+    // A kind, an event, a note, a factor, or the sign of a word.
+    for byte in (0..56).filter(|byte| byte % 8 <= 4) {
+        refused(|state| state.frames[byte] ^= 0x80);
+    }
+    // Bytes after the last frame are not looked at.
+    for byte in 56..512 {
+        let mut state = good();
+        state.frames[byte] = 0xFF;
+        assert_eq!(number(&state, 128), 0, "byte {byte}");
+    }
+    for words in (0..=300).filter(|words| *words != 128) {
+        assert_eq!(number(&good(), words), 13, "{words} words");
+    }
+    assert_eq!(number(&State::zero(), 0), 12);
+    assert_eq!(number(&State::zero(), 128), 12);
+}

@@ -1,0 +1,129 @@
+//! Random lists of calls on one checker, refused ones in between.
+
+use crate::damage::random_line;
+use crate::pair::Pair;
+use crate::quota::Quota;
+use crate::random::{rule, Random};
+use dillplatter_host::second::{open, Fed, Pulled, Truth};
+use std::collections::BTreeMap;
+
+/// Frames of a random rule that opens.
+pub fn frames(random: &mut Random) -> Vec<u8> {
+    loop {
+        let size = random.pick(&[1, 1, 4, 10, 30]);
+        let frames = rule(random, size).frames.concat();
+        if open(&frames, 1, 32).is_ok() {
+            return frames;
+        }
+    }
+}
+
+/// The events that a checker's rule references.
+pub fn events(pair: &Pair) -> Vec<usize> {
+    let references = &pair.machine().rule().references;
+    references.iter().map(|reference| reference.event).collect()
+}
+
+/// A window of another length, with whatever in it.
+fn wrong_window(random: &mut Random, w: u32) -> Vec<i32> {
+    let right = 32 * w as usize;
+    let length = random.pick(&[0, 1, right - 1, right + 1, right + 32, 2 * right]);
+    vec![random.below(1_000) as i32; length]
+}
+
+/// One random call; its answer in words.
+fn call(random: &mut Random, pair: &mut Pair, events: &[usize]) -> String {
+    if random.once_in(40) {
+        // The state goes on from where it was.
+        let window = wrong_window(random, pair.model().w);
+        let mut other = pair.with_window(window);
+        return if random.once_in(2) {
+            format!("{:?}", other.feed(&random_line(random, events)))
+        } else {
+            format!("{:?}", other.pull(&mut [random.below(256) as u8; 166]))
+        };
+    }
+    if random.once_in(2) {
+        return format!("{:?}", pair.feed(&random_line(random, events)));
+    }
+    let length = random.pick(&[166, 166, 166, 166, 200, 167, 165, 0]);
+    let mut report: Vec<u8> = (0..length).map(|_| random.below(256) as u8).collect();
+    format!("{:?}", pair.pull(&mut report))
+}
+
+#[test]
+fn random_lists_of_calls() {
+    let quota = Quota::begin("random lists of calls");
+    let mut seen: BTreeMap<String, usize> = BTreeMap::new();
+    for seed in 0..1_000 {
+        let random = &mut Random::new(seed + 50_000_000);
+        let frames = frames(random);
+        let w = random.pick(&[1, 1, 2, 3, 5, 16, 64, 256]);
+        let mut pair = Pair::open(&frames, w, &vec![-1; 32 * w as usize]).unwrap();
+        let events = events(&pair);
+        for _ in 0..220 {
+            let words = call(random, &mut pair, &events);
+            let words = words.split("place").next().unwrap().to_string();
+            *seen.entry(words).or_default() += 1;
+        }
+        stays_settled(&pair);
+    }
+    // Accepted, ignored, 13, 15, 17; three verdicts, waiting, 13, 14.
+    assert_eq!(seen.len(), 10, "{seen:?}");
+    for (answer, times) in &seen {
+        assert!(*times > 500, "{answer} came {times} times");
+    }
+    quota.end();
+}
+
+/// The totals are the sums over the verdicts by the lists after the last call.
+fn stays_settled(pair: &Pair) {
+    let model = pair.model();
+    let verdicts: Vec<Truth> = (0..model.p)
+        .map(|i| pair.machine().verdict_of(i).expect("it stays settled"))
+        .collect();
+    let count = |value| verdicts.iter().filter(|verdict| **verdict == value).count() as u32;
+    let totals = [model.totals.held, model.totals.failed, model.totals.unknown];
+    assert_eq!(
+        totals,
+        [Truth::True, Truth::False, Truth::Unknown].map(count)
+    );
+}
+
+#[test]
+fn lines_below_base_are_counted() {
+    // The factor is 2: instance 3 asks for lines 6 and 7, and nothing before.
+    let mut pair = Pair::of_text(
+        "events a b; notes t; t(b[i]) > 0 || t(a[2*i]) > t(a[2*i+1])",
+        2,
+    );
+    for _ in 0..2 {
+        for _ in 0..2 {
+            assert_eq!(
+                pair.feed(b"0100000001000000000000000000000000"),
+                Fed::Accepted
+            );
+        }
+        for _ in 0..2 {
+            assert_eq!(pair.pull(&mut [0; 166]), Pulled::Verdict(Truth::True));
+        }
+    }
+    // Lines 0 to 7 of a come below base 8, then two more fit.
+    for k in 0..10 {
+        let line = format!("00{k:08X}000000000000000000000000");
+        assert_eq!(pair.feed(line.as_bytes()), Fed::Accepted, "line {k}");
+    }
+    let full = pair.feed(b"0000000009000000000000000000000000");
+    assert!(matches!(full, Fed::Refused(refusal) if refusal.number == 17));
+    assert_eq!(pair.pull(&mut [0; 166]), Pulled::Waiting);
+    assert_eq!(
+        pair.feed(b"0180000000000000000000000000000000"),
+        Fed::Accepted
+    );
+    let mut report = [0xEE; 166];
+    assert_eq!(pair.pull(&mut report), Pulled::Verdict(Truth::False));
+    let expected = [
+        0, 0, 0, 4, 0, 3, 0, 0x80, 0, 0, 0, 0, 0, 0, 0, 8, 0, 0, 0, 0, 9,
+    ];
+    assert_eq!(report[..21], expected);
+}

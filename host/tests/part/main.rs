@@ -1,0 +1,23 @@
+//! Tests of the proved part: each call beside the same call of the second checker.
+
+#[path = "../second/common.rs"]
+#[allow(dead_code)]
+mod common;
+#[path = "../second/random.rs"]
+#[allow(dead_code)]
+mod random;
+
+mod damage;
+mod examples;
+mod forged;
+mod limits;
+mod lines;
+mod lists;
+mod opening;
+mod pair;
+mod program;
+mod quota;
+mod refusals;
+mod texts;
+mod vectors;
+mod widths;

@@ -1,0 +1,386 @@
+//! The bench program beside what the second checker prints.
+
+use crate::common::{line, vector};
+use crate::damage::random_line;
+use crate::random::{rule, text, Random};
+use dillplatter_host::second::{bench, read};
+use std::fs::File;
+use std::io::{Seek, Write};
+use std::os::fd::OwnedFd;
+use std::os::unix::net::UnixDatagram;
+use std::path::{Path, PathBuf};
+use std::process::{Command, Stdio};
+
+/// Bytes of the program's buffer.
+const BUFFER: usize = 65_536;
+
+const RULE: &[u8] = b"events in out; notes t; t(out[i]) - t(in[i]) <= 25";
+
+/// The program, which `rt check bench` builds.
+fn program() -> PathBuf {
+    let top = Path::new(env!("CARGO_MANIFEST_DIR")).join("..");
+    let program = top.join("target").join("bin").join("bench");
+    assert!(
+        program.is_file(),
+        "target/bin/bench is missing: run `rt check bench` at the top first"
+    );
+    program
+}
+
+/// A folder of a test's own, with a rule.
+struct Room(PathBuf);
+
+impl Room {
+    fn new(name: &str) -> Room {
+        let room = Path::new(env!("CARGO_TARGET_TMPDIR"))
+            .join("part")
+            .join(name);
+        let _ = std::fs::remove_dir_all(&room);
+        std::fs::create_dir_all(&room).unwrap();
+        Room(room)
+    }
+
+    fn put(&self, name: &str, bytes: &[u8]) {
+        std::fs::write(self.0.join(name), bytes).unwrap();
+    }
+
+    fn command(&self) -> Command {
+        let mut command = Command::new(program());
+        command.current_dir(&self.0).stdout(Stdio::piped());
+        command
+    }
+
+    /// What the program prints, with some input.
+    fn output(&self, input: Stdio) -> String {
+        let child = self.command().stdin(input).spawn().unwrap();
+        text_of(child.wait_with_output().unwrap().stdout)
+    }
+
+    /// What it prints for a rule and a log in a file.
+    fn run(&self, rule: &[u8], log: &[u8]) -> String {
+        self.put("rule.loc", rule);
+        self.put("log", log);
+        self.output(File::open(self.0.join("log")).unwrap().into())
+    }
+
+    /// The same with the log in pieces through a pipe.
+    fn run_pipe(&self, rule: &[u8], pieces: &[&[u8]]) -> String {
+        self.put("rule.loc", rule);
+        let mut child = self.command().stdin(Stdio::piped()).spawn().unwrap();
+        let mut input = child.stdin.take().unwrap();
+        std::thread::scope(|scope| {
+            scope.spawn(move || pieces.iter().all(|piece| input.write_all(piece).is_ok()));
+            text_of(child.wait_with_output().unwrap().stdout)
+        })
+    }
+
+    /// The same with one piece to a read: a read takes one datagram, and an empty one is the end.
+    fn run_packets(&self, rule: &[u8], pieces: &[&[u8]]) -> String {
+        self.put("rule.loc", rule);
+        let (ours, theirs) = UnixDatagram::pair().unwrap();
+        let child = self.command().stdin(OwnedFd::from(theirs)).spawn().unwrap();
+        std::thread::scope(|scope| {
+            scope.spawn(move || {
+                let all = pieces.iter().all(|piece| ours.send(piece).is_ok());
+                all && ours.send(b"").is_ok()
+            });
+            text_of(child.wait_with_output().unwrap().stdout)
+        })
+    }
+}
+
+fn text_of(bytes: Vec<u8>) -> String {
+    String::from_utf8(bytes).unwrap()
+}
+
+/// Both print the same; a message says where they do not.
+#[track_caller]
+fn same(printed: &str, expected: &str, case: &str) {
+    if printed != expected {
+        let at = printed
+            .lines()
+            .zip(expected.lines())
+            .position(|(a, b)| a != b);
+        panic!("{case}: other from line {at:?} on");
+    }
+}
+
+/// The text of a random rule that is read.
+fn random_rule(random: &mut Random) -> String {
+    loop {
+        let size = random.pick(&[1, 4, 10, 30, 60]);
+        let tokens = rule(random, size).tokens;
+        let text = text(random, &tokens).0;
+        if read(text.as_bytes(), 512).is_ok() {
+            return text;
+        }
+    }
+}
+
+/// A random log of some lines, the last with or without its LF.
+fn random_log(random: &mut Random, lines: usize) -> Vec<u8> {
+    let mut log = Vec::new();
+    for _ in 0..lines {
+        log.extend(random_line(random, &[0, 0, 1, 1, 2, 3, 4, 5, 6, 7]));
+        log.push(b'\n');
+        if random.once_in(60) {
+            log.push(b'\n');
+        }
+    }
+    if random.once_in(2) {
+        log.pop();
+    }
+    log
+}
+
+/// A log cut into pieces of 1 to 100 bytes.
+fn pieces<'l>(random: &mut Random, mut log: &'l [u8]) -> Vec<&'l [u8]> {
+    let mut pieces = Vec::new();
+    let most = random.pick(&[1, 2, 35, 36, 100]);
+    while !log.is_empty() {
+        let (piece, rest) = log.split_at((1 + random.below(most)).min(log.len()));
+        pieces.push(piece);
+        log = rest;
+    }
+    pieces
+}
+
+/// Lines of two events in turn; every fifth pair is more than 25 apart.
+fn even_log(lines: usize) -> Vec<u8> {
+    let mut log = Vec::new();
+    for k in 0..lines as i32 {
+        let apart = if k % 10 == 9 { 26 } else { 25 };
+        log.extend(line((k % 2) as u8, [k / 2 * 10 + k % 2 * apart, 0, 0, 0]));
+        log.push(b'\n');
+    }
+    log
+}
+
+#[test]
+fn stored_cases() {
+    let room = Room::new("stored");
+    for case in 0..40 {
+        let file = |name: &str| std::fs::read(vector(&format!("bench/{case:02}/{name}"))).unwrap();
+        let printed = room.run(&file("rule.loc"), &file("log"));
+        same(
+            &printed,
+            &text_of(file("stdout")),
+            &format!("bench/{case:02}"),
+        );
+    }
+}
+
+#[test]
+fn random_logs() {
+    let room = Room::new("random");
+    let mut printed_lines = 0;
+    for seed in 0..200 {
+        let random = &mut Random::new(seed + 80_000_000);
+        let rule = random_rule(random);
+        let lines = random.pick(&[0, 1, 2, 20, 200, 2_000]);
+        let log = random_log(random, lines);
+        let printed = room.run(rule.as_bytes(), &log);
+        same(
+            &printed,
+            &bench(rule.as_bytes(), &log),
+            &format!("seed {seed}"),
+        );
+        printed_lines += printed.lines().count();
+    }
+    assert!(printed_lines > 1_000, "{printed_lines}");
+}
+
+#[test]
+fn logs_in_pieces() {
+    let room = Room::new("pieces");
+    for seed in 0..80 {
+        let random = &mut Random::new(seed + 90_000_000);
+        let rule = random_rule(random);
+        let log = random_log(random, 150);
+        let pieces = pieces(random, &log);
+        let expected = bench(rule.as_bytes(), &log);
+        let printed = room.run_pipe(rule.as_bytes(), &pieces);
+        same(&printed, &expected, &format!("seed {seed}, pipe"));
+        let printed = room.run_packets(rule.as_bytes(), &pieces);
+        same(&printed, &expected, &format!("seed {seed}, packets"));
+    }
+}
+
+#[test]
+fn a_cut_at_every_place() {
+    let room = Room::new("places");
+    // One read takes the log up to the cut, the next one the rest.
+    let log = even_log(4);
+    let expected = bench(RULE, &log);
+    for first in 1..log.len() {
+        let (one, two) = log.split_at(first);
+        same(
+            &room.run_packets(RULE, &[one, two]),
+            &expected,
+            &format!("cut at {first}"),
+        );
+        for second in [1, 17, 34, 35, 36, 70] {
+            let (middle, last) = two.split_at(second.min(two.len() - 1));
+            if middle.is_empty() {
+                continue;
+            }
+            let printed = room.run_packets(RULE, &[one, middle, last]);
+            same(
+                &printed,
+                &expected,
+                &format!("cut at {first} and {second} more"),
+            );
+        }
+    }
+}
+
+#[test]
+fn lines_across_the_end_of_the_buffer() {
+    let room = Room::new("borders");
+    // A refused line of each length moves the border through a line.
+    for length in 0..=36 {
+        let mut log = vec![b'0'; length];
+        log.push(b'\n');
+        log.extend(even_log(2 * BUFFER / 35 + 10));
+        same(
+            &room.run(RULE, &log),
+            &bench(RULE, &log),
+            &format!("moved by {length}"),
+        );
+    }
+    // The log ends near the border.
+    let log = even_log(2 * BUFFER / 35 + 10);
+    for length in (BUFFER - 37..=BUFFER + 37).chain(2 * BUFFER - 2..=2 * BUFFER + 2) {
+        let printed = room.run(RULE, &log[..length]);
+        same(
+            &printed,
+            &bench(RULE, &log[..length]),
+            &format!("{length} bytes"),
+        );
+    }
+}
+
+#[test]
+fn long_lines() {
+    let room = Room::new("long");
+    let near = |k: usize| {
+        [
+            k * BUFFER - 36,
+            k * BUFFER - 35,
+            k * BUFFER - 34,
+            k * BUFFER - 1,
+            k * BUFFER,
+            k * BUFFER + 1,
+        ]
+    };
+    let lengths = [
+        near(1).as_slice(),
+        &near(2),
+        &near(3),
+        &[35, 36, 69, 70, 200_000],
+    ]
+    .concat();
+    for length in lengths {
+        for byte in [b'0', b'x'] {
+            let long = [vec![byte; length], vec![b'\n']].concat();
+            let log = [even_log(3), long.clone(), even_log(7), long].concat();
+            same(
+                &room.run(RULE, &log),
+                &bench(RULE, &log),
+                &format!("{length} bytes"),
+            );
+            let end = &log[..log.len() - 1];
+            same(
+                &room.run(RULE, end),
+                &bench(RULE, end),
+                &format!("{length} bytes, no LF"),
+            );
+        }
+    }
+}
+
+#[test]
+fn long_outputs() {
+    let room = Room::new("outputs");
+    // Each pair of lines makes a report with so many references.
+    for references in [1, 2, 3, 5, 13, 31] {
+        let sum = vec!["t(out[i])"; references].join("+");
+        let rule = format!("events in out; notes t; {sum} < 0");
+        let log = even_log(3_000);
+        let printed = room.run(rule.as_bytes(), &log);
+        same(
+            &printed,
+            &bench(rule.as_bytes(), &log),
+            &format!("{references} references"),
+        );
+        assert_eq!(printed.lines().count(), 1_501);
+    }
+    // More verdicts at once than a window has lines.
+    let rule = b"events a; notes t; t(a[i-9999]) > 0";
+    let log = even_log(5);
+    same(
+        &room.run(rule, &log),
+        &bench(rule, &log),
+        "9,999 void instances",
+    );
+}
+
+#[test]
+fn refused_rules() {
+    let room = Room::new("refused");
+    let padded = |length: usize| [RULE, &vec![b' '; length - RULE.len()]].concat();
+    let texts: [&[u8]; 12] = [
+        b"",
+        b" ",
+        b"events",
+        b"events a; notes t; t(b[i]) > 0",
+        b"events a; notes t; t(a[10*i]) > 0",
+        b"events a; notes t; !!!!!!!!!!!!!!!!!t(a[i]) > 0",
+        b"events a; notes t; 1 = 1",
+        b"events a; notes t; t(a[i]) * t(a[i]) + 1 > 0",
+        &[b'\n'; 1_024],
+        &padded(1_024),
+        &padded(1_025),
+        &padded(5_000),
+    ];
+    let log = even_log(4);
+    for text in texts {
+        let printed = room.run(text, &log);
+        same(
+            &printed,
+            &bench(text, &log),
+            &text.escape_ascii().to_string(),
+        );
+        assert_eq!(printed.starts_with("EE"), read(text, 512).is_err());
+        // No log is read for a refused rule: the file's position, which both share, stays.
+        let mut file = File::open(room.0.join("log")).unwrap();
+        room.output(file.try_clone().unwrap().into());
+        let read_on = file.stream_position().unwrap() > 0;
+        assert_eq!(read_on, !printed.starts_with("EE"));
+    }
+}
+
+#[test]
+fn rule_files_that_cannot_be_read() {
+    let room = Room::new("no-rule");
+    assert_eq!(room.output(Stdio::null()), "EE020000\n");
+    std::fs::create_dir(room.0.join("rule.loc")).unwrap();
+    assert_eq!(room.output(Stdio::null()), "EE020000\n");
+}
+
+#[test]
+fn input_that_is_closed() {
+    let room = Room::new("closed");
+    room.put("rule.loc", RULE);
+    let expected = bench(RULE, b"");
+    assert_eq!(room.output(Stdio::null()), expected);
+    let closed = Command::new("sh")
+        .args(["-c", "exec \"$0\" <&-"])
+        .arg(program())
+        .current_dir(&room.0)
+        .output()
+        .unwrap();
+    assert_eq!(text_of(closed.stdout), expected);
+    // A folder as input is a read error, which ends the log.
+    assert_eq!(room.output(File::open(&room.0).unwrap().into()), expected);
+}

@@ -1,0 +1,70 @@
+//! How many calls of the part the tests make: each says its number at its end, and all together make enough.
+
+use std::cell::Cell;
+
+/// The fewest calls of the part in all.
+const LEAST: usize = 200_000;
+
+/// The fewest calls of each test that makes many.
+const OF_TESTS: [(&str, usize); 12] = [
+    ("vectors", 6_000),
+    ("random texts", 9_000),
+    ("damaged texts", 20_000),
+    ("bytes of a text", 12_000),
+    ("bytes of frames", 60_000),
+    ("short lists of frames", 37_000),
+    ("damaged frames", 20_000),
+    ("bytes of a line", 8_700),
+    ("random lists of calls", 200_000),
+    ("several widths", 40_000),
+    ("forged states", 60_000),
+    ("a million lines", 2_000_000),
+];
+
+const _: () = {
+    let (mut k, mut sum) = (0, 0);
+    while k < OF_TESTS.len() {
+        sum += OF_TESTS[k].1;
+        k += 1;
+    }
+    assert!(sum >= LEAST);
+};
+
+thread_local! {
+    static CALLS: Cell<usize> = const { Cell::new(0) };
+}
+
+/// Counts one call of the part.
+pub fn count() {
+    CALLS.set(CALLS.get() + 1);
+}
+
+/// The calls since some moment, in this thread.
+pub struct Quota {
+    name: &'static str,
+    before: usize,
+}
+
+impl Quota {
+    /// Begins to count for a test.
+    pub fn begin(name: &'static str) -> Quota {
+        Quota {
+            name,
+            before: CALLS.get(),
+        }
+    }
+
+    /// Whether the test made its calls.
+    pub fn end(self) {
+        let calls = CALLS.get() - self.before;
+        let (_, least) = OF_TESTS
+            .into_iter()
+            .find(|(name, _)| *name == self.name)
+            .expect("the test has a number of calls");
+        assert!(
+            calls >= least,
+            "{}: {calls} calls, {least} expected",
+            self.name
+        );
+    }
+}
