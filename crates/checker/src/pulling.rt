@@ -126,13 +126,12 @@ fn offer(
 {
     let sights = found::look(frames, p, width, counts, window);
     let marks = sights.marks;
-    let notes = sights.notes;
-    let judged = verdict::judge(frames, p, &marks, &notes);
+    let judged = verdict::judge(frames, p, &marks, &sights.notes);
     match judged {
         Judgement::Unsettled => Judgement::Unsettled,
         Judgement::True => Judgement::True,
         Judgement::False => {
-            report::fill(report, frames, p, &marks, &notes);
+            report::fill(report, frames, p, &marks, &sights.notes);
             Judgement::False
         }
         Judgement::Unknown => Judgement::Unknown,
