@@ -54,6 +54,7 @@ fn stay(s: Rest, answer: PullAnswer) -> Turn
     }
 }
 
+// A refusal, of which none has a place.
 fn refuse(s: Rest, number: u8) -> Turn
     ensures { λ r. ⌜ r ≡ record { answer = PullAnswer.Refused (record { number = number; place = 0 }); next = s .next; totals = s .totals } ⌝ }
 {
