@@ -7,6 +7,7 @@ use Rattle.checker.specs.declared.Totals.{Totals}
 use Rattle.checker.specs.declared.apart.Rest.{Rest}
 use Rattle.checker.specs.declared.State.{State}
 
+-- the state of frames and a rest
 abbrev pub stateOf : List ℕ → Rest → State
 stateOf frames r =
     record {

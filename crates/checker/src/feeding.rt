@@ -34,6 +34,7 @@ pub struct Way {
     pub counts: [u32; 8],
 }
 
+// A refusal moves no count.
 fn refuse(counts: [u32; 8], number: u8, place: u32) -> Way
     ensures { λ r. ⌜ r ≡ record { answer = FeedAnswer.Refused (record { number = number; place = place }); counts = counts } ⌝ }
 {
@@ -43,6 +44,7 @@ fn refuse(counts: [u32; 8], number: u8, place: u32) -> Way
     }
 }
 
+// Nor does a line of an event that is not referenced.
 fn ignore(counts: [u32; 8]) -> Way
     ensures { λ r. ⌜ r ≡ record { answer = FeedAnswer.Ignored; counts = counts } ⌝ }
 {

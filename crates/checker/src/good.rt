@@ -96,6 +96,7 @@ fn totals_fit(totals: Totals, p: Instance) -> bool
     totals.held as u64 + totals.failed as u64 + totals.unknown as u64 == p.0 as u64
 }
 
+// What is said of a state that 12 turns down.
 fn unfit() -> Tested
     ensures { λ r. ⌜ r .fits ≡ false ⌝ }
 {

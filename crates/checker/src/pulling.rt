@@ -54,6 +54,7 @@ fn stay(s: Rest, answer: PullAnswer) -> Turn
     }
 }
 
+// A refusal, of which none has a place.
 fn refuse(s: Rest, number: u8) -> Turn
     ensures { λ r. ⌜ r ≡ record { answer = PullAnswer.Refused (record { number = number; place = 0 }); next = s .next; totals = s .totals } ⌝ }
 {
@@ -126,13 +127,12 @@ fn offer(
 {
     let sights = found::look(frames, p, width, counts, window);
     let marks = sights.marks;
-    let notes = sights.notes;
-    let judged = verdict::judge(frames, p, &marks, &notes);
+    let judged = verdict::judge(frames, p, &marks, &sights.notes);
     match judged {
         Judgement::Unsettled => Judgement::Unsettled,
         Judgement::True => Judgement::True,
         Judgement::False => {
-            report::fill(report, frames, p, &marks, &notes);
+            report::fill(report, frames, p, &marks, &sights.notes);
             Judgement::False
         }
         Judgement::Unknown => Judgement::Unknown,
