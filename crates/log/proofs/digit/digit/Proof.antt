@@ -1,30 +1,50 @@
--- `log::digit::digit` meets its contract: the table's rule is a test at each of its 256 entries, which antt computes.
--- Assumes nothing.
-use mathlib.Core.List.{List, [], _∷_, _++_}
-use mathlib.Core.Bool.{Bool}
-use Prim.Native.Nat.{ℕ}
-use lib.Dec.{eqb, eqb→eq}
-use lib.ListN.{getD, replicate}
+-- `log::digit::digit` meets its contract. Assumes nothing.
+use mathlib.Core.Path.{_≡_}
+use Prim.Native.Nat.{ℕ, _-_, _≤_, _<_}
+use native.Mathlib.Omega.{arith}
 use borrow.Author.Needs.{needs}
-use Rattle.numbers.proofs.Table.{at}
+use borrow.Author.Tests.{le-leb, lt-leb}
 use Rattle.log.specs.Digit.{digitValue}
 use Rattle.log.proofs.digit.digit.Statement.{statement}
 use Rattle.log.proofs.digit.digit.Tie as tie
 
-digits : List ℕ
-digits =
-    replicate 48 16 ++ (0 ∷ 1 ∷ 2 ∷ 3 ∷ 4 ∷ 5 ∷ 6 ∷ 7 ∷ 8 ∷ 9 ∷ []) ++ replicate 7 16
-    ++ (10 ∷ 11 ∷ 12 ∷ 13 ∷ 14 ∷ 15 ∷ []) ++ replicate 185 16
+below : (b : ℕ) → b < 0x30 → 16 ≡ digitValue b
+unfolding digitValue
+below b h = rw (lt-leb 0x30 b h, lt-leb 0x41 b (omega arith))
 
-right : ℕ → ℕ → Bool
-right k x = eqb x (digitValue k)
+decimal : (b : ℕ) → 0x30 ≤ b → b ≤ 0x39 → b - 0x30 ≡ digitValue b
+unfolding digitValue
+decimal b h k = rw (le-leb 0x30 b h, le-leb b 0x39 k)
 
-array-read-result : tie.Need-array-read-result
-array-read-result c = search needs
+between : (b : ℕ) → 0x39 < b → b < 0x41 → 16 ≡ digitValue b
+unfolding digitValue
+between b h k = rw (le-leb 0x30 b (omega arith), lt-leb b 0x39 h, lt-leb 0x41 b k)
+
+letter : (b : ℕ) → 0x41 ≤ b → b ≤ 0x46 → b - 0x37 ≡ digitValue b
+unfolding digitValue
+letter b h k = rw (le-leb 0x30 b (omega arith), lt-leb b 0x39 (omega arith), le-leb 0x41 b h, le-leb b 0x46 k) (omega arith)
+
+above : (b : ℕ) → 0x46 < b → 16 ≡ digitValue b
+unfolding digitValue
+above b h = rw (le-leb 0x30 b (omega arith), lt-leb b 0x39 (omega arith), le-leb 0x41 b (omega arith), lt-leb b 0x46 h)
+
+sub-result : tie.Need-sub-result
+sub-result c = search needs
 
 returns : tie.Need-returns
-unfolding digits right digitValue
-returns c = eqb→eq (getD digits (c .args .b) 0) (digitValue (c .args .b)) (at right digits tt (c .args .b) (search needs))
+returns c = decimal _ (search needs) (search needs)
+
+returns-2 : tie.Need-returns-2
+returns-2 c = letter _ (search needs) (search needs)
+
+returns-3 : tie.Need-returns-3
+returns-3 c = below _ (search needs)
+
+returns-4 : tie.Need-returns-4
+returns-4 c = between _ (search needs) (search needs)
+
+returns-5 : tie.Need-returns-5
+returns-5 c = above _ (search needs)
 
 pub digit-spec : {M : Type 1} → statement M
-digit-spec = tie.close (tie.spec array-read-result returns)
+digit-spec = tie.close (tie.spec sub-result returns returns-2 returns-3 returns-4 returns-5)
