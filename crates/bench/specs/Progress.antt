@@ -6,7 +6,6 @@ use Prim.Native.Nat.{ℕ, zero, suc, _+_, _%_, _^_}
 use lib.Dec.{eqb}
 use lib.IntN.{ℤ}
 use lib.ListN.{take, replicate}
-use Rattle.verdict.specs.declared.Truth.{Truth}
 use Rattle.verdict.specs.declared.Truth.the-variants.{True, False, Unknown}
 use Rattle.checker.specs.Limits.{reportLeast}
 use Rattle.checker.specs.Answer.{Answer, opened, accepted, ignored, waiting, verdict, refused}
@@ -30,6 +29,7 @@ pub record Progress : Type 0 where
 abbrev pub blank : List ℕ
 blank = replicate reportLeast 0
 
+-- what a pull gives
 abbrev pub pullOf : Progress → PullResult
 pullOf x = pullDef (x .state) (x .words) blank
 
@@ -86,9 +86,11 @@ countedBy opened c = c
 countedBy waiting c = c
 countedBy (verdict v) c = c
 
+-- what feeding a line gives
 abbrev pub feedOf : Progress → List ℕ → FeedResult
 feedOf x line = feedDef (x .state) (x .words) line
 
+-- a line is fed, and its answer counted
 unfoldable pub fedLine : Progress → List ℕ → Progress
 fedLine x line =
     record {
@@ -121,6 +123,7 @@ afterBytes o (b ∷ s) =
     (cond (eqb b 10) (record { progress = afterLine (o .progress) (o .held); held = [] }) (record { progress = o .progress; held = kept (o .held) (b ∷ []) }))
     s
 
+-- what is held, if anything is
 abbrev pub lastLine : Progress → List ℕ → Progress
 lastLine x [] = x
 lastLine x (b ∷ bs) = afterLine x (b ∷ bs)

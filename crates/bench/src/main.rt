@@ -167,6 +167,7 @@ fn run_log(state: State, carry: &mut [u8], window: &mut [i32], out: &mut [u8])
     finish(q, out);
 }
 
+// The same, with buffers of its own.
 fn run_with(state: State, window: &mut [i32]) {
     let mut carry = [0u8; 35];
     let mut out = [0u8; 65536];
@@ -229,6 +230,7 @@ fn read_rule(text: &mut [u8]) -> usize
     n
 }
 
+// The rule from its file, and the whole run.
 fn run_rule(text: &mut [u8]) {
     let n = read_rule(text);
     run_text(&text[..n]);
