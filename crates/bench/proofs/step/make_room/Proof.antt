@@ -1,5 +1,7 @@
 -- `bench::step::make_room` leaves all that waits, or nothing. Assumes nothing.
 use mathlib.Core.Path.{sym}
+use native.Mathlib.Omega.{arith}
+use lib.ListN.{take}
 use lib.Seq.{length-take-le}
 use borrow.Author.Needs.{needs}
 use Rattle.bench.proofs.RunLaws.{ends-none, ends-all}
@@ -16,7 +18,7 @@ write-all-requires : tie.Need-write-all-requires
 write-all-requires c κs = search needs
 
 returns-2 : tie.Need-returns-2
-returns-2 c = (search needs, ends-all _ (c .before .before .before .before .args .out .now))
+returns-2 c = (search needs, ends-all (take (c .before .before .before .before .args .full) (c .before .before .before .before .args .out .now)) (c .before .before .before .before .args .out .now) (omega (arith, length-take-le (c .before .before .before .before .args .full) (c .before .before .before .before .args .out .now) (search needs))))
 
 pub make-room-spec : {M : Type 1} → statement M
 make-room-spec =
