@@ -5,12 +5,11 @@ use mathlib.Core.List.{List, [], _∷_, _++_, append-assoc, append-nil}
 use Prim.Native.Nat.{ℕ, zero, suc, _+_, _-_, _≤_, _<_, min}
 use native.Mathlib.Omega.{arith}
 use native.Mathlib.Decide.{decLt}
-use native.Mathlib.Numerals.{add-one}
 use borrow.Author.Tests.{lt-ltb, ltb-true, ltb-false}
 use lib.Dec.{eqb, ltb}
 use lib.IntN.{ℤ}
 use lib.ListN.{length, take, drop, length-append, length-take, length-drop, drop-of-length-le}
-use lib.Seq.{take-all, take-take, take-append-le, take-append-add, length-take-le, drop-drop}
+use lib.Seq.{take-all, take-take, take-append-le, length-take-le, drop-drop}
 use Rattle.log.specs.Digit.{isDigit}
 use Rattle.log.specs.Line.{digitsAtFront, badPlace, lineOf, refused}
 use Rattle.log.specs.Walk.{toLF, endOf, lineAt}
@@ -21,9 +20,9 @@ use Rattle.checker.specs.Feed.{feedDef}
 use Rattle.checker.specs.declared.State.{State}
 use Rattle.bench.specs.Kept.{keptLimit, kept}
 use Rattle.bench.specs.Print.{outBytes}
-use Rattle.bench.specs.Progress.{Progress, Open, fedLine, afterLine, afterBytes, lastLine, before, After, openOf, AfterOpen}
+use Rattle.bench.specs.Progress.{Progress, Open, fedLine, afterLine, afterBytes, lastLine, before, roomy, After, openOf, AfterOpen}
 use Rattle.bench.specs.declared.Run.{Run}
-use Rattle.bench.proofs.RunLaws.{after-refl, after-trans, line-before}
+use Rattle.bench.proofs.RunLaws.{after-refl, after-trans, line-grows, line-before}
 
 -- ---- 35 bytes decide a line
 digits-take : (n : ℕ) (l : List ℕ) → digitsAtFront (take n l) ≡ min n (digitsAtFront l)
@@ -127,6 +126,17 @@ bytes-before w o (b ∷ s) = go (eqb b 10) (λ p. bytes-before w p s)
         ∙ i (holding (afterLine (o .progress) (o .held)) [])
     go false i = i (holding (o .progress) (kept (o .held) (b ∷ [])))
 
+bytes-grow : (o : Open) (s : List ℕ) → length (o .progress .said) ≤ length (afterBytes o s .progress .said)
+unfolding afterBytes
+bytes-grow o [] = omega arith
+bytes-grow o (b ∷ s) = go (eqb b 10) (λ p. bytes-grow p s)
+  where
+    go : (t : Bool) → ((p : Open) → length (p .progress .said) ≤ length (afterBytes p s .progress .said))
+        → length (o .progress .said)
+        ≤ length (afterBytes (cond t (holding (afterLine (o .progress) (o .held)) []) (holding (o .progress) (kept (o .held) (b ∷ [])))) s .progress .said)
+    go true i = let g = line-grows (o .progress) (o .held) in let j = i (holding (afterLine (o .progress) (o .held)) []) in omega arith
+    go false i = i (holding (o .progress) (kept (o .held) (b ∷ [])))
+
 pub open-refl : (o : Open) → AfterOpen o o
 open-refl o = record { progress = after-refl (o .progress); held = refl }
 
@@ -170,8 +180,13 @@ chunk-line s at b e n f l m want x h y w a = go (ltb (endOf s at) (length s)) re
         ∙ ap (afterBytes (holding (before (a .written) y) [])) (drop-drop (suc (toLF r)) at s ∙ ap (λ (j : ℕ). drop j s) v)
         ∙ bytes-before (a .written) (holding y []) (drop n s) in
         let j = rw i at w in
+        let z : List ℕ = afterBytes (holding y []) (drop n s) .progress .said in
+        let o : length (afterLine x (h ++ take (e - b) (drop b s)) .said) ≡ length (a .written) + length (y .said) =
+        ap (λ (q : Progress). length (q .said)) (a .same) ∙ length-append (a .written) (y .said) in
+        let small : length (a .written ++ z) ≤ roomy → a .written ≡ [] =
+        λ p. a .whole (omega (arith, length-append (a .written) z, bytes-grow (holding y []) (drop n s))) in
         record {
-          progress = after-trans (j .progress) (record { written = a .written; same = refl });
+          progress = after-trans (j .progress) (record { written = a .written; same = refl; whole = small });
           held = j .held;
         }
 

@@ -1,21 +1,27 @@
 -- The headline statements of this crate, each proved where it is cited. Assumes nothing.
 use mathlib.Core.Path.{_≡_}
 use mathlib.Core.List.{List, [], _++_, map}
-use Prim.Native.Nat.{ℕ, _/_, _%_, _<_}
+use Prim.Native.Nat.{ℕ, _*_, _/_, _%_, _<_}
 use lib.IntN.{ℤ}
-use lib.ListN.{take}
+use lib.ListN.{take, replicate}
+use Rattle.rule.specs.Limits.{frameLimit, frameBytes}
+use Rattle.rule.specs.Reading.{readOf}
+use Rattle.rule.specs.declared.Refusal.{Refusal}
+use Rattle.rule.specs.declared.Reading.the-variants.{Frames, Refused}
 use Rattle.log.specs.Pair.{pairOf}
 use Rattle.log.specs.Walk.{linesOf}
 use Rattle.log.specs.declared.digit.Pair.the-variants.{Byte}
 use Rattle.verdict.specs.declared.Truth.the-variants.{False}
 use Rattle.checker.specs.Answer.{verdict}
 use Rattle.checker.specs.State.{refsIn}
+use Rattle.checker.specs.Open.{OpenResult}
 use Rattle.checker.specs.Report.{reportBytes}
 use Rattle.checker.specs.Pull.{foundHere, pullDef}
 use Rattle.checker.specs.declared.State.{State}
-use Rattle.bench.specs.Print.{hexDigit, reportPart}
+use Rattle.bench.specs.Print.{hexDigit, refusedLine, reportPart}
 use Rattle.bench.specs.Kept.{keptLimit}
-use Rattle.bench.specs.Progress.{Progress, blank, Open, afterLine, afterLines, afterBytes, atEnd}
+use Rattle.bench.specs.Progress.{Progress, blank, pulls, pullLimit, Open, afterLine, afterLines, afterBytes, atEnd}
+use Rattle.bench.specs.Output.{atStart, withTotals, wholeRun, openedFor, outputOf}
 use Rattle.bench.proofs.ChunkLaws
 use Rattle.bench.proofs.Whole
 
@@ -26,6 +32,20 @@ chunks-join = Whole.bytes-cut
 -- the bytes of a log, with what is held at its end as a line, are the log's lines, each fed whole
 pub log-lines : (x : Progress) (log : List ℕ) → atEnd (afterBytes (record { progress = x; held = [] }) log) ≡ afterLines x (linesOf log)
 log-lines = Whole.log-whole
+
+-- so what the code's contracts give one after the other (pulls, chunks, what is held at the end, totals) is the whole run
+pub run-whole : (o : OpenResult) (log : List ℕ)
+    → withTotals (atEnd (afterBytes (record { progress = pulls pullLimit (atStart o); held = [] }) log)) ≡ wholeRun o log
+run-whole = Whole.run-whole
+
+-- all that is printed where the rule is read, and where it is refused
+module _ (text log : List ℕ) where
+  pub output-run : (n : ℕ) (s : List ℕ) → readOf text (replicate (frameLimit * frameBytes) 0) ≡ (Frames n, s)
+      → outputOf text log ≡ wholeRun (openedFor (take (n * frameBytes) s)) log
+  output-run = Whole.output-run text log
+
+  pub output-refused : (r : Refusal) (s : List ℕ) → readOf text (replicate (frameLimit * frameBytes) 0) ≡ (Refused r, s) → outputOf text log ≡ refusedLine r
+  output-refused = Whole.output-refused text log
 
 -- the first 35 bytes of a line decide it
 pub kept-decides : (x : Progress) (line : List ℕ) → afterLine x (take keptLimit line) ≡ afterLine x line

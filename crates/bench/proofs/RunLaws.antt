@@ -1,7 +1,7 @@
 -- Progress, step by step: what waits, what was written out before, and what each step adds. Assumes nothing.
 use mathlib.Core.Path.{_≡_, refl, sym, ap, _∙_}
 use mathlib.Core.Bool.{Bool, true, false, cond}
-use mathlib.Core.List.{List, [], _∷_, _++_, append-assoc, append-nil}
+use mathlib.Core.List.{List, [], _++_, append-assoc, append-nil}
 use Prim.Native.Nat.{ℕ, zero, suc, _+_, _-_, _*_, _≤_, _<_, min}
 use native.Mathlib.Omega.{arith}
 use native.Mathlib.Decide.{decLt}
@@ -9,21 +9,21 @@ use lib.IntN.{ℤ}
 use lib.ListN.{length, getD, take, drop, length-append}
 use lib.Seq.{sets, sets-eq, take-at, take-all, length-take-le}
 use Rattle.checker.specs.Limits.{reportLeast}
-use Rattle.checker.specs.Answer.{Answer, pullTold}
+use Rattle.checker.specs.Answer.{pullTold}
 use Rattle.checker.specs.Feed.{feedDef}
 use Rattle.checker.specs.Pull.{pullDef}
 use Rattle.checker.specs.declared.PullAnswer.{PullAnswer}
 use Rattle.checker.specs.declared.State.{State}
 use Rattle.bench.specs.Print.{outBytes, reportPart}
-use Rattle.bench.specs.Progress.{Progress, blank, pullOf, printed, isVerdict, pulledOnce, pulls, pullLimit, countedBy, fedLine, afterLine, progressOf, Ends, before, After}
+use Rattle.bench.specs.Progress.{Progress, blank, pullOf, printed, isVerdict, pulledOnce, pulls, pullLimit, countedBy, fedLine, afterLine, progressOf, roomy, Ends, before, After}
 use Rattle.bench.specs.declared.Run.{Run}
 
 -- ---- what waits
 pub ends-none : (s : List ℕ) → Ends s s
-ends-none s = record { written = []; same = refl }
+ends-none s = record { written = []; same = refl; whole = λ h. refl }
 
-pub ends-all : (s t : List ℕ) → Ends (take 0 t) s
-ends-all s t = record { written = s; same = sym (append-nil s) }
+pub ends-all : (s t : List ℕ) → roomy < length s → Ends (take 0 t) s
+ends-all s t l = record { written = s; same = sym (append-nil s); whole = λ h. absurd (omega arith) }
 
 -- a line put behind what waits
 pub ends-more : (out out′ : List ℕ) (full at n : ℕ) (line : List ℕ) → Ends (take at out) (take full out) → out′ ≡ sets out at line
@@ -35,6 +35,7 @@ ends-more out out′ full at n line e p h q =
     record {
       written = e .written;
       same = ap (λ (s : List ℕ). s ++ line) (e .same) ∙ append-assoc (e .written) (take at out) line ∙ ap (λ (s : List ℕ). e .written ++ s) (sym a);
+      whole = λ h. e .whole (omega (arith, length-append (take full out) line));
     }
 
 -- a report's bytes, where the buffer has as many as any report
@@ -50,16 +51,19 @@ report-part report n e l = go (6 + 5 * getD report 5 0) e
 
 -- ---- after each other
 pub after-refl : (x : Progress) → After x x
-after-refl x = record { written = []; same = refl }
+after-refl x = record { written = []; same = refl; whole = λ h. refl }
 
 pub after-trans : {x y z : Progress} → After x y → After y z → After x z
 after-trans {x} {y} {z} p q =
+    let d : x .said ≡ p .written ++ y .said = ap (λ (v : Progress). v .said) (p .same) in
+    let e : length (x .said) ≡ length (p .written) + length (y .said) = ap length d ∙ length-append (p .written) (y .said) in
     record {
       written = p .written ++ q .written;
       same =
           p .same
           ∙ ap (before (p .written)) (q .same)
           ∙ ap (λ (s : List ℕ). record { state = z .state; words = z .words; counts = z .counts; said = s }) (sym (append-assoc (p .written) (q .written) (z .said)));
+      whole = λ h. rw (p .whole h, q .whole (omega arith));
     }
 
 -- ---- what was written before stays in front
@@ -81,7 +85,7 @@ pulls-before (suc k) w x = go (isVerdict (pullOf x .answer)) (once-before w x) (
 pub pulled-as : (x : Progress) (st : State) (said : List ℕ) → st ≡ pullOf x .state → Ends said (x .said ++ printed (pullOf x .answer) (pullOf x .report))
     → After (pulledOnce x) (record { state = st; words = x .words; counts = x .counts; said = said })
 unfolding pulledOnce
-pulled-as x st said e f = record { written = f .written; same = rw (e, f .same) }
+pulled-as x st said e f = record { written = f .written; same = rw (e, f .same); whole = f .whole }
 
 -- one pull as the code makes it, whatever the answer
 pub pulled-arm : (r q : Run) (win : List ℤ) (out out′ report : List ℕ) (st : State) (full : ℕ) (more : Bool) (a : PullAnswer)
@@ -103,7 +107,26 @@ pub pulled-quiet : (r q : Run) (win : List ℤ) (out report : List ℕ) (st : St
     → r .full ≤ outBytes → more ≡ isVerdict (pullTold a) → printed (pullTold a) (pullDef (r .state) win report .report) ≡ []
     → (q .full ≤ outBytes) × ((q .held ≡ r .held) × ((q .more ≡ isVerdict (pullOf (progressOf r win out) .answer)) × After (pulledOnce (progressOf r win out)) (progressOf q win out)))
 pulled-quiet r q win out report st more a e f g b h m n =
-    pulled-arm r q win out out report st (r .full) more a e f g b h m (record { written = []; same = rw n (append-nil (take (r .full) out)) })
+    pulled-arm r q win out out report st (r .full) more a e f g b h m (record { written = []; same = rw n (append-nil (take (r .full) out)); whole = λ d. refl })
+
+-- ---- what is printed only grows
+once-grows : (x : Progress) → length (x .said) ≤ length (pulledOnce x .said)
+unfolding pulledOnce
+once-grows x = omega (arith, length-append (x .said) (printed (pullOf x .answer) (pullOf x .report)))
+
+pulls-grow : (k : ℕ) (x : Progress) → length (x .said) ≤ length (pulls k x .said)
+unfolding pulls
+pulls-grow zero x = omega arith
+pulls-grow (suc k) x = go (isVerdict (pullOf x .answer)) (once-grows x) (pulls-grow k (pulledOnce x))
+  where
+    go : (t : Bool) → length (x .said) ≤ length (pulledOnce x .said) → length (pulledOnce x .said) ≤ length (pulls k (pulledOnce x) .said)
+        → length (x .said) ≤ length (cond t (pulls k (pulledOnce x)) (pulledOnce x) .said)
+    go true e i = omega arith
+    go false e i = e
+
+pub line-grows : (x : Progress) (line : List ℕ) → length (x .said) ≤ length (afterLine x line .said)
+unfolding fedLine
+line-grows x line = pulls-grow pullLimit (fedLine x line)
 
 -- ---- pulls until waiting
 pub pull-next : (want x y : Progress) (left : ℕ) (more : Bool) → 0 < left → After want (pulls left x) → After (pulledOnce x) y
@@ -115,7 +138,7 @@ pull-next want x y (suc k) more h p q e =
     rw (n, e) (go (isVerdict (pullOf x .answer)) p)
   where
     go : (t : Bool) → After want (cond t (pulls k (pulledOnce x)) (pulledOnce x)) → After want (cond t (pulls k y) y)
-    go true r = after-trans r (record { written = q .written; same = ap (pulls k) (q .same) ∙ pulls-before k (q .written) y })
+    go true r = after-trans r (record { written = q .written; same = ap (pulls k) (q .same) ∙ pulls-before k (q .written) y; whole = λ d. q .whole (omega (arith, pulls-grow k (pulledOnce x))) })
     go false r = after-trans r q
 
 pub pull-end : (want x : Progress) (left : ℕ) (more : Bool) → left ≡ 0 → After want (cond more (pulls left x) x) → After want x

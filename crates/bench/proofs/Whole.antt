@@ -5,28 +5,35 @@ use mathlib.Core.List.{List, [], _∷_, _++_, map}
 use Prim.Native.Nat.{ℕ, _+_, _*_, _/_, _%_, _<_}
 use native.Mathlib.Omega.{arith}
 use borrow.Author.Tests.{lt-ltb, eqb-true}
-use lib.Dec.{eqb, ltb}
+use lib.Dec.{eqb}
 use lib.IntN.{ℤ}
-use lib.ListN.{length, take, drop}
+use lib.ListN.{length, take, drop, replicate}
 use lib.Seq.{take-at}
 use Rattle.numbers.proofs.Bools.{T-true}
 use Rattle.numbers.proofs.Ranges.{tested}
+use Rattle.rule.specs.Limits.{frameLimit, frameBytes}
+use Rattle.rule.specs.Reading.{readOf}
+use Rattle.rule.specs.declared.Refusal.{Refusal}
+use Rattle.rule.specs.declared.Reading.{Reading}
+use Rattle.rule.specs.declared.Reading.the-variants.{Frames, Refused}
+use Rattle.rule.proofs.Main.{read-opens}
 use Rattle.log.specs.Digit.{digitValue}
 use Rattle.log.specs.Pair.{pairOf}
 use Rattle.log.specs.Walk.{onto, linesOf}
 use Rattle.log.specs.declared.digit.Pair.the-variants.{Byte}
 use Rattle.verdict.specs.Found.{Found}
 use Rattle.verdict.specs.declared.Truth.the-variants.{True, False, Unknown}
-use Rattle.checker.specs.Answer.{verdict, refused}
+use Rattle.checker.specs.Answer.{opened, verdict, refused}
 use Rattle.checker.specs.State.{refsIn, ruleIn}
-use Rattle.checker.specs.Open.{windowFits}
+use Rattle.checker.specs.Open.{windowFits, OpenResult, openDef}
 use Rattle.checker.specs.Good.{goodState}
 use Rattle.checker.specs.Report.{entries, reportBytes, written}
 use Rattle.checker.specs.Pull.{PullRead, short, waits, gave, pullRead, PullResult, notPulled, foundHere, pulledBy, pullDef}
 use Rattle.checker.specs.declared.State.{State}
-use Rattle.bench.specs.Print.{hexDigit, reportPart}
+use Rattle.bench.specs.Print.{hexDigit, refusedLine, reportPart}
 use Rattle.bench.specs.Kept.{keptLimit, kept}
-use Rattle.bench.specs.Progress.{Progress, blank, Open, afterLine, afterLines, afterBytes, atEnd}
+use Rattle.bench.specs.Progress.{Progress, blank, pulls, pullLimit, Open, afterLine, afterLines, afterBytes, atEnd}
+use Rattle.bench.specs.Output.{atStart, withTotals, wholeRun, afterOpening, openedFor, afterReading, outputOf}
 use Rattle.bench.proofs.ChunkLaws.{after-kept, kept-on}
 
 -- ---- chunks
@@ -78,6 +85,25 @@ whole-from x p (c ∷ s) = go (eqb c 10) (λ y q. whole-from y q s)
 
 pub log-whole : (x : Progress) (log : List ℕ) → atEnd (afterBytes (record { progress = x; held = [] }) log) ≡ afterLines x (linesOf log)
 log-whole x log = whole-from x [] log
+
+-- ---- all that is printed
+pub run-whole : (o : OpenResult) (log : List ℕ)
+    → withTotals (atEnd (afterBytes (record { progress = pulls pullLimit (atStart o); held = [] }) log)) ≡ wholeRun o log
+run-whole o log = ap withTotals (log-whole (pulls pullLimit (atStart o)) log)
+
+pub read-opened : (text b : List ℕ) (n : ℕ) (s : List ℕ) → readOf text b ≡ (Frames n, s) → openedFor (take (n * frameBytes) s) .answer ≡ opened
+unfolding openDef
+read-opened text b n s e = rw (read-opens text b n s e)
+
+pub output-run : (text log : List ℕ) (n : ℕ) (s : List ℕ) → readOf text (replicate (frameLimit * frameBytes) 0) ≡ (Frames n, s)
+    → outputOf text log ≡ wholeRun (openedFor (take (n * frameBytes) s)) log
+output-run text log n s e =
+    ap (λ (x : Reading × List ℕ). afterReading log (x .1) (x .0)) e
+    ∙ ap (afterOpening log (openedFor (take (n * frameBytes) s))) (read-opened text (replicate (frameLimit * frameBytes) 0) n s e)
+
+pub output-refused : (text log : List ℕ) (r : Refusal) (s : List ℕ) → readOf text (replicate (frameLimit * frameBytes) 0) ≡ (Refused r, s)
+    → outputOf text log ≡ refusedLine r
+output-refused text log r s e = ap (λ (x : Reading × List ℕ). afterReading log (x .1) (x .0)) e
 
 -- ---- reports
 entries-length : (xs : List Found) → length (entries xs) ≡ 5 * length xs

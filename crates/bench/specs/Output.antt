@@ -40,6 +40,7 @@ afterOpening log o ignored = []
 afterOpening log o waiting = []
 afterOpening log o (verdict v) = []
 
+-- the checker that frames open
 abbrev pub openedFor : List ℕ → OpenResult
 openedFor frames = openDef frames benchWidth (replicate (windowWords benchWidth) (pos 0))
 

@@ -2,11 +2,10 @@
 use mathlib.Core.Path.{_≡_}
 use mathlib.Core.Bool.{Bool, true, false, cond}
 use mathlib.Core.List.{List, [], _∷_, _++_}
-use Prim.Native.Nat.{ℕ, zero, suc, _+_, _%_, _^_}
+use Prim.Native.Nat.{ℕ, zero, suc, _+_, _%_, _^_, _≤_}
 use lib.Dec.{eqb}
 use lib.IntN.{ℤ}
-use lib.ListN.{take, replicate}
-use Rattle.verdict.specs.declared.Truth.{Truth}
+use lib.ListN.{length, take, replicate}
 use Rattle.verdict.specs.declared.Truth.the-variants.{True, False, Unknown}
 use Rattle.checker.specs.Limits.{reportLeast}
 use Rattle.checker.specs.Answer.{Answer, opened, accepted, ignored, waiting, verdict, refused}
@@ -30,6 +29,7 @@ pub record Progress : Type 0 where
 abbrev pub blank : List ℕ
 blank = replicate reportLeast 0
 
+-- what a pull gives
 abbrev pub pullOf : Progress → PullResult
 pullOf x = pullDef (x .state) (x .words) blank
 
@@ -86,9 +86,11 @@ countedBy opened c = c
 countedBy waiting c = c
 countedBy (verdict v) c = c
 
+-- what feeding a line gives
 abbrev pub feedOf : Progress → List ℕ → FeedResult
 feedOf x line = feedDef (x .state) (x .words) line
 
+-- a line is fed, and its answer counted
 unfoldable pub fedLine : Progress → List ℕ → Progress
 fedLine x line =
     record {
@@ -121,6 +123,7 @@ afterBytes o (b ∷ s) =
     (cond (eqb b 10) (record { progress = afterLine (o .progress) (o .held); held = [] }) (record { progress = o .progress; held = kept (o .held) (b ∷ []) }))
     s
 
+-- what is held, if anything is
 abbrev pub lastLine : Progress → List ℕ → Progress
 lastLine x [] = x
 lastLine x (b ∷ bs) = afterLine x (b ∷ bs)
@@ -134,19 +137,25 @@ atEnd o = lastLine (o .progress) (o .held)
 abbrev pub progressOf : Run → List ℤ → List ℕ → Progress
 progressOf r win out = record { state = r .state; words = win; counts = r .counts; said = take (r .full) out }
 
--- what waits is the end of what is to be printed: the rest was written out before
+-- with at most so many bytes waiting there is room for every line, and nothing is written out
+abbrev pub roomy : ℕ
+roomy = 65200
+
+-- what waits is the end of what is to be printed: the rest was written out before, and nothing where all that has room
 pub record Ends (got want : List ℕ) : Type 0 where
   pub written : List ℕ
   pub same : want ≡ written ++ got
+  pub whole : length want ≤ roomy → written ≡ []
 
 -- the same progress with more printed before
 abbrev pub before : List ℕ → Progress → Progress
 before w x = record { state = x .state; words = x .words; counts = x .counts; said = w ++ x .said }
 
--- what is got is what is wanted, but for what was written out before
+-- what is got is what is wanted, but for what was written out before: nothing, where all that is to be printed has room
 pub record After (want got : Progress) : Type 0 where
   pub written : List ℕ
   pub same : want ≡ before written got
+  pub whole : length (want .said) ≤ roomy → written ≡ []
 
 -- a run with the bytes of a cut line that it holds
 abbrev pub openOf : Run → List ℕ → List ℤ → List ℕ → Open

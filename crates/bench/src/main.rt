@@ -15,9 +15,9 @@ ghost use mathlib.Core.Path.{_≡_};
 ghost use mathlib.Core.List.{_++_};
 ghost use Prim.Native.Nat.{_≤_};
 ghost use lib.ListN.{length, take};
-ghost use Rattle.bench.specs.Print.{outBytes};
+ghost use Rattle.bench.specs.Print.{outBytes, totalsLine};
 ghost use Rattle.bench.specs.Kept.{keptLimit};
-ghost use Rattle.bench.specs.Progress.{afterLine, afterBytes, atEnd, progressOf, After, openOf, AfterOpen};
+ghost use Rattle.bench.specs.Progress.{afterLine, afterBytes, atEnd, progressOf, Ends, After, openOf, AfterOpen};
 
 // How many lines were accepted, ignored and refused.
 pub struct Counts {
@@ -126,16 +126,24 @@ fn all(r: Run, carry: &mut [u8], window: &mut [i32], out: &mut [u8]) -> Run
     last(q, carry, window, out)
 }
 
-// Writes out what waits, and the totals after it.
-fn finish(r: Run, out: &mut [u8])
+// The totals behind what waits; answers how many bytes then wait.
+fn put_end(r: Run, out: &mut [u8]) -> usize
     requires { ⌜ (r .full ≤ outBytes) × (length (now out) ≡ outBytes) ⌝ }
+    ensures { λ n. ⌜ (n ≤ outBytes) × Ends (take n (now (out .exit))) (take (r .full) (now (out .entry)) ++ totalsLine (r .state .totals) (r .counts)) ⌝ }
 {
     let full = r.full;
     let totals = r.state.totals;
     let counts = r.counts;
     let at = step::make_room(out, full);
-    let end = hex::put_totals(out, at, totals, counts);
-    io::write_all(STDOUT_FILENO, &out[..end]);
+    hex::put_totals(out, at, totals, counts)
+}
+
+// Writes out what waits, with the totals. Proved safe only: no contract can say what is written.
+fn finish(r: Run, out: &mut [u8])
+    requires { ⌜ (r .full ≤ outBytes) × (length (now out) ≡ outBytes) ⌝ }
+{
+    let n = put_end(r, out);
+    io::write_all(STDOUT_FILENO, &out[..n]);
 }
 
 // A checker's whole run over the log.
@@ -159,6 +167,7 @@ fn run_log(state: State, carry: &mut [u8], window: &mut [i32], out: &mut [u8])
     finish(q, out);
 }
 
+// The same, with buffers of its own.
 fn run_with(state: State, window: &mut [i32]) {
     let mut carry = [0u8; 35];
     let mut out = [0u8; 65536];
@@ -221,6 +230,7 @@ fn read_rule(text: &mut [u8]) -> usize
     n
 }
 
+// The rule from its file, and the whole run.
 fn run_rule(text: &mut [u8]) {
     let n = read_rule(text);
     run_text(&text[..n]);

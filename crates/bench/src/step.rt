@@ -14,7 +14,7 @@ ghost use Rattle.checker.specs.Limits.{reportLeast};
 ghost use Rattle.checker.specs.Answer.{feedTold};
 ghost use Rattle.checker.specs.Feed.{feedDef};
 ghost use Rattle.bench.specs.Print.{outBytes, hexLine, reportPart};
-ghost use Rattle.bench.specs.Progress.{blank, pullOf, isVerdict, pulledOnce, pulls, pullLimit, countedBy, fedLine, afterLine, progressOf, Ends, After};
+ghost use Rattle.bench.specs.Progress.{blank, pullOf, isVerdict, pulledOnce, pulls, pullLimit, countedBy, fedLine, afterLine, progressOf, roomy, Ends, After};
 
 // With so many bytes waiting there is room for every line.
 const ROOMY: usize = 65200;
@@ -29,7 +29,7 @@ const PULLS: u32 = 1010001;
 // no contract can say it.
 pub fn make_room(out: &[u8], full: usize) -> usize
     requires { ⌜ (full ≤ outBytes) × (length (now out) ≡ outBytes) ⌝ }
-    ensures { λ r. ⌜ (r ≤ 65200) × Ends (take r (now (out .entry))) (take full (now (out .entry))) ⌝ }
+    ensures { λ r. ⌜ (r ≤ roomy) × Ends (take r (now (out .entry))) (take full (now (out .entry))) ⌝ }
 {
     if full <= ROOMY {
         return full;

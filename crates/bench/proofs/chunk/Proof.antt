@@ -1,20 +1,16 @@
+-- `bench::chunk` does what the chunk's bytes do one after the other: the lines that end in it, and what is left of the last. Assumes nothing.
 use mathlib.Core.Path.{_≡_, refl, sym, _∙_}
 use mathlib.Core.List.{List}
 use Prim.Native.Nat.{ℕ, _-_, _≤_}
+use native.Mathlib.Omega.{arith}
 use lib.ListN.{length, take}
 use lib.Seq.{length-take-le}
+use borrow.Author.Needs.{needs}
 use Rattle.log.proofs.Walking.{line-within}
 use Rattle.bench.specs.Kept.{keptLimit}
 use Rattle.bench.proofs.ChunkLaws.{Walked, open-refl, never-end, chunk-line, chunk-rest, bytes-done}
-use borrow.Author.Needs.{needs}
-use native.Mathlib.Omega.{arith}
 use Rattle.bench.proofs.chunk.Statement.{statement}
 use Rattle.bench.proofs.chunk.Tie as tie
-use Rattle.bench.proofs.chunk.Reads as reads
-use Rattle.bench.proofs.chunk.Lts as lts
-use Rattle.bench.proofs.cut.keep.Reads as keep-reads
-use Rattle.bench.proofs.ended.Reads as ended-reads
-use Rattle.log.proofs.walk.line_from.Reads as line-from-reads
 
 abbrev Inv-loop : tie.InvT-loop
 Inv-loop carry₀ window₀ out₀ s q₀ at₀ carry window out q at = Walked carry₀ window₀ out₀ s q₀ carry window out q at
@@ -22,7 +18,6 @@ Inv-loop carry₀ window₀ out₀ s q₀ at₀ carry window out q at = Walked c
 abbrev μ-loop : tie.MeasureT-loop
 μ-loop carry₀ window₀ out₀ s q₀ at₀ carry window out q at = length s - at
 
--- src/main.rt:67:5
 loop-holds : tie.Need-loop-holds Inv-loop μ-loop
 loop-holds c = record {
   within = search needs;
@@ -34,55 +29,42 @@ loop-holds c = record {
   same = open-refl _;
 }
 
--- src/main.rt:68:48
 line-from-requires : tie.Need-line-from-requires Inv-loop μ-loop
 line-from-requires c κs = search needs
 
--- src/main.rt:68:27
 enum-known-start : tie.Need-enum-known-start Inv-loop μ-loop
 enum-known-start c = search needs
 
--- src/main.rt:69:13
 enum-told : tie.Need-enum-told Inv-loop μ-loop
 enum-told c = search needs
 
--- src/main.rt:69:13
 same-length : tie.Need-same-length Inv-loop μ-loop
 same-length c = search needs
 
--- src/main.rt:69:13
 same-length-2 : tie.Need-same-length-2 Inv-loop μ-loop
 same-length-2 c = search needs
 
--- src/main.rt:69:13
 same-length-3 : tie.Need-same-length-3 Inv-loop μ-loop
 same-length-3 c = search needs
 
--- src/main.rt:69:13
 returns : tie.Need-returns Inv-loop μ-loop
 returns c = absurd (never-end (c .before .before .before .before .before .before .before .before .args .s .now) (c .before .before .before .before .loop .at) (omega arith) (sym (c .before .before .line-from .ensures) ∙ c .enum-told .given .1))
 
--- src/main.rt:72:46
 sub-ended : tie.Need-sub-ended Inv-loop μ-loop
 sub-ended c = omega (arith, line-within (c .before .before .before .before .before .before .before .before .before .before .before .before .before .args .s .now) _ _ _ _ (sym (c .before .before .before .before .before .before .before .line-from .ensures) ∙ c .before .before .before .before .before .start .given .1))
 
--- src/main.rt:72:46
 part-ended-start : tie.Need-part-ended-start Inv-loop μ-loop
 part-ended-start c = omega (arith, line-within (c .before .before .before .before .before .before .before .before .before .before .before .before .before .args .s .now) _ _ _ _ (sym (c .before .before .before .before .before .before .before .line-from .ensures) ∙ c .before .before .before .before .before .start .given .1))
 
--- src/main.rt:72:46
 part-ended-end : tie.Need-part-ended-end Inv-loop μ-loop
 part-ended-end c = omega (arith, line-within (c .before .before .before .before .before .before .before .before .before .before .before .before .before .args .s .now) _ _ _ _ (sym (c .before .before .before .before .before .before .before .line-from .ensures) ∙ c .before .before .before .before .before .start .given .1))
 
--- src/main.rt:72:13
 ended-requires : tie.Need-ended-requires Inv-loop μ-loop
 ended-requires c κs = search needs
 
--- src/main.rt:67:5
 loop-less : tie.Need-loop-less Inv-loop μ-loop
 loop-less c = omega (arith, line-within (c .before .before .before .before .before .before .before .before .before .before .before .before .before .before .before .before .before .before .before .before .args .s .now) _ _ _ _ (sym (c .before .before .before .before .before .before .before .before .before .before .before .before .before .before .line-from .ensures) ∙ c .before .before .before .before .before .before .before .before .before .before .before .before .start .given .1))
 
--- src/main.rt:67:5
 loop-again : tie.Need-loop-again Inv-loop μ-loop
 loop-again c =
     let s : List ℕ = c .before .before .before .before .before .before .before .before .before .before .before .before .before .before .before .before .before .before .before .before .args .s .now in
@@ -98,27 +80,21 @@ loop-again c =
       same = rw e (chunk-line s (c .before .before .before .before .before .before .before .before .before .before .before .before .before .before .before .before .loop .at) _ _ _ f (omega arith) (omega arith) _ _ _ _ (c .before .before .before .before .before .before .before .before .before .before .before .before .before .before .before .before .loop .inv .same) (c .before .before .before .before .before .ended .ensures .1 .1));
     }
 
--- src/main.rt:76:45
 sub-keep : tie.Need-sub-keep Inv-loop μ-loop
 sub-keep c = omega (arith, line-within (c .before .before .before .before .before .before .before .before .before .before .before .args .s .now) _ _ _ _ (sym (c .before .before .before .before .before .line-from .ensures) ∙ c .before .before .before .start .given .1))
 
--- src/main.rt:76:45
 part-keep-start : tie.Need-part-keep-start Inv-loop μ-loop
 part-keep-start c = omega (arith, line-within (c .before .before .before .before .before .before .before .before .before .before .before .args .s .now) _ _ _ _ (sym (c .before .before .before .before .before .line-from .ensures) ∙ c .before .before .before .start .given .1))
 
--- src/main.rt:76:45
 part-keep-end : tie.Need-part-keep-end Inv-loop μ-loop
 part-keep-end c = omega (arith, line-within (c .before .before .before .before .before .before .before .before .before .before .before .args .s .now) _ _ _ _ (sym (c .before .before .before .before .before .line-from .ensures) ∙ c .before .before .before .start .given .1))
 
--- src/main.rt:76:13
 keep-requires : tie.Need-keep-requires Inv-loop μ-loop
 keep-requires c κs = search needs
 
--- src/main.rt:67:5
 loop-less-2 : tie.Need-loop-less-2 Inv-loop μ-loop
 loop-less-2 c = omega arith
 
--- src/main.rt:67:5
 loop-again-2 : tie.Need-loop-again-2 Inv-loop μ-loop
 loop-again-2 c =
     let s : List ℕ = c .before .before .before .before .before .before .before .before .before .before .before .before .before .before .before .args .s .now in
@@ -135,19 +111,15 @@ loop-again-2 c =
       same = rw (bytes-done s (length s) _ (omega arith), c .before .before .keep .ensures .1) (chunk-rest s (c .before .before .before .before .before .before .before .before .before .before .before .loop .at) _ _ _ f (omega arith) (omega arith) _ _ h l (c .before .before .before .before .before .before .before .before .before .before .before .loop .inv .same));
     }
 
--- src/main.rt:61:1
 same-length-4 : tie.Need-same-length-4 Inv-loop μ-loop
 same-length-4 c = search needs
 
--- src/main.rt:61:1
 same-length-5 : tie.Need-same-length-5 Inv-loop μ-loop
 same-length-5 c = search needs
 
--- src/main.rt:61:1
 same-length-6 : tie.Need-same-length-6 Inv-loop μ-loop
 same-length-6 c = search needs
 
--- src/main.rt:61:1
 returns-2 : tie.Need-returns-2 Inv-loop μ-loop
 returns-2 c = (c .before .loop .inv .full, (c .before .loop .inv .held, rw (bytes-done (c .before .before .before .before .before .args .s .now) (c .before .loop .at) _ (omega arith)) at (c .before .loop .inv .same)))
 

@@ -1,66 +1,50 @@
-use lib.Seq.{length-take-le}
+-- `bench::ended` feeds a line with what is held of it; 35 bytes decide it. Assumes nothing.
 use mathlib.Core.Path.{_≡_, refl, sym, _∙_}
 use mathlib.Core.List.{List, _++_}
 use Prim.Native.Nat.{ℕ}
+use lib.Seq.{length-take-le}
 use lib.ListN.{take}
+use borrow.Author.Needs.{needs}
 use Rattle.bench.specs.Progress.{progressOf}
 use Rattle.bench.proofs.ChunkLaws.{after-kept}
-use borrow.Author.Needs.{needs}
-use native.Mathlib.Omega.{arith}
 use Rattle.bench.proofs.ended.Statement.{statement}
 use Rattle.bench.proofs.ended.Tie as tie
-use Rattle.bench.proofs.ended.Reads as reads
-use Rattle.bench.proofs.ended.Lts as lts
-use Rattle.bench.proofs.cut.keep.Reads as keep-reads
-use Rattle.bench.proofs.step.one_line.Reads as one-line-reads
 
--- src/main.rt:52:9
 one-line-requires : tie.Need-one-line-requires
 one-line-requires c κs = search needs
 
--- src/main.rt:52:9
 same-length : tie.Need-same-length
 same-length c = search needs
 
--- src/main.rt:52:9
 same-length-2 : tie.Need-same-length-2
 same-length-2 c = search needs
 
--- src/main.rt:52:9
 returns : tie.Need-returns
 returns c =
     let h : c .before .before .before .before .before .before .before .before .before .before .args .r .held ≡ 0 = search needs in
     (c .before .before .before .one-line .ensures .0, (c .before .before .before .one-line .ensures .1 .0 ∙ h, rw h (c .before .before .before .one-line .ensures .1 .1)))
 
--- src/main.rt:54:9
 keep-requires : tie.Need-keep-requires
 keep-requires c κs = search needs
 
--- src/main.rt:55:48
 slice-reshare-prefix-one-line : tie.Need-slice-reshare-prefix-one-line
 slice-reshare-prefix-one-line c = search needs
 
--- src/main.rt:55:48
 slice-aggregate-one-line : tie.Need-slice-aggregate-one-line
 slice-aggregate-one-line c = sym (length-take-le _ _ (search needs))
 
--- src/main.rt:55:9
 one-line-requires-2 : tie.Need-one-line-requires-2
 one-line-requires-2 c κs = search needs
 
--- src/main.rt:46:1
 same-length-3 : tie.Need-same-length-3
 same-length-3 c = search needs
 
--- src/main.rt:46:1
 same-length-4 : tie.Need-same-length-4
 same-length-4 c = search needs
 
--- src/main.rt:46:1
 same-length-5 : tie.Need-same-length-5
 same-length-5 c = search needs
 
--- src/main.rt:46:1
 returns-2 : tie.Need-returns-2
 returns-2 c =
     let l : List ℕ = take (c .before .before .before .before .before .before .before .before .before .before .before .before .before .before .before .args .r .held) (c .before .before .before .before .before .before .before .before .before .before .before .before .before .before .before .args .carry .now) ++ c .before .before .before .before .before .before .before .before .before .before .before .before .before .before .before .args .part .now in

@@ -1,40 +1,32 @@
-use lib.Seq.{length-take-le}
+-- `bench::last` feeds what is held at the log's end. Assumes nothing.
 use mathlib.Core.Path.{_≡_, sym}
 use Prim.Native.Nat.{_<_}
+use native.Mathlib.Omega.{arith}
+use lib.Seq.{length-take-le}
 use lib.ListN.{length, take}
+use borrow.Author.Needs.{needs}
 use Rattle.bench.proofs.RunLaws.{after-refl}
 use Rattle.bench.proofs.ChunkLaws.{last-held}
-use borrow.Author.Needs.{needs}
-use native.Mathlib.Omega.{arith}
 use Rattle.bench.proofs.last.Statement.{statement}
 use Rattle.bench.proofs.last.Tie as tie
-use Rattle.bench.proofs.last.Reads as reads
-use Rattle.bench.proofs.last.Lts as lts
-use Rattle.bench.proofs.step.one_line.Reads as one-line-reads
 
--- src/main.rt:109:9
 returns : tie.Need-returns
 returns c =
     let h : c .before .before .before .args .r .held ≡ 0 = search needs in
     (c .before .before .before .pre .0, rw h (after-refl _))
 
--- src/main.rt:111:36
 slice-aggregate-one-line : tie.Need-slice-aggregate-one-line
 slice-aggregate-one-line c = sym (length-take-le _ _ (search needs))
 
--- src/main.rt:111:5
 one-line-requires : tie.Need-one-line-requires
 one-line-requires c κs = search needs
 
--- src/main.rt:103:1
 same-length : tie.Need-same-length
 same-length c = search needs
 
--- src/main.rt:103:1
 same-length-2 : tie.Need-same-length-2
 same-length-2 c = search needs
 
--- src/main.rt:103:1
 returns-2 : tie.Need-returns-2
 returns-2 c =
     let l : 0 < length (take (c .before .before .before .before .before .before .before .before .before .before .args .r .held) (c .before .before .before .before .before .before .before .before .before .before .args .carry .now)) = omega (arith, length-take-le (c .before .before .before .before .before .before .before .before .before .before .args .r .held) (c .before .before .before .before .before .before .before .before .before .before .args .carry .now) (search needs)) in

@@ -1,34 +1,25 @@
+-- `bench::run_first` hands on a part of the buffer. Assumes nothing.
 use mathlib.Core.Path.{sym}
 use lib.Seq.{length-take-le}
-use native.Mathlib.Omega.{arith}
 use borrow.Author.Needs.{needs}
 use Rattle.bench.proofs.run_first.Statement.{statement}
 use Rattle.bench.proofs.run_first.Tie as tie
-use Rattle.bench.proofs.run_first.Reads as reads
-use Rattle.bench.proofs.run_first.Lts as lts
-use Rattle.bench.proofs.run_frames.Reads as run-frames-reads
 
--- src/main.rt:193:13
 mul-n : tie.Need-mul-n
 mul-n c = search needs
 
--- src/main.rt:195:20
 slice-aggregate-run-frames : tie.Need-slice-aggregate-run-frames
 slice-aggregate-run-frames c = sym (length-take-le _ _ (search needs))
 
--- src/main.rt:195:9
 run-frames-requires : tie.Need-run-frames-requires
 run-frames-requires c κs = search needs
 
--- src/main.rt:197:9
 run-frames-requires-2 : tie.Need-run-frames-requires-2
 run-frames-requires-2 c κs = search needs
 
--- src/main.rt:192:1
 returns : tie.Need-returns
 returns c = search needs
 
--- src/main.rt:192:1
 returns-2 : tie.Need-returns-2
 returns-2 c = search needs
 

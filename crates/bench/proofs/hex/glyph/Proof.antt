@@ -1,24 +1,18 @@
+-- `bench::hex::glyph` is the digit. Assumes nothing.
 use borrow.Author.Tests.{lt-ltb, le-ltb}
-use native.Mathlib.Omega.{arith}
 use borrow.Author.Needs.{needs}
 use Rattle.bench.proofs.hex.glyph.Statement.{statement}
 use Rattle.bench.proofs.hex.glyph.Tie as tie
-use Rattle.bench.proofs.hex.glyph.Reads as reads
-use Rattle.bench.proofs.hex.glyph.Lts as lts
 
--- src/hex.rt:18:17
 add-result : tie.Need-add-result
 add-result c = search needs
 
--- src/hex.rt:18:35
 add-result-2 : tie.Need-add-result-2
 add-result-2 c = search needs
 
--- src/hex.rt:14:1
 returns : tie.Need-returns
 returns c = simp (lt-ltb _ _ (c .if1 .taken))
 
--- src/hex.rt:14:1
 returns-2 : tie.Need-returns-2
 returns-2 c = simp (le-ltb _ _ (c .if1 .left))
 

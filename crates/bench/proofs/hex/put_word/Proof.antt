@@ -1,61 +1,45 @@
-use Rattle.bench.proofs.HexLaws.{four}
-use native.Mathlib.Omega.{arith}
+-- `bench::hex::put_word` puts four bytes. Assumes nothing.
 use borrow.Author.Needs.{needs}
+use Rattle.bench.proofs.HexLaws.{four}
 use Rattle.bench.proofs.hex.put_word.Statement.{statement}
 use Rattle.bench.proofs.hex.put_word.Tie as tie
-use Rattle.bench.proofs.hex.put_word.Reads as reads
-use Rattle.bench.proofs.hex.put_word.Lts as lts
-use Rattle.bench.proofs.hex.put_byte.Reads as put-byte-reads
 
--- src/hex.rt:51:23
 cast-put-byte : tie.Need-cast-put-byte
 cast-put-byte c = search needs
 
--- src/hex.rt:51:5
 put-byte-requires : tie.Need-put-byte-requires
 put-byte-requires c κs = search needs
 
--- src/hex.rt:52:19
 add-put-byte : tie.Need-add-put-byte
 add-put-byte c = search needs
 
--- src/hex.rt:52:27
 cast-put-byte-2 : tie.Need-cast-put-byte-2
 cast-put-byte-2 c = search needs
 
--- src/hex.rt:52:5
 put-byte-requires-2 : tie.Need-put-byte-requires-2
 put-byte-requires-2 c κs = search needs
 
--- src/hex.rt:53:19
 add-put-byte-2 : tie.Need-add-put-byte-2
 add-put-byte-2 c = search needs
 
--- src/hex.rt:53:27
 cast-put-byte-3 : tie.Need-cast-put-byte-3
 cast-put-byte-3 c = search needs
 
--- src/hex.rt:53:5
 put-byte-requires-3 : tie.Need-put-byte-requires-3
 put-byte-requires-3 c κs = search needs
 
--- src/hex.rt:54:19
 add-put-byte-3 : tie.Need-add-put-byte-3
 add-put-byte-3 c = search needs
 
--- src/hex.rt:54:27
 cast-put-byte-4 : tie.Need-cast-put-byte-4
 cast-put-byte-4 c = search needs
 
--- src/hex.rt:54:5
 put-byte-requires-4 : tie.Need-put-byte-requires-4
 put-byte-requires-4 c κs = search needs
 
--- src/hex.rt:47:1
 same-length : tie.Need-same-length
 same-length c = search needs
 
--- src/hex.rt:47:1
 returns : tie.Need-returns
 returns c = four _ _ _ _ _ (c .before .before .before .before .before .before .before .before .before .before .before .before .before .before .before .before .before .args .at) _ _ _ _ (c .before .before .before .before .before .before .before .before .before .before .before .before .before .before .put-byte .ensures) (c .before .before .before .before .before .before .before .before .before .before .put-byte2 .ensures) (c .before .before .before .before .before .before .put-byte3 .ensures) (c .before .before .put-byte4 .ensures)
 

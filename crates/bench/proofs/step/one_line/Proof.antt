@@ -1,32 +1,23 @@
+-- `bench::step::one_line` feeds, and pulls until waiting. Assumes nothing.
 use mathlib.Core.Path.{ap, _∙_}
+use borrow.Author.Needs.{needs}
 use Rattle.bench.specs.declared.Run.{Run}
 use Rattle.bench.proofs.RunLaws.{fed-as}
-use borrow.Author.Needs.{needs}
-use native.Mathlib.Omega.{arith}
 use Rattle.bench.proofs.step.one_line.Statement.{statement}
 use Rattle.bench.proofs.step.one_line.Tie as tie
-use Rattle.bench.proofs.step.one_line.Reads as reads
-use Rattle.bench.proofs.step.one_line.Lts as lts
-use Rattle.bench.proofs.step.feed_line.Reads as feed-line-reads
-use Rattle.bench.proofs.step.pull_all.Reads as pull-all-reads
 
--- src/step.rt:166:9
 feed-line-requires : tie.Need-feed-line-requires
 feed-line-requires c κs = search needs
 
--- src/step.rt:167:5
 pull-all-requires : tie.Need-pull-all-requires
 pull-all-requires c κs = (rw (c .before .before .before .feed-line .ensures .0) (c .before .before .before .before .before .before .before .pre .0), search needs)
 
--- src/step.rt:162:1
 same-length : tie.Need-same-length
 same-length c = search needs
 
--- src/step.rt:162:1
 same-length-2 : tie.Need-same-length-2
 same-length-2 c = search needs
 
--- src/step.rt:162:1
 returns : tie.Need-returns
 returns c =
     let e = c .before .before .before .before .before .before .feed-line .ensures in

@@ -1,17 +1,15 @@
+-- `bench::step::pull_all` pulls until waiting: what is left to pull falls, and what is wanted stays. Assumes nothing.
 use mathlib.Core.Path.{_≡_, refl, _∙_}
 use mathlib.Core.Bool.{cond}
 use Prim.Native.Nat.{_≤_}
+use native.Mathlib.Omega.{arith}
 use lib.ListN.{length}
+use borrow.Author.Needs.{needs}
 use Rattle.bench.specs.Print.{outBytes}
 use Rattle.bench.specs.Progress.{pulls, pullLimit, progressOf, After}
 use Rattle.bench.proofs.RunLaws.{after-refl, pull-next, pull-end}
-use borrow.Author.Needs.{needs}
-use native.Mathlib.Omega.{arith}
 use Rattle.bench.proofs.step.pull_all.Statement.{statement}
 use Rattle.bench.proofs.step.pull_all.Tie as tie
-use Rattle.bench.proofs.step.pull_all.Reads as reads
-use Rattle.bench.proofs.step.pull_all.Lts as lts
-use Rattle.bench.proofs.step.pull_once.Reads as pull-once-reads
 
 abbrev Inv-loop : tie.InvT-loop
 Inv-loop window out₀ q₀ left₀ out q left =
@@ -20,42 +18,33 @@ Inv-loop window out₀ q₀ left₀ out q left =
 abbrev μ-loop : tie.MeasureT-loop
 μ-loop window out₀ q₀ left₀ out q left = left
 
--- src/step.rt:112:5
 loop-holds : tie.Need-loop-holds Inv-loop μ-loop
 loop-holds c = (search needs, (refl, (search needs, after-refl _)))
 
--- src/step.rt:113:9
 pull-once-requires : tie.Need-pull-once-requires Inv-loop μ-loop
 pull-once-requires c κs = search needs
 
--- src/step.rt:114:9
 sub-left : tie.Need-sub-left Inv-loop μ-loop
 sub-left c = search needs
 
--- src/step.rt:112:5
 loop-less : tie.Need-loop-less Inv-loop μ-loop
 loop-less c = search needs
 
--- src/step.rt:112:5
 loop-again : tie.Need-loop-again Inv-loop μ-loop
 loop-again c =
     let e = c .before .before .pull-once .ensures in
     let p = rw (c .before .before .before .before .if1 .taken) at (c .before .before .before .before .before .before .loop .inv .1 .1 .1) in
     (e .0, (e .1 .0 ∙ c .before .before .before .before .before .before .loop .inv .1 .0, (search needs, pull-next _ _ _ (c .before .before .before .before .before .before .loop .left) _ (omega arith) p (e .1 .1 .1) (e .1 .1 .0))))
 
--- src/step.rt:105:1
 same-length : tie.Need-same-length Inv-loop μ-loop
 same-length c = search needs
 
--- src/step.rt:105:1
 returns : tie.Need-returns Inv-loop μ-loop
 returns c = (c .before .before .loop .inv .0, (c .before .before .loop .inv .1 .0, rw (c .if1 .left) at (c .before .before .loop .inv .1 .1 .1)))
 
--- src/step.rt:105:1
 same-length-2 : tie.Need-same-length-2 Inv-loop μ-loop
 same-length-2 c = search needs
 
--- src/step.rt:105:1
 returns-2 : tie.Need-returns-2 Inv-loop μ-loop
 returns-2 c = (c .before .loop .inv .0, (c .before .loop .inv .1 .0, pull-end _ _ (c .before .loop .left) (c .before .loop .q .more) (omega arith) (c .before .loop .inv .1 .1 .1)))
 

@@ -1,120 +1,92 @@
+-- `bench::step::pull_into` is one pull, with what it prints. Assumes nothing.
 use mathlib.Core.Path.{_≡_, ap, _∙_}
 use mathlib.Core.Bool.{true, false}
 use lib.ListN.{length}
-use Rattle.bench.proofs.RunLaws.{pulled-arm, pulled-quiet}
-use native.Mathlib.Omega.{arith}
 use borrow.Author.Needs.{needs}
+use Rattle.bench.proofs.RunLaws.{pulled-arm, pulled-quiet}
 use Rattle.bench.proofs.step.pull_into.Statement.{statement}
 use Rattle.bench.proofs.step.pull_into.Tie as tie
-use Rattle.bench.proofs.step.pull_into.Reads as reads
-use Rattle.bench.proofs.step.pull_into.Lts as lts
-use Rattle.bench.proofs.step.say_report.Reads as say-report-reads
-use Rattle.bench.proofs.step.with_state.Reads as with-state-reads
-use Rattle.checker.proofs.pull.Reads as pull-reads
 
--- src/step.rt:80:9
 pull-requires : tie.Need-pull-requires
 pull-requires c κs = search needs
 
--- src/step.rt:84:29
 enum-told : tie.Need-enum-told
 enum-told c = search needs
 
--- src/step.rt:84:29
 with-state-requires : tie.Need-with-state-requires
 with-state-requires c κs = search needs
 
--- src/step.rt:86:34
 enum-told-2 : tie.Need-enum-told-2
 enum-told-2 c = search needs
 
--- src/step.rt:86:17
 say-report-requires : tie.Need-say-report-requires
 say-report-requires c κs =
     let l : length (c .before .before .before .before .before .before .before .pull .last .1 .1 .0) ≡ length (c .before .before .before .before .before .before .before .before .before .before .before .before .args .report .now) = search needs in
     (c .before .before .before .before .before .before .before .before .before .before .before .before .pre .0, (c .before .before .before .before .before .before .before .before .before .before .before .before .pre .1 .0, l ∙ ap length (c .before .before .before .before .before .before .before .before .before .before .before .before .pre .1 .1)))
 
--- src/step.rt:87:13
 with-state-requires-2 : tie.Need-with-state-requires-2
 with-state-requires-2 c κs = search needs
 
--- src/step.rt:89:32
 enum-told-3 : tie.Need-enum-told-3
 enum-told-3 c = search needs
 
--- src/step.rt:89:32
 with-state-requires-3 : tie.Need-with-state-requires-3
 with-state-requires-3 c κs = search needs
 
--- src/step.rt:90:32
 enum-told-4 : tie.Need-enum-told-4
 enum-told-4 c = search needs
 
--- src/step.rt:90:32
 with-state-requires-4 : tie.Need-with-state-requires-4
 with-state-requires-4 c κs = search needs
 
--- src/step.rt:91:35
 enum-told-5 : tie.Need-enum-told-5
 enum-told-5 c = search needs
 
--- src/step.rt:91:35
 with-state-requires-5 : tie.Need-with-state-requires-5
 with-state-requires-5 c κs = search needs
 
--- src/step.rt:74:1
 same-length : tie.Need-same-length
 same-length c = search needs
 
--- src/step.rt:74:1
 returns : tie.Need-returns
 returns c =
     pulled-quiet (c .before .before .before .before .before .before .before .before .before .before .before .args .r) _ (c .before .before .before .before .before .before .before .before .before .before .before .args .window .now) (c .before .before .before .before .before .before .before .before .before .before .before .args .out .now) (c .before .before .before .before .before .before .before .before .before .before .before .args .report .now) (c .before .before .before .before .before .before .pull .result .state) true (c .before .before .before .before .before .before .pull .result .answer)
     (c .with-state .ensures) (c .before .before .before .before .before .before .pull .ensures .1 .0) (c .before .before .before .before .before .before .pull .ensures .0) (c .before .before .before .before .before .before .before .before .before .before .before .pre .1 .1) (c .before .before .before .before .before .before .before .before .before .before .before .pre .0) (rw (c .before .enum-told .given .1))
     (rw (c .before .enum-told .given .1))
 
--- src/step.rt:74:1
 same-length-2 : tie.Need-same-length-2
 same-length-2 c = search needs
 
--- src/step.rt:74:1
 same-length-3 : tie.Need-same-length-3
 same-length-3 c = search needs
 
--- src/step.rt:74:1
 returns-2 : tie.Need-returns-2
 returns-2 c =
     pulled-arm (c .before .before .before .before .before .before .before .before .before .before .before .before .before .before .before .before .args .r) _ (c .before .before .before .before .before .before .before .before .before .before .before .before .before .before .before .before .args .window .now) (c .before .before .before .before .before .before .before .before .before .before .before .before .before .before .before .before .args .out .now) _ (c .before .before .before .before .before .before .before .before .before .before .before .before .before .before .before .before .args .report .now) (c .before .before .before .before .before .before .before .before .before .before .before .pull .result .state) _ true (c .before .before .before .before .before .before .before .before .before .before .before .pull .result .answer)
     (c .with-state2 .ensures) (c .before .before .before .before .before .before .before .before .before .before .before .pull .ensures .1 .0) (c .before .before .before .before .before .before .before .before .before .before .before .pull .ensures .0) (c .before .before .before .before .before .before .before .before .before .before .before .before .before .before .before .before .pre .1 .1) (c .before .before .before .say-report .ensures .0) (rw (c .before .before .before .before .before .before .enum-told2 .given .1))
     (rw (c .before .before .before .before .before .before .enum-told2 .given .1) (rw (c .before .before .before .before .before .before .before .before .before .before .before .pull .ensures .1 .1) at (c .before .before .before .say-report .ensures .1)))
 
--- src/step.rt:74:1
 same-length-4 : tie.Need-same-length-4
 same-length-4 c = search needs
 
--- src/step.rt:74:1
 returns-3 : tie.Need-returns-3
 returns-3 c =
     pulled-quiet (c .before .before .before .before .before .before .before .before .before .before .before .args .r) _ (c .before .before .before .before .before .before .before .before .before .before .before .args .window .now) (c .before .before .before .before .before .before .before .before .before .before .before .args .out .now) (c .before .before .before .before .before .before .before .before .before .before .before .args .report .now) (c .before .before .before .before .before .before .pull .result .state) true (c .before .before .before .before .before .before .pull .result .answer)
     (c .with-state3 .ensures) (c .before .before .before .before .before .before .pull .ensures .1 .0) (c .before .before .before .before .before .before .pull .ensures .0) (c .before .before .before .before .before .before .before .before .before .before .before .pre .1 .1) (c .before .before .before .before .before .before .before .before .before .before .before .pre .0) (rw (c .before .enum-told3 .given .1))
     (rw (c .before .enum-told3 .given .1))
 
--- src/step.rt:74:1
 same-length-5 : tie.Need-same-length-5
 same-length-5 c = search needs
 
--- src/step.rt:74:1
 returns-4 : tie.Need-returns-4
 returns-4 c =
     pulled-quiet (c .before .before .before .before .before .before .before .before .before .before .before .args .r) _ (c .before .before .before .before .before .before .before .before .before .before .before .args .window .now) (c .before .before .before .before .before .before .before .before .before .before .before .args .out .now) (c .before .before .before .before .before .before .before .before .before .before .before .args .report .now) (c .before .before .before .before .before .before .pull .result .state) false (c .before .before .before .before .before .before .pull .result .answer)
     (c .with-state4 .ensures) (c .before .before .before .before .before .before .pull .ensures .1 .0) (c .before .before .before .before .before .before .pull .ensures .0) (c .before .before .before .before .before .before .before .before .before .before .before .pre .1 .1) (c .before .before .before .before .before .before .before .before .before .before .before .pre .0) (rw (c .before .enum-told4 .given .1))
     (rw (c .before .enum-told4 .given .1))
 
--- src/step.rt:74:1
 same-length-6 : tie.Need-same-length-6
 same-length-6 c = search needs
 
--- src/step.rt:74:1
 returns-5 : tie.Need-returns-5
 returns-5 c =
     pulled-quiet (c .before .before .before .before .before .before .before .before .before .before .before .args .r) _ (c .before .before .before .before .before .before .before .before .before .before .before .args .window .now) (c .before .before .before .before .before .before .before .before .before .before .before .args .out .now) (c .before .before .before .before .before .before .before .before .before .before .before .args .report .now) (c .before .before .before .before .before .before .pull .result .state) false (c .before .before .before .before .before .before .pull .result .answer)

@@ -1,48 +1,35 @@
-use mathlib.Core.Path.{_≡_, ap, _∙_}
+-- `bench::step::say_report` puts a report behind what waits. Assumes nothing.
+use mathlib.Core.Path.{_≡_, ap, _∙_, sym}
 use mathlib.Core.List.{List}
 use Prim.Native.Nat.{ℕ, _+_, _*_}
+use native.Mathlib.Omega.{arith}
 use lib.ListN.{length, take}
-use lib.Seq.{sets}
+use lib.Seq.{sets, length-take-le}
+use borrow.Author.Needs.{needs}
 use Rattle.bench.specs.Print.{hexLine, reportPart}
 use Rattle.bench.proofs.HexLaws.{line-length}
 use Rattle.bench.proofs.RunLaws.{ends-more, report-part}
-use mathlib.Core.Path.{sym}
-use lib.Seq.{length-take-le}
-use native.Mathlib.Omega.{arith}
-use borrow.Author.Needs.{needs}
 use Rattle.bench.proofs.step.say_report.Statement.{statement}
 use Rattle.bench.proofs.step.say_report.Tie as tie
-use Rattle.bench.proofs.step.say_report.Reads as reads
-use Rattle.bench.proofs.step.say_report.Lts as lts
-use Rattle.bench.proofs.hex.put_line.Reads as put-line-reads
-use Rattle.bench.proofs.step.make_room.Reads as make-room-reads
-use Rattle.bench.proofs.step.report_length.Reads as report-length-reads
 
--- src/step.rt:54:9
 make-room-requires : tie.Need-make-room-requires
 make-room-requires c κs = search needs
 
--- src/step.rt:55:27
 shared-slice-read-report-length : tie.Need-shared-slice-read-report-length
 shared-slice-read-report-length c = search needs
 
--- src/step.rt:55:9
 report-length-requires : tie.Need-report-length-requires
 report-length-requires c κs = search needs
 
--- src/step.rt:56:28
 slice-aggregate-put-line : tie.Need-slice-aggregate-put-line
 slice-aggregate-put-line c = sym (length-take-le _ _ (search needs))
 
--- src/step.rt:56:5
 put-line-requires : tie.Need-put-line-requires
 put-line-requires c κs = omega (arith, length-take-le (c .before .before .report-length .result) (c .before .before .before .before .before .before .before .before .args .report .now) (search needs), c .before .before .before .before .make-room .ensures .0, c .before .before .report-length .ensures .0)
 
--- src/step.rt:50:1
 same-length : tie.Need-same-length
 same-length c = search needs
 
--- src/step.rt:50:1
 returns : tie.Need-returns
 returns c =
     let report : List ℕ = c .before .before .before .before .before .before .before .before .before .before .before .args .report .now in
