@@ -176,7 +176,7 @@ pub place-5 : (text b : List ℕ) → length b ≡ bufferBytes → (x : Rule) �
 place-5 = ReadPlaces.place-5
 
 -- refused with 6: exactly where no name and no number is bad, and the tree is too deep or has too many frames
-pub place-6 : (text b : List ℕ) → length b ≡ bufferBytes → (x : Rule) → Spelled text x → (readOf text b .0 ≡ refusedAs 6 0) ↔ (NamesGood text x × NumbersGood text x × Oversized x)
+pub place-6 : (text b : List ℕ) → length b ≡ bufferBytes → (x : Rule) → Spelled text x → (readOf text b .0 ≡ refusedAs 6 0) ↔ (NamesGood text x × NumbersGood text x × Oversized text x)
 place-6 = ReadPlaces.place-6
 
 -- refused with 7: exactly where 4, 5 and 6 leave the tree, and what it means has no reference

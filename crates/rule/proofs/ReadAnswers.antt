@@ -11,6 +11,7 @@ use lib.Dec.{ltb, eqb}
 use lib.ListN.{length, take}
 use Rattle.rule.specs.Token.{tokens}
 use Rattle.rule.specs.Grammar.{Rule, yield, words, Wrong-at}
+use Rattle.rule.specs.Tree.{postfix}
 use Rattle.rule.specs.Measure.{frames, depth, names, numbers}
 use Rattle.rule.specs.Judge.{refused-by, read-as, first-name, first-number, after-number, after-name, verdict}
 use Rattle.rule.specs.Memory.{codeAt, valueAt}
@@ -25,6 +26,7 @@ use Rattle.rule.specs.declared.parts.Place.{Place}
 use Rattle.rule.proofs.Settle.{one, two-none, two-many}
 use Rattle.rule.proofs.ReadText.{outside, as-judged, either}
 use Rattle.rule.proofs.SpellSame.{first-name-same, first-number-same}
+use Rattle.rule.proofs.TreeBytes.{meaning-count}
 use Rattle.rule.proofs.ReadChecks.{Checks, no-reference, too-great, proper, checks}
 use Rattle.rule.proofs.ReadFrames.{tree-refused, tree-read}
 
@@ -44,16 +46,16 @@ module _ (text b : List ℕ) (fit : length b ≡ 512) (size : answers.Sized (len
     by-check w a e (no-reference h) = back _ (tree-refused text b fit x w 7 0 e) (refused-7 fit w h)
     by-check w a e (too-great h o) = back _ (tree-refused text b fit x w 8 0 e) (refused-8 fit w h o)
     by-check w a e (proper h o) =
-        let r : ReadAs text (length (frames x)) _ = record { tree = x; within = w; named = h; exact = o; count = refl; bytes = refl } in
-        back _ (tree-read text b fit (length (frames x)) _ r) (accepted fit r)
+        let r : ReadAs text (length (postfix (meaning text x))) _ = record { tree = x; within = w; named = h; exact = o; count = refl; bytes = refl } in
+        back _ (tree-read text b fit (length (postfix (meaning text x))) _ r) (accepted fit r)
 
     by-six : NamesGood text x → NumbersGood text x
         → verdict (codeAt text) (valueAt text) x ≡ cond (ltb 16 (depth x)) (refused-by 6 0) (cond (ltb 64 (length (frames x))) (refused-by 6 0) (read-as (frames x)))
         → (q r : Bool) → ltb 16 (depth x) ≡ q → ltb 64 (length (frames x)) ≡ r → Answered text b (readOf text b)
     by-six e f v true r g h = back _ (judged 6 0 (v ∙ rw g) (λ z. omega arith)) (refused-6 fit spelled e f (inl (ltb-true 16 (depth x) g)))
-    by-six e f v false true g h = back _ (judged 6 0 (v ∙ rw (g, h)) (λ z. omega arith)) (refused-6 fit spelled e f (inr (ltb-true 64 (length (frames x)) h)))
+    by-six e f v false true g h = back _ (judged 6 0 (v ∙ rw (g, h)) (λ z. omega arith)) (refused-6 fit spelled e f (inr (rw (meaning-count text x) (ltb-true 64 (length (frames x)) h))))
     by-six e f v false false g h =
-        let w : Within text x = record { spelled = spelled; names-good = e; numbers-good = f; shallow = ltb-false 16 (depth x) g; few-frames = ltb-false 64 (length (frames x)) h } in
+        let w : Within text x = record { spelled = spelled; names-good = e; numbers-good = f; shallow = ltb-false 16 (depth x) g; few-frames = rw (meaning-count text x) (ltb-false 64 (length (frames x)) h) } in
         by-check w (checkedOf (take (length (frames x) * 8) (treeBytes text x))) refl (checks text x w)
 
     by-five : NamesGood text x → verdict (codeAt text) (valueAt text) x ≡ after-number (codeAt text) (valueAt text) x (first-number (codeAt text) (valueAt text) (numbers x))

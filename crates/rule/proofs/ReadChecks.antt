@@ -22,7 +22,7 @@ use Rattle.rule.proofs.Accept.{rule-bytes, one-tree}
 use Rattle.rule.proofs.Opening.{opening-iff}
 use Rattle.rule.proofs.Exactly.{whole-of}
 use Rattle.rule.specs.Meaning.{meaning}
-use Rattle.rule.proofs.TreeBytes.{meaning-count, meaning-limits, tree-taken, tree-rule}
+use Rattle.rule.proofs.TreeBytes.{meaning-limits, tree-taken, tree-rule}
 
 -- bytes that are a rule have no place for 10
 no-place : {s : List ℕ} {p : ℕ} → IsRule s → Place s p → ⊥
@@ -68,7 +68,7 @@ module _ (text : List ℕ) (x : Rule) (w : Within text x) where
   bytes = rw (tree-taken text x w) (rule-bytes (meaning text x) (meaning-limits text x w))
 
   whole : Whole (length its-frames)
-  whole = whole-of (tree-rule text x w) (rw (meaning-count text x) (w .few-frames))
+  whole = whole-of (tree-rule text x w) (w .few-frames)
 
   pub checks : Checks (meaning text x) (checkedOf its-frames)
   checks = checks-rule (tree-rule text x w) whole (opening-iff bytes (checkedOf its-frames) .0 refl)

@@ -18,7 +18,7 @@ use Rattle.rule.specs.Answers.{ReadAs, Answered, refused-1, refused-2, r
 use Rattle.rule.specs.declared.Reading.{Reading}
 use Rattle.rule.specs.declared.Reading.the-variants as reading
 use Rattle.rule.proofs.Accept.{rule-bytes, tree-of}
-use Rattle.rule.proofs.TreeBytes.{meaning-limits, tree-bytes, tree-taken}
+use Rattle.rule.proofs.TreeBytes.{meaning-count, meaning-limits, tree-bytes, tree-taken}
 use Rattle.rule.proofs.ReadFrames.{tree-read}
 use Rattle.rule.proofs.ReadAnswers.{answered}
 use Rattle.rule.proofs.SpellTrees.{tree-unique}
@@ -54,8 +54,9 @@ module _ (text b : List ℕ) (n : ℕ) (s : List ℕ) where
   taken r =
       let t = r .tree in
       let w = r .within in
-      let z : s ≡ treeBytes text t = r .bytes ∙ (ap (λ (k : ℕ). bytesOf (postfix (meaning text t)) ++ replicate (512 - k * 8) 0) (r .count) ∙ sym (tree-bytes text t w)) in
-      ap₂ (λ (k : ℕ) (l : List ℕ). take (k * 8) l) (r .count) z ∙ tree-taken text t w
+      let c : n ≡ length (frames t) = r .count ∙ meaning-count text t in
+      let z : s ≡ treeBytes text t = r .bytes ∙ (ap (λ (k : ℕ). bytesOf (postfix (meaning text t)) ++ replicate (512 - k * 8) 0) c ∙ sym (tree-bytes text t w)) in
+      ap₂ (λ (k : ℕ) (l : List ℕ). take (k * 8) l) c z ∙ tree-taken text t w
 
   built : (r : ReadAs text n s) → treeOf (take (n * 8) s) ≡ meaning text (r .tree)
   built r = tree-of (record { tree = meaning text (r .tree); limits = meaning-limits text (r .tree) (r .within); bytes = taken r })

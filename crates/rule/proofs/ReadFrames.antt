@@ -24,7 +24,7 @@ use Rattle.rule.proofs.Walk.{readRule}
 use Rattle.rule.proofs.Registers.{told-right}
 use Rattle.rule.proofs.Bytes.{bytes-read}
 use Rattle.rule.proofs.ReadText.{in-grammar}
-use Rattle.rule.proofs.TreeBytes.{coded-names, coded-numbers, tree-bytes}
+use Rattle.rule.proofs.TreeBytes.{meaning-count, few-frames, coded-names, coded-numbers, tree-bytes}
 use Rattle.rule.proofs.ReadChecks.{check-accepted}
 
 -- the registers that refuse nothing tell the number of frames
@@ -57,7 +57,7 @@ module _ (text b : List ℕ) (fit : length b ≡ 512) where
     after = readRule Mem (acts text) x (fresh (replicate 512 0))
 
     judged-well : verdict (codeAt text) (valueAt text) x ≡ read-as (frames x)
-    judged-well = rw (coded-names text x w, coded-numbers text x w, le-ltb 16 (depth x) (w .shallow), le-ltb 64 (length (frames x)) (w .few-frames))
+    judged-well = rw (coded-names text x w, coded-numbers text x w, le-ltb 16 (depth x) (w .shallow), le-ltb 64 (length (frames x)) (few-frames text x w))
 
     told-tree : told after ≡ (0, length (frames x))
     unfolding acts
@@ -84,6 +84,7 @@ module _ (text b : List ℕ) (fit : length b ≡ 512) where
   -- or accepted
   pub tree-read : (n : ℕ) (s : List ℕ) → ReadAs text n s → readOf text b ≡ (reading.Frames n, s)
   tree-read n s r =
+      let c : length (frames (r .tree)) ≡ n = sym (r .count ∙ meaning-count text (r .tree)) in
       tree-accepted (r .tree) (r .within) (check-accepted text (r .tree) (r .within) .1 (r .named, r .exact))
-      ∙ pairs (ap (λ (k : ℕ). reading.Frames k) (sym (r .count)))
-      (tree-bytes text (r .tree) (r .within) ∙ (ap (λ (k : ℕ). bytesOf (postfix (meaning text (r .tree))) ++ replicate (512 - k * 8) 0) (sym (r .count)) ∙ sym (r .bytes)))
+      ∙ pairs (ap (λ (k : ℕ). reading.Frames k) c)
+      (tree-bytes text (r .tree) (r .within) ∙ (ap (λ (k : ℕ). bytesOf (postfix (meaning text (r .tree))) ++ replicate (512 - k * 8) 0) c ∙ sym (r .bytes)))

@@ -21,6 +21,7 @@ use Rattle.rule.specs.Answers as answers
 use Rattle.rule.specs.declared.Reading.{Reading}
 use Rattle.rule.specs.declared.Reading.the-variants as reading
 use Rattle.rule.proofs.ReadText.{outside, as-judged}
+use Rattle.rule.proofs.TreeBytes.{meaning-count}
 use Rattle.rule.proofs.ReadChecks.{check-7, check-8}
 use Rattle.rule.proofs.ReadFrames.{tree-refused}
 use Rattle.rule.proofs.ReadAnswers.{answered}
@@ -49,7 +50,7 @@ module _ (text b : List ℕ) where
   Said (suc (suc (suc zero))) p = Wrong-at (length text) (tokens text) p
   Said (suc (suc (suc (suc zero)))) p = (x : Rule) → Spelled text x → BadName text x p
   Said (suc (suc (suc (suc (suc zero))))) p = (x : Rule) → Spelled text x → NamesGood text x × BadNumber text x p
-  Said (suc (suc (suc (suc (suc (suc zero)))))) p = (x : Rule) → Spelled text x → NamesGood text x × NumbersGood text x × Oversized x
+  Said (suc (suc (suc (suc (suc (suc zero)))))) p = (x : Rule) → Spelled text x → NamesGood text x × NumbersGood text x × Oversized text x
   Said (suc (suc (suc (suc (suc (suc (suc zero))))))) p = (x : Rule) → Spelled text x → Unnamed x
   Said (suc (suc (suc (suc (suc (suc (suc (suc zero)))))))) p = (x : Rule) → Spelled text x → Exceeding x
   Said (suc (suc (suc (suc (suc (suc (suc (suc (suc k))))))))) p = Unit {0}
@@ -64,7 +65,7 @@ module _ (text b : List ℕ) where
   says (refused-3 h s w) = w
   says (refused-4 {x} {p} h s f) = of-all text (λ y. BadName text y p) x s f
   says (refused-5 {x} {p} h s f g) = of-all text (λ y. NamesGood text y × BadNumber text y p) x s (f, g)
-  says (refused-6 {x} h s f g o) = of-all text (λ y. NamesGood text y × NumbersGood text y × Oversized y) x s (f, g, o)
+  says (refused-6 {x} h s f g o) = of-all text (λ y. NamesGood text y × NumbersGood text y × Oversized text y) x s (f, g, o)
   says (refused-7 {x} h w r) = of-all text Unnamed x (w .spelled) (w, r)
   says (refused-8 {x} h w r o) = of-all text Exceeding x (w .spelled) (w, r, o)
   says (accepted h r) = tt
@@ -91,16 +92,16 @@ module _ (text b : List ℕ) where
       place-5 p =
           (λ e. said 5 p e x y, λ (e, f). judged 5 p (rw (first-name-same text x (y .spells) ∙ e, first-number-same text x ∙ f .first, f .starts)) (λ z. omega arith))
 
-      over : NamesGood text x → NumbersGood text x → Oversized x → verdict (codeAt text) (valueAt text) x ≡ refused-by 6 0
+      over : NamesGood text x → NumbersGood text x → Oversized text x → verdict (codeAt text) (valueAt text) x ≡ refused-by 6 0
       over e f (inl h) = rw (first-name-same text x (y .spells) ∙ e, first-number-same text x ∙ f, lt-ltb 16 (depth x) h)
-      over e f (inr h) = rw (first-name-same text x (y .spells) ∙ e, first-number-same text x ∙ f, lt-ltb 64 (length (frames x)) h) (either-way (ltb 16 (depth x)))
+      over e f (inr h) = rw (first-name-same text x (y .spells) ∙ e, first-number-same text x ∙ f, lt-ltb 64 (length (frames x)) (subst (λ (n : ℕ). 64 < n) (meaning-count text x) h)) (either-way (ltb 16 (depth x)))
         where
           either-way : (q : Bool) → _≡_ {A = Verdict} (cond q (refused-by 6 0) (refused-by 6 0)) (refused-by 6 0)
           either-way true = refl
           either-way false = refl
 
       -- 6: too deep or too many frames, where no name and no number is bad
-      pub place-6 : (readOf text b .0 ≡ refusedAs 6 0) ↔ (NamesGood text x × NumbersGood text x × Oversized x)
+      pub place-6 : (readOf text b .0 ≡ refusedAs 6 0) ↔ (NamesGood text x × NumbersGood text x × Oversized text x)
       place-6 = (λ e. said 6 0 e x y, λ (e, f, o). judged 6 0 (over e f o) (λ z. omega arith))
 
       -- 7: no reference, where 4, 5 and 6 leave the tree

@@ -10,7 +10,7 @@ use lib.Seq.{take-at}
 use mir.Syntax.{w32}
 use mir.Val.{ofZ}
 use Rattle.numbers.proofs.Ints.{natAbs-neg}
-use Rattle.rule.specs.Limits.{factorLimit, offsetLimit, frameBytes}
+use Rattle.rule.specs.Limits.{factorLimit, offsetLimit, frameLimit, frameBytes}
 use Rattle.rule.specs.Grammar.{Rule}
 use Rattle.rule.specs.Tree.{Cond, Limits, postfix, bytesOf, IsRule}
 use Rattle.rule.specs.Measure.{Draft, lit, index-var, ref, plain, frames, names, numbers}
@@ -77,6 +77,10 @@ meaning-count text x =
     ∙ length-each (frameOf (numberOfName text Event x) (numberOfName text Note x) (λ p. decimal (letters text p))) (frames x)
 
 module _ (text : List ℕ) (x : Rule) (w : Within text x) where
+  -- at most 64 frames of the tree
+  pub few-frames : length (frames x) ≤ frameLimit
+  few-frames = subst (λ (n : ℕ). n ≤ frameLimit) (meaning-count text x) (w .few-frames)
+
   -- no name is bad by codes, no number by capped values
   pub coded-names : first-name (codeAt text) (valueAt text) [] (names x) ≡ none
   coded-names = first-name-same text x (w .spelled .spells) ∙ w .names-good
@@ -108,8 +112,7 @@ module _ (text : List ℕ) (x : Rule) (w : Within text x) where
   -- the tree's bytes: the meaning's frames, and zero after the last
   pub tree-bytes : treeBytes text x ≡ bytesOf (postfix (meaning text x)) ++ replicate (bufferBytes - length (frames x) * frameBytes) 0
   tree-bytes =
-      let h = w .few-frames in
-      filled put-fields (rw put-count h)
+      filled put-fields (rw put-count few-frames)
       ∙ ap₂ (λ (l : List ℕ) (n : ℕ). l ++ replicate (512 - n * 8) 0) packed-meaning put-count
 
   -- the frames alone

@@ -11,7 +11,7 @@ use Rattle.rule.specs.ReadLimits.{textLimit, depthLimit}
 use Rattle.rule.specs.Token.{tokens}
 use Rattle.rule.specs.Grammar.{Rule, yield, words, Wrong-at}
 use Rattle.rule.specs.Tree.{postfix, bytesOf, references, parts, NoneExceeds}
-use Rattle.rule.specs.Measure.{frames, depth, names, numbers}
+use Rattle.rule.specs.Measure.{depth, names, numbers}
 use Rattle.rule.specs.Spelling.{firstName, firstNumber}
 use Rattle.rule.specs.Meaning.{meaning}
 use Rattle.rule.specs.Reading.{bufferBytes, refusedAs}
@@ -50,8 +50,8 @@ abbrev pub NumbersGood : List ℕ → Rule → Type 0
 NumbersGood text x = firstNumber text (numbers x) ≡ none
 
 -- "depth over 16 or over 64 frames": 6
-abbrev pub Oversized : Rule → Type 0
-Oversized x = (depthLimit < depth x) ⊎ (frameLimit < length (frames x))
+abbrev pub Oversized : List ℕ → Rule → Type 0
+Oversized text x = (depthLimit < depth x) ⊎ (frameLimit < length (postfix (meaning text x)))
 
 -- no name and no number of it is bad, its depth and its frames are within the limits: 4, 5 and 6 leave it
 pub record Within (text : List ℕ) (x : Rule) : Type 0 where
@@ -59,7 +59,7 @@ pub record Within (text : List ℕ) (x : Rule) : Type 0 where
   pub names-good : NamesGood text x
   pub numbers-good : NumbersGood text x
   pub shallow : depth x ≤ depthLimit
-  pub few-frames : length (frames x) ≤ frameLimit
+  pub few-frames : length (postfix (meaning text x)) ≤ frameLimit
 
 -- the text is that of a tree that 4, 5 and 6 leave, and 7 and 8 what it means; n counts the frames of what it means, and s is a
 -- buffer that holds them, "zero after the last frame"
@@ -68,7 +68,7 @@ pub record ReadAs (text : List ℕ) (n : ℕ) (s : List ℕ) : Type 0 where
   pub within : Within text tree
   pub named : references (meaning text tree) ≡ [] → ⊥
   pub exact : NoneExceeds (parts (meaning text tree))
-  pub count : n ≡ length (frames tree)
+  pub count : n ≡ length (postfix (meaning text tree))
   pub bytes : s ≡ bytesOf (postfix (meaning text tree)) ++ replicate (bufferBytes - n * frameBytes) 0
 
 -- the answer of `read` to a text, with the buffer b, and what the buffer holds then: b itself where it refuses
@@ -78,7 +78,7 @@ pub data Answered (text b : List ℕ) : Reading × List ℕ → Type 0 where
   refused-3 : {p : ℕ} → length b ≡ bufferBytes → Sized (length text) → Wrong-at (length text) (tokens text) p → Answered text b (refusedAs 3 p, b)
   refused-4 : {x : Rule} {p : ℕ} → length b ≡ bufferBytes → Spelled text x → BadName text x p → Answered text b (refusedAs 4 p, b)
   refused-5 : {x : Rule} {p : ℕ} → length b ≡ bufferBytes → Spelled text x → NamesGood text x → BadNumber text x p → Answered text b (refusedAs 5 p, b)
-  refused-6 : {x : Rule} → length b ≡ bufferBytes → Spelled text x → NamesGood text x → NumbersGood text x → Oversized x → Answered text b (refusedAs 6 0, b)
+  refused-6 : {x : Rule} → length b ≡ bufferBytes → Spelled text x → NamesGood text x → NumbersGood text x → Oversized text x → Answered text b (refusedAs 6 0, b)
   refused-7 : {x : Rule} → length b ≡ bufferBytes → Within text x → references (meaning text x) ≡ [] → Answered text b (refusedAs 7 0, b)
   refused-8 : {x : Rule} → length b ≡ bufferBytes → Within text x → (references (meaning text x) ≡ [] → ⊥) → (NoneExceeds (parts (meaning text x)) → ⊥) → Answered text b (refusedAs 8 0, b)
   accepted : {n : ℕ} {s : List ℕ} → length b ≡ bufferBytes → ReadAs text n s → Answered text b (reading.Frames n, s)

@@ -1,5 +1,6 @@
--- Refusals 4 to 6 of a tree, in their order. code p stands for the letters of the name at p (Name.antt: one number for each
--- name of at most 12 letters), value p for the number at p. Assumes nothing: definitions.
+-- Refusals 4 to 6 of a tree in their order, as the reader's memory decides them: code p stands for the letters of the name at p
+-- (Name.antt: one number for each name of at most 12 letters), value p for the number at p. Spelling and Answers say them in the
+-- document's words. Assumes nothing: definitions.
 use Prim.Native.Nat.{ℕ}
 use mathlib.Core.Bool.{Bool, true, false, cond}
 use mathlib.Core.Option.{Option, none, some}

@@ -1,3 +1,4 @@
+-- What a buyer reads, in the document's order: text and its tokens, the grammar, frames and trees, what a text means, the answers.
 pub mod Class
 pub mod Token
 pub mod Name
@@ -6,20 +7,21 @@ pub mod Limits
 pub mod ReadLimits
 pub mod Grammar
 pub mod Measure
+pub mod Spelling
+pub mod Frames
+pub mod Tree
+pub mod Meaning
+pub mod Opening
+pub mod Answers
+-- What the contracts of the code are said by; the theorems in proofs/Main tie it to the definitions above.
 pub mod Machine
 pub mod Judge
 pub mod Memory
-pub mod Spelling
 pub mod Does
-pub mod Frames
-pub mod Tree
 pub mod References
 pub mod Order
 pub mod Sizes
 pub mod Stack
 pub mod Build
 pub mod Check
-pub mod Opening
 pub mod Reading
-pub mod Meaning
-pub mod Answers

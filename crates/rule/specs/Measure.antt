@@ -1,4 +1,5 @@
--- What a tree holds: its frames in postfix order, its depth, its names and its numbers in the order of the text.
+-- What a tree holds: its frames as the reader puts them (Meaning says what they are), its depth, its names and its numbers in the
+-- order of the text.
 -- From 'From rule text to frames' of document 01. Assumes nothing: definitions.
 use Prim.Native.Nat.{ℕ, _+_, max}
 use mathlib.Core.List.{List, [], _∷_, _++_}
