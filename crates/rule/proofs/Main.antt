@@ -28,7 +28,7 @@ use Rattle.rule.proofs.Accept
 use Rattle.rule.proofs.Count
 use Rattle.rule.proofs.Opening
 use Rattle.rule.proofs.Exactly
-use mathlib.Core.List.{[]}
+use mathlib.Core.List.{[], List·Memᴰ}
 use Prim.Native.Nat.{_*_}
 use lib.ListN.{take}
 use Rattle.rule.specs.Limits.{frameBytes}
@@ -36,7 +36,7 @@ use Rattle.rule.specs.Grammar.{Rule, yield, Wrong-at}
 use Rattle.rule.specs.Grammar.{words as spelled}
 use Rattle.rule.specs.Measure.{frames, Named, names, Sized, numbers}
 use Rattle.rule.specs.Memory.{letters}
-use Rattle.rule.specs.Spelling.{In, TokenOf, nameAt, numberAt}
+use Rattle.rule.specs.Spelling.{TokenOf, nameAt, numberAt}
 use Rattle.rule.specs.Reading.{bufferBytes, refusedAs, readOf}
 use Rattle.rule.specs.Meaning.{meaning}
 use Rattle.rule.specs.Answers.{Spelled, BadName, NamesGood, BadNumber, NumbersGood, Oversized, Within, ReadAs, Answered}
@@ -149,10 +149,10 @@ pub unambiguous : (x y : Rule) (ts : List Token) → yield x ≡ spelled ts → 
 unambiguous = SpellTrees.tree-unique
 
 -- each name of it stands at a name token of the text, and its bytes are letters; each number at a number token, and they are digits
-pub names-lettered : (text : List ℕ) (x : Rule) → yield x ≡ spelled (tokens text) → (n : Named) → In n (names x) → TokenOf text nameKind (nameAt n) × Letters (letters text (nameAt n))
+pub names-lettered : (text : List ℕ) (x : Rule) → yield x ≡ spelled (tokens text) → (n : Named) → List·Memᴰ n (names x) → TokenOf text nameKind (nameAt n) × Letters (letters text (nameAt n))
 names-lettered = SpellSame.names-lettered
 
-pub numbers-digits : (text : List ℕ) (x : Rule) → yield x ≡ spelled (tokens text) → (n : Sized) → In n (numbers x) → TokenOf text numberKind (numberAt n) × OfClass digit (letters text (numberAt n))
+pub numbers-digits : (text : List ℕ) (x : Rule) → yield x ≡ spelled (tokens text) → (n : Sized) → List·Memᴰ n (numbers x) → TokenOf text numberKind (numberAt n) × OfClass digit (letters text (numberAt n))
 numbers-digits = SpellSame.numbers-digits
 
 -- what a tree that 4, 5 and 6 leave means is within the limits of frames

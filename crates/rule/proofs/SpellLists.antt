@@ -1,23 +1,22 @@
 -- What holds of every member of a list. Assumes nothing.
-use mathlib.Core.Path.{_≡_, ap, sym, _∙_}
-use mathlib.Core.List.{List, [], _∷_, _++_, append-assoc}
+use mathlib.Core.Path.{_≡_, refl, ap, sym, subst, _∙_}
+use mathlib.Core.List.{List, [], _∷_, _++_, append-assoc, List·Memᴰ, List·Memᴰ·head, List·Memᴰ·tail}
 use Rattle.rule.specs.Memory.{each}
-use Rattle.rule.specs.Spelling.{In, here, there}
 use Rattle.rule.proofs.Drafts.{each-append, All}
 
 module _ {A : Type 0} where
-  pub all-in : (P : A → Type 0) {l : List A} {a : A} → In a l → All P l → P a
-  all-in P here h = h .0
-  all-in P (there i) h = all-in P i (h .1)
+  pub all-in : (P : A → Type 0) {l : List A} {a : A} → List·Memᴰ a l → All P l → P a
+  all-in P (List·Memᴰ·head e) h = subst P (sym e) (h .0)
+  all-in P (List·Memᴰ·tail i) h = all-in P i (h .1)
 
   pub all-map : (P Q : A → Type 0) (l : List A) → ((a : A) → P a → Q a) → All P l → All Q l
   all-map P Q [] f h = tt
   all-map P Q (a ∷ l) f h = (f a (h .0), all-map P Q l f (h .1))
 
   -- each member is one
-  pub all-own : (l : List A) → All (λ a. In a l) l
+  pub all-own : (l : List A) → All (λ a. List·Memᴰ a l) l
   all-own [] = tt
-  all-own (a ∷ l) = (here, all-map (λ b. In b l) (λ b. In b (a ∷ l)) l (λ b i. there i) (all-own l))
+  all-own (a ∷ l) = (List·Memᴰ·head refl, all-map (λ b. List·Memᴰ b l) (λ b. List·Memᴰ b (a ∷ l)) l (λ b i. List·Memᴰ·tail i) (all-own l))
 
 module _ {A B : Type 0} (f : A → B) where
   pub all-each : (P : B → Type 0) (l : List A) → All P (each f l) → All (λ a. P (f a)) l

@@ -1,7 +1,7 @@
 -- Names and numbers of a tree stand at tokens of the text; 4 and 5 by the reader's codes and capped values are 4 and 5 by letters
 -- and decimal values. Assumes nothing.
 use mathlib.Core.Path.{_≡_}
-use mathlib.Core.List.{List, []}
+use mathlib.Core.List.{List, [], List·Memᴰ}
 use Prim.Native.Nat.{ℕ}
 use Rattle.rule.specs.Class.{digit}
 use Rattle.rule.specs.Token.{nameKind, numberKind, tokens}
@@ -11,7 +11,7 @@ use Rattle.rule.specs.Judge.{first-name, first-number}
 use Rattle.rule.specs.Memory.{letters, codeAt, valueAt}
 use Rattle.rule.proofs.Codes.{Letters}
 use Rattle.rule.proofs.Runs.{OfClass}
-use Rattle.rule.specs.Spelling.{In, TokenOf, nameAt, numberAt, firstName, firstNumber}
+use Rattle.rule.specs.Spelling.{TokenOf, nameAt, numberAt, firstName, firstNumber}
 use Rattle.rule.proofs.SpellLists.{all-in}
 use Rattle.rule.proofs.SpellTokens
 use Rattle.rule.proofs.SpellNames
@@ -19,12 +19,12 @@ use Rattle.rule.proofs.SpellNumbers
 
 module _ (text : List ℕ) (x : Rule) where
   -- each name of a tree stands at a name token of the text, and its bytes are letters
-  pub names-lettered : yield x ≡ words (tokens text) → (n : Named) → In n (names x) → TokenOf text nameKind (nameAt n) × Letters (letters text (nameAt n))
+  pub names-lettered : yield x ≡ words (tokens text) → (n : Named) → List·Memᴰ n (names x) → TokenOf text nameKind (nameAt n) × Letters (letters text (nameAt n))
   names-lettered y n i =
       (all-in (λ m. TokenOf text nameKind (nameAt m)) i (SpellTokens.names-tokens text x y), all-in (λ m. Letters (letters text (nameAt m))) i (SpellTokens.names-lettered text x y))
 
   -- each number of a tree stands at a number token of the text, and its bytes are digits
-  pub numbers-digits : yield x ≡ words (tokens text) → (n : Sized) → In n (numbers x) → TokenOf text numberKind (numberAt n) × OfClass digit (letters text (numberAt n))
+  pub numbers-digits : yield x ≡ words (tokens text) → (n : Sized) → List·Memᴰ n (numbers x) → TokenOf text numberKind (numberAt n) × OfClass digit (letters text (numberAt n))
   numbers-digits y n i =
       (all-in (λ m. TokenOf text numberKind (numberAt m)) i (SpellTokens.numbers-tokens text x y), all-in (λ m. OfClass digit (letters text (numberAt m))) i (SpellTokens.numbers-digits text x y))
 

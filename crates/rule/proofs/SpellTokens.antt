@@ -1,7 +1,7 @@
 -- Names stand at name tokens and are letters, numbers stand at number tokens and are digits. Assumes nothing.
 use mathlib.Core.Path.{_≡_, refl, ap, sym, _∙_, subst}
 use mathlib.Core.Bool.{Bool, true, false, cond}
-use mathlib.Core.List.{List, [], _∷_}
+use mathlib.Core.List.{List, [], _∷_, List·Memᴰ}
 use Prim.Native.Nat.{ℕ, zero, suc}
 use native.Mathlib.Omega.{arith}
 use borrow.Author.Tests.{eqb-true}
@@ -16,7 +16,7 @@ use Rattle.rule.specs.declared.parts.Place.{Place}
 use Rattle.rule.proofs.Codes.{Letters}
 use Rattle.rule.proofs.Runs.{OfClass, word-letters, number-digits}
 use Rattle.rule.proofs.Runs as runs
-use Rattle.rule.specs.Spelling.{In, TokenOf, nameAt, numberAt}
+use Rattle.rule.specs.Spelling.{TokenOf, nameAt, numberAt}
 use Rattle.rule.proofs.Drafts.{All}
 use Rattle.rule.proofs.SpellLists.{all-in, all-map, all-own, all-each}
 use Rattle.rule.proofs.SpellWords.{namesIn, numbersIn, names-spelled, numbers-spelled}
@@ -43,7 +43,7 @@ module _ (P : Place → Type 0) where
 
 module _ (text : List ℕ) where
   owned : (k : ℕ) → All (λ t. t .kind ≡ k → TokenOf text k (place t)) (tokens text)
-  owned k = all-map (λ t. In t (tokens text)) (λ t. t .kind ≡ k → TokenOf text k (place t)) (tokens text) (λ t i e. record { token = t; listed = i; kind = e; placed = refl }) (all-own (tokens text))
+  owned k = all-map (λ t. List·Memᴰ t (tokens text)) (λ t. t .kind ≡ k → TokenOf text k (place t)) (tokens text) (λ t i e. record { token = t; listed = i; kind = e; placed = refl }) (all-own (tokens text))
 
   -- ---- a token of the text is the next one from some place on
   abbrev Found : Token → Type 0

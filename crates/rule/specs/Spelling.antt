@@ -4,7 +4,7 @@ use Prim.Native.Nat.{ℕ, suc}
 use mathlib.Core.Path.{_≡_}
 use mathlib.Core.Bool.{Bool, true, false, cond}
 use mathlib.Core.Option.{Option, none, some}
-use mathlib.Core.List.{List, [], _∷_, _++_}
+use mathlib.Core.List.{List, [], _∷_, _++_, List·Memᴰ}
 use lib.ListN.{length}
 use lib.Dec.{ltb, leb}
 use Rattle.rule.specs.Name.{nameLetters}
@@ -19,15 +19,10 @@ use Rattle.rule.specs.declared.parts.Place.{Place}
 use Rattle.rule.specs.declared.parts.Role.{Role}
 use Rattle.rule.specs.declared.parts.Role.the-variants.{Event, Note}
 
--- a is a member of the list
-pub data In {A : Type 0} (a : A) : List A → Type 0 where
-  here : {l : List A} → In a (a ∷ l)
-  there : {b : A} {l : List A} → In a l → In a (b ∷ l)
-
 -- p is the place of a token of the text, of kind k
 pub record TokenOf (text : List ℕ) (k : ℕ) (p : Place) : Type 0 where
   pub token : Token
-  pub listed : In token (tokens text)
+  pub listed : List·Memᴰ token (tokens text)
   pub kind : token .kind ≡ k
   pub placed : place token ≡ p
 
