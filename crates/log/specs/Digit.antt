@@ -1,11 +1,8 @@
 -- Digits 0-9 A-F. Assumes nothing: definitions.
 use Prim.Native.Nat.{ℕ, _+_, _-_}
-use mathlib.Core.Bool.{Bool, cond, _&&_}
-use lib.Dec.{leb, ltb}
-
--- b is one of lo to hi
-abbrev pub between : ℕ → ℕ → ℕ → Bool
-between lo hi b = leb lo b && leb b hi
+use mathlib.Core.Bool.{Bool, cond}
+use lib.Dec.{ltb}
+use Rattle.numbers.specs.Range.{between}
 
 -- "digits 0-9 A-F": the value of a digit, 16 for a byte that is no digit
 unfoldable pub digitValue : ℕ → ℕ

@@ -9,7 +9,8 @@ use borrow.Author.Tests.{eq-eqb, ne-eqb, eqb-true, leb-true}
 use lib.Dec.{eqb, leb}
 use lib.ListN.{length, take, drop, getD, length-drop}
 use lib.Seq.{getD-drop}
-use Rattle.rule.specs.Class.{letter, digit, blank, mark, foreign, between, isMarkByte, classOf, span}
+use Rattle.numbers.specs.Range.{between}
+use Rattle.rule.specs.Class.{letter, digit, blank, mark, foreign, isMarkByte, classOf, span}
 use Rattle.rule.specs.Token.{numberKind, wordKind, markOf, kindOf, widthOf, past, tokenHere, tokenAt, spelling}
 use Rattle.rule.proofs.Span.{span-stops}
 use Rattle.rule.proofs.Marks.{mark-high}

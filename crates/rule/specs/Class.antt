@@ -1,8 +1,9 @@
 -- Byte classes, from 'From rule text to frames' of document 01. Assumes nothing: definitions.
 use Prim.Native.Nat.{ℕ, suc}
-use mathlib.Core.Bool.{Bool, true, false, _&&_, _||_, cond}
+use mathlib.Core.Bool.{Bool, false, _||_, cond}
 use mathlib.Core.List.{List, [], _∷_}
-use lib.Dec.{leb, eqb}
+use lib.Dec.{eqb}
+use Rattle.numbers.specs.Range.{between}
 
 -- "lower-case letter, digit, blank (space, LF), mark, or foreign": each class has a number
 abbrev pub letter : ℕ
@@ -20,9 +21,7 @@ mark = 4
 abbrev pub foreign : ℕ
 foreign = 0
 
-abbrev pub between : ℕ → ℕ → ℕ → Bool
-between lo hi b = leb lo b && leb b hi
-
+-- b is one of the list
 abbrev pub among : List ℕ → ℕ → Bool
 among [] b = false
 among (x ∷ xs) b = eqb b x || among xs b
