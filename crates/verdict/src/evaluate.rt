@@ -5,6 +5,7 @@ use crate::arithmetic;
 use crate::judgements;
 use crate::kleene;
 use crate::stacks;
+use rule::FRAME_BYTES;
 use rule::Frame;
 ghost use mathlib.Core.Path.{_≡_};
 ghost use mathlib.Core.List.{List};
@@ -15,9 +16,6 @@ ghost use Rattle.rule.specs.Frames.{kindOf};
 ghost use Rattle.verdict.specs.Marks.{Judgeable};
 ghost use Rattle.verdict.specs.Pass.{withReference, passBy, judgementOf};
 ghost use Rattle.verdict.specs.Stacks.{passOf, Begun};
-
-// A frame has 8 bytes.
-const FRAME_BYTES: usize = 8;
 
 // The document's marks of a reference: 0 present, 1 pending, 2 void.
 const PRESENT: u8 = 0;
