@@ -16,9 +16,7 @@ use Rattle.rule.specs.Limits.{eventLimit}
 use Rattle.rule.specs.Frames.{Bytes}
 use Rattle.rule.specs.Tree.{Reference, Cond, references, LimitsR}
 use Rattle.rule.specs.Build.{treeOf}
-use Rattle.rule.specs.Check.{checkedOf}
 use Rattle.rule.specs.Opening.{Proper}
-use Rattle.rule.specs.declared.Checked.the-variants.{Accepted}
 use Rattle.rule.proofs.Main.{frames-exactly, tree-of}
 use Rattle.log.specs.Line.{lineOf}
 use Rattle.verdict.specs.Found.{instanceLimit, pending, occurrence}
@@ -35,7 +33,6 @@ use Rattle.checker.specs.Feed.{FeedRead, turned, skipped, taken, feedRea
 use Rattle.checker.specs.Pull.{PullRead, short, waits, gave, pullRead, PullResult, foundHere, pulledBy, pullDef}
 use Rattle.checker.specs.Machine.{atFirst}
 use Rattle.checker.specs.Demand.{Unrefused, fresh}
-use Rattle.checker.specs.declared.Totals.{Totals}
 use Rattle.checker.specs.declared.State.{State}
 use Rattle.checker.proofs.Choices.{cond-case, less-or, same-or, allTo-true}
 use Rattle.checker.proofs.Ring.{length-kept}

@@ -10,7 +10,6 @@ use Rattle.checker.specs.State.{withCount, stateFrames, refsIn, tallyIn}
 use Rattle.checker.specs.Parts.{stateOf, withCounts}
 use Rattle.checker.specs.Ring.{kept}
 use Rattle.checker.specs.Feed.{FeedRead, turned, skipped, taken, feedEvent, fedBy}
-use Rattle.checker.specs.Lows.{noBase}
 use Rattle.checker.specs.declared.State.{State}
 use Rattle.checker.specs.declared.feeding.Way.{Way}
 use Rattle.checker.proofs.CodeBase.{bytes-take}
