@@ -17,6 +17,7 @@ use Rattle.log.specs.declared.walk.Found.the-variants.{Line, End}
 use Rattle.log.proofs.Lines.{line-of-other}
 use Rattle.log.proofs.Walking.{endOf-within}
 use Rattle.checker.specs.Feed.{feedDef}
+use Rattle.checker.specs.Ready.{Ready}
 use Rattle.checker.specs.declared.State.{State}
 use Rattle.bench.specs.Kept.{keptLimit, kept}
 use Rattle.bench.specs.Print.{outBytes}
@@ -220,11 +221,12 @@ last-held x [] h = absurd (omega arith)
 last-held x (b ∷ bs) h = refl
 
 -- ---- what the loop over a chunk keeps
-pub record Walked (carry0 : List ℕ) (win0 : List ℤ) (out0 s : List ℕ) (q0 : Run) (carry : List ℕ) (win : List ℤ) (out : List ℕ) (q : Run) (at : ℕ) : Type 0 where
+pub record Walked (frames carry0 : List ℕ) (win0 : List ℤ) (out0 s : List ℕ) (q0 : Run) (carry : List ℕ) (win : List ℤ) (out : List ℕ) (q : Run) (at : ℕ) : Type 0 where
   pub within : at ≤ length s
+  pub ready : Ready frames (q .rest) (length win)
   pub full : q .full ≤ outBytes
   pub held : q .held ≤ keptLimit
   pub carry-long : length carry ≡ keptLimit
   pub win-long : length win ≡ length win0
   pub out-long : length out ≡ outBytes
-  pub same : AfterOpen (afterBytes (openOf q0 carry0 win0 out0) s) (afterBytes (openOf q carry win out) (drop at s))
+  pub same : AfterOpen (afterBytes (openOf frames q0 carry0 win0 out0) s) (afterBytes (openOf frames q carry win out) (drop at s))

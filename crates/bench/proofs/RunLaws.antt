@@ -8,12 +8,23 @@ use native.Mathlib.Decide.{decLt}
 use lib.IntN.{ℤ}
 use lib.ListN.{length, getD, take, drop, length-append}
 use lib.Seq.{sets, sets-eq, take-at, take-all, length-take-le}
-use Rattle.checker.specs.Limits.{reportLeast}
-use Rattle.checker.specs.Answer.{pullTold}
+use Rattle.rule.specs.Limits.{frameLimit, frameBytes}
+use Rattle.rule.specs.Frames.{Bytes}
+use Rattle.checker.specs.Limits.{windowWords, reportLeast}
+use Rattle.checker.specs.Answer.{pullTold, opened}
+use Rattle.checker.specs.State.{stateFrames}
+use Rattle.checker.specs.Parts.{stateOf}
+use Rattle.checker.specs.Open.{openDef}
+use Rattle.checker.specs.Good.{goodState}
+use Rattle.checker.specs.Demand.{Unrefused}
+use Rattle.checker.specs.Ready.{Ready}
 use Rattle.checker.specs.Feed.{feedDef}
 use Rattle.checker.specs.Pull.{pullDef}
 use Rattle.checker.specs.declared.PullAnswer.{PullAnswer}
 use Rattle.checker.specs.declared.State.{State}
+use Rattle.checker.specs.declared.apart.Rest.{Rest}
+use Rattle.checker.proofs.Fresh.{both-opened}
+use Rattle.checker.proofs.GoodStays.{good-open, good-feed, good-pull, feed-rule, pull-rule, feed-long}
 use Rattle.bench.specs.Print.{outBytes, reportPart}
 use Rattle.bench.specs.Progress.{Progress, blank, pullOf, printed, isVerdict, pulledOnce, pulls, pullLimit, countedBy, fedLine, afterLine, progressOf, roomy, Ends, before, After}
 use Rattle.bench.specs.declared.Run.{Run}
@@ -87,27 +98,65 @@ pub pulled-as : (x : Progress) (st : State) (said : List ℕ) → st ≡ pullOf 
 unfolding pulledOnce
 pulled-as x st said e f = record { written = f .written; same = rw (e, f .same); whole = f .whole }
 
+-- ---- a checker that 12 and 13 let through stays one
+module _ (frames : List ℕ) (rest rest′ : Rest) where
+  pub ready-pulled : (win : List ℤ) (report : List ℕ) → Ready frames rest (length win) → Bytes (stateFrames (stateOf frames rest))
+      → stateOf frames rest′ ≡ pullDef (stateOf frames rest) win report .state → Ready frames rest′ (length win)
+  ready-pulled win report r b e =
+      record {
+        long = r .long;
+        good = ap goodState e ∙ good-pull (stateOf frames rest) (r .good) b win report;
+        words = r .words ∙ ap windowWords (sym (ap (λ (s : State). s .width) e ∙ pull-rule (stateOf frames rest) win report .width));
+      }
+
+  pub ready-fed : (win win′ : List ℤ) (line : List ℕ) → Ready frames rest (length win) → stateOf frames rest′ ≡ feedDef (stateOf frames rest) win line .state
+      → win′ ≡ feedDef (stateOf frames rest) win line .words → Ready frames rest′ (length win′)
+  ready-fed win win′ line r e f =
+      record {
+        long = r .long;
+        good = ap goodState e ∙ good-feed (stateOf frames rest) (r .good) win line;
+        words =
+            ap length f ∙ feed-long (stateOf frames rest) (r .good) win line ∙ r .words
+            ∙ ap windowWords (sym (ap (λ (s : State). s .width) e ∙ feed-rule (stateOf frames rest) win line .width));
+      }
+
+-- so is what an opening gives
+pub ready-opened : (frames fs : List ℕ) (w : ℕ) (win win′ : List ℤ) (rest : Rest) → Bytes frames → openDef frames w win .answer ≡ opened
+    → length fs ≡ frameLimit * frameBytes → stateOf fs rest ≡ openDef frames w win .state → win′ ≡ openDef frames w win .words → Ready fs rest (length win′)
+ready-opened frames fs w win win′ rest b a l e f =
+    let o : Unrefused frames w win = record { bytes = b; answer = a } in
+    let m = both-opened o .sim in
+    record {
+      long = l;
+      good = ap goodState e ∙ good-open o;
+      words = ap length f ∙ m .long ∙ ap windowWords (sym (ap (λ (s : State). s .width) e ∙ m .width));
+    }
+
 -- one pull as the code makes it, whatever the answer
-pub pulled-arm : (r q : Run) (win : List ℤ) (out out′ report : List ℕ) (st : State) (full : ℕ) (more : Bool) (a : PullAnswer)
-    → q ≡ record { state = st; counts = r .counts; held = r .held; full = full; more = more }
-    → st ≡ pullDef (r .state) win report .state → pullTold a ≡ pullDef (r .state) win report .answer → report ≡ blank
+pub pulled-arm : (frames : List ℕ) (r q : Run) (win : List ℤ) (out out′ report : List ℕ) (rest : Rest) (full : ℕ) (more : Bool) (a : PullAnswer)
+    → q ≡ record { rest = rest; counts = r .counts; held = r .held; full = full; more = more }
+    → Ready frames (r .rest) (length win) → Bytes (stateFrames (stateOf frames (r .rest)))
+    → stateOf frames rest ≡ pullDef (stateOf frames (r .rest)) win report .state → pullTold a ≡ pullDef (stateOf frames (r .rest)) win report .answer → report ≡ blank
     → full ≤ outBytes → more ≡ isVerdict (pullTold a)
-    → Ends (take full out′) (take (r .full) out ++ printed (pullTold a) (pullDef (r .state) win report .report))
-    → (q .full ≤ outBytes) × ((q .held ≡ r .held) × ((q .more ≡ isVerdict (pullOf (progressOf r win out) .answer)) × After (pulledOnce (progressOf r win out)) (progressOf q win out′)))
-pulled-arm r q win out out′ report st full more a e f g b h m n =
-    let f′ : st ≡ pullDef (r .state) win blank .state = rw b at f in
-    let g′ : pullTold a ≡ pullDef (r .state) win blank .answer = rw b at g in
-    let n′ : Ends (take full out′) (take (r .full) out ++ printed (pullDef (r .state) win blank .answer) (pullDef (r .state) win blank .report)) = rw (b, g′) at n in
-    rw e (h, (refl, (m ∙ ap isVerdict g′, pulled-as (progressOf r win out) st (take full out′) f′ n′)))
+    → Ends (take full out′) (take (r .full) out ++ printed (pullTold a) (pullDef (stateOf frames (r .rest)) win report .report))
+    → Ready frames (q .rest) (length win)
+    × ((q .full ≤ outBytes) × ((q .held ≡ r .held) × ((q .more ≡ isVerdict (pullOf (progressOf frames r win out) .answer)) × After (pulledOnce (progressOf frames r win out)) (progressOf frames q win out′))))
+pulled-arm frames r q win out out′ report rest full more a e y z f g b h m n =
+    let f′ : stateOf frames rest ≡ pullDef (stateOf frames (r .rest)) win blank .state = rw b at f in
+    let g′ : pullTold a ≡ pullDef (stateOf frames (r .rest)) win blank .answer = rw b at g in
+    let n′ : Ends (take full out′) (take (r .full) out ++ printed (pullDef (stateOf frames (r .rest)) win blank .answer) (pullDef (stateOf frames (r .rest)) win blank .report)) = rw (b, g′) at n in
+    rw e (ready-pulled frames (r .rest) rest win report y z f, (h, (refl, (m ∙ ap isVerdict g′, pulled-as (progressOf frames r win out) (stateOf frames rest) (take full out′) f′ n′))))
 
 -- one that prints nothing
-pub pulled-quiet : (r q : Run) (win : List ℤ) (out report : List ℕ) (st : State) (more : Bool) (a : PullAnswer)
-    → q ≡ record { state = st; counts = r .counts; held = r .held; full = r .full; more = more }
-    → st ≡ pullDef (r .state) win report .state → pullTold a ≡ pullDef (r .state) win report .answer → report ≡ blank
-    → r .full ≤ outBytes → more ≡ isVerdict (pullTold a) → printed (pullTold a) (pullDef (r .state) win report .report) ≡ []
-    → (q .full ≤ outBytes) × ((q .held ≡ r .held) × ((q .more ≡ isVerdict (pullOf (progressOf r win out) .answer)) × After (pulledOnce (progressOf r win out)) (progressOf q win out)))
-pulled-quiet r q win out report st more a e f g b h m n =
-    pulled-arm r q win out out report st (r .full) more a e f g b h m (record { written = []; same = rw n (append-nil (take (r .full) out)); whole = λ d. refl })
+pub pulled-quiet : (frames : List ℕ) (r q : Run) (win : List ℤ) (out report : List ℕ) (rest : Rest) (more : Bool) (a : PullAnswer)
+    → q ≡ record { rest = rest; counts = r .counts; held = r .held; full = r .full; more = more }
+    → Ready frames (r .rest) (length win) → Bytes (stateFrames (stateOf frames (r .rest)))
+    → stateOf frames rest ≡ pullDef (stateOf frames (r .rest)) win report .state → pullTold a ≡ pullDef (stateOf frames (r .rest)) win report .answer → report ≡ blank
+    → r .full ≤ outBytes → more ≡ isVerdict (pullTold a) → printed (pullTold a) (pullDef (stateOf frames (r .rest)) win report .report) ≡ []
+    → Ready frames (q .rest) (length win)
+    × ((q .full ≤ outBytes) × ((q .held ≡ r .held) × ((q .more ≡ isVerdict (pullOf (progressOf frames r win out) .answer)) × After (pulledOnce (progressOf frames r win out)) (progressOf frames q win out))))
+pulled-quiet frames r q win out report rest more a e y z f g b h m n =
+    pulled-arm frames r q win out out report rest (r .full) more a e y z f g b h m (record { written = []; same = rw n (append-nil (take (r .full) out)); whole = λ d. refl })
 
 -- ---- what is printed only grows
 once-grows : (x : Progress) → length (x .said) ≤ length (pulledOnce x .said)
@@ -147,11 +196,11 @@ pull-end want x left true e p = rw e at p
 pull-end want x left false e p = p
 
 -- ---- a line
-pub fed-as : (r q : Run) (win win′ : List ℤ) (out line : List ℕ)
-    → q ≡ record { state = feedDef (r .state) win line .state; counts = countedBy (feedDef (r .state) win line .answer) (r .counts); held = r .held; full = r .full; more = r .more }
-    → win′ ≡ feedDef (r .state) win line .words → progressOf q win′ out ≡ fedLine (progressOf r win out) line
+pub fed-as : (frames : List ℕ) (r q : Run) (win win′ : List ℤ) (out line : List ℕ) → stateOf frames (q .rest) ≡ feedDef (stateOf frames (r .rest)) win line .state
+    → q .counts ≡ countedBy (feedDef (stateOf frames (r .rest)) win line .answer) (r .counts) → q .full ≡ r .full
+    → win′ ≡ feedDef (stateOf frames (r .rest)) win line .words → progressOf frames q win′ out ≡ fedLine (progressOf frames r win out) line
 unfolding fedLine
-fed-as r q win win′ out line e f = rw (e, f)
+fed-as frames r q win win′ out line e k n f = rw (e, k, n, f)
 
 pub line-before : (w : List ℕ) (x : Progress) (line : List ℕ) → afterLine (before w x) line ≡ before w (afterLine x line)
 unfolding fedLine

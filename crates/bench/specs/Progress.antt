@@ -9,6 +9,7 @@ use lib.ListN.{length, take, replicate}
 use Rattle.verdict.specs.declared.Truth.the-variants.{True, False, Unknown}
 use Rattle.checker.specs.Limits.{reportLeast}
 use Rattle.checker.specs.Answer.{Answer, opened, accepted, ignored, waiting, verdict, refused}
+use Rattle.checker.specs.Parts.{stateOf}
 use Rattle.checker.specs.Feed.{FeedResult, feedDef}
 use Rattle.checker.specs.Pull.{PullResult, pullDef}
 use Rattle.checker.specs.declared.State.{State}
@@ -133,9 +134,9 @@ abbrev pub atEnd : Open → Progress
 atEnd o = lastLine (o .progress) (o .held)
 
 -- ---- what the code carries
--- a run's progress, with what waits in its output buffer as all that was printed
-abbrev pub progressOf : Run → List ℤ → List ℕ → Progress
-progressOf r win out = record { state = r .state; words = win; counts = r .counts; said = take (r .full) out }
+-- a run's progress with the checker's frames, with what waits in its output buffer as all that was printed
+abbrev pub progressOf : List ℕ → Run → List ℤ → List ℕ → Progress
+progressOf frames r win out = record { state = stateOf frames (r .rest); words = win; counts = r .counts; said = take (r .full) out }
 
 -- with at most so many bytes waiting there is room for every line, and nothing is written out
 abbrev pub roomy : ℕ
@@ -158,8 +159,8 @@ pub record After (want got : Progress) : Type 0 where
   pub whole : length (want .said) ≤ roomy → written ≡ []
 
 -- a run with the bytes of a cut line that it holds
-abbrev pub openOf : Run → List ℕ → List ℤ → List ℕ → Open
-openOf r carry win out = record { progress = progressOf r win out; held = take (r .held) carry }
+abbrev pub openOf : List ℕ → Run → List ℕ → List ℤ → List ℕ → Open
+openOf frames r carry win out = record { progress = progressOf frames r win out; held = take (r .held) carry }
 
 -- the same with a cut line
 pub record AfterOpen (want got : Open) : Type 0 where

@@ -5,7 +5,7 @@ mod hex; // hex.rt: hexadecimal lines
 mod step; // step.rt: one line, and the pulls after it
 
 use checker::OpenAnswer;
-use checker::State;
+use checker::Rest;
 use libc::STDIN_FILENO;
 use libc::STDOUT_FILENO;
 use log::walk::Found;
@@ -15,6 +15,7 @@ ghost use mathlib.Core.Path.{_≡_};
 ghost use mathlib.Core.List.{_++_};
 ghost use Prim.Native.Nat.{_≤_};
 ghost use lib.ListN.{length, take};
+ghost use Rattle.checker.specs.Ready.{Ready};
 ghost use Rattle.bench.specs.Print.{outBytes, totalsLine};
 ghost use Rattle.bench.specs.Kept.{keptLimit};
 ghost use Rattle.bench.specs.Progress.{afterLine, afterBytes, atEnd, progressOf, Ends, After, openOf, AfterOpen};
@@ -26,10 +27,10 @@ pub struct Counts {
     pub refused: u32,
 }
 
-// What is carried from line to line beside the window and the two buffers: the checker's state, the counts, how many bytes of a
-// cut line are held, how many bytes of output wait, and whether there is more to do.
+// What is carried from line to line beside the frames, the window and the two buffers: the rest of the checker's state, the
+// counts, how many bytes of a cut line are held, how many bytes of output wait, and whether there is more to do.
 pub struct Run {
-    pub state: State,
+    pub rest: Rest,
     pub counts: Counts,
     pub held: usize,
     pub full: usize,
@@ -43,24 +44,38 @@ const FRAME_BYTES: usize = 8;
 const WIDTH: u32 = 64;
 
 // A line that ends in a chunk: with what is held of it, where something is.
-fn ended(r: Run, carry: &mut [u8], window: &mut [i32], out: &mut [u8], part: &[u8]) -> Run
-    requires { ⌜ (r .full ≤ outBytes) × ((r .held ≤ keptLimit) × ((length (now carry) ≡ keptLimit) × (length (now out) ≡ outBytes))) ⌝ }
-    ensures { λ q. ⌜ (q .full ≤ outBytes) × ((q .held ≡ 0) × After (afterLine (progressOf r (now (window .entry)) (now (out .entry))) (take (r .held) (now (carry .entry)) ++ now (part .entry))) (progressOf q (now (window .exit)) (now (out .exit)))) ⌝ }
+fn ended(
+    frames: &[u8],
+    r: Run,
+    carry: &mut [u8],
+    window: &mut [i32],
+    out: &mut [u8],
+    part: &[u8],
+) -> Run
+    requires { ⌜ Ready (now frames) (r .rest) (length (now window)) × ((r .full ≤ outBytes) × ((r .held ≤ keptLimit) × ((length (now carry) ≡ keptLimit) × (length (now out) ≡ outBytes)))) ⌝ }
+    ensures { λ q. ⌜ Ready (now (frames .entry)) (q .rest) (length (now (window .exit))) × ((q .full ≤ outBytes) × ((q .held ≡ 0) × After (afterLine (progressOf (now (frames .entry)) r (now (window .entry)) (now (out .entry))) (take (r .held) (now (carry .entry)) ++ now (part .entry))) (progressOf (now (frames .entry)) q (now (window .exit)) (now (out .exit))))) ⌝ }
 {
     let held = r.held;
     if held == 0 {
-        return step::one_line(r, window, out, part);
+        return step::one_line(frames, r, window, out, part);
     }
     let n = cut::keep(carry, held, part);
-    let mut q = step::one_line(r, window, out, &carry[..n]);
+    let mut q = step::one_line(frames, r, window, out, &carry[..n]);
     q.held = 0;
     q
 }
 
 // The lines that end in a chunk; what is left of the last is held.
-fn chunk(r: Run, carry: &mut [u8], window: &mut [i32], out: &mut [u8], s: &[u8]) -> Run
-    requires { ⌜ (r .full ≤ outBytes) × ((r .held ≤ keptLimit) × ((length (now carry) ≡ keptLimit) × (length (now out) ≡ outBytes))) ⌝ }
-    ensures { λ q. ⌜ (q .full ≤ outBytes) × ((q .held ≤ keptLimit) × AfterOpen (afterBytes (openOf r (now (carry .entry)) (now (window .entry)) (now (out .entry))) (now (s .entry))) (openOf q (now (carry .exit)) (now (window .exit)) (now (out .exit)))) ⌝ }
+fn chunk(
+    frames: &[u8],
+    r: Run,
+    carry: &mut [u8],
+    window: &mut [i32],
+    out: &mut [u8],
+    s: &[u8],
+) -> Run
+    requires { ⌜ Ready (now frames) (r .rest) (length (now window)) × ((r .full ≤ outBytes) × ((r .held ≤ keptLimit) × ((length (now carry) ≡ keptLimit) × (length (now out) ≡ outBytes)))) ⌝ }
+    ensures { λ q. ⌜ Ready (now (frames .entry)) (q .rest) (length (now (window .exit))) × ((q .full ≤ outBytes) × ((q .held ≤ keptLimit) × AfterOpen (afterBytes (openOf (now (frames .entry)) r (now (carry .entry)) (now (window .entry)) (now (out .entry))) (now (s .entry))) (openOf (now (frames .entry)) q (now (carry .exit)) (now (window .exit)) (now (out .exit))))) ⌝ }
 {
     let mut q = r;
     let mut at = 0;
@@ -69,7 +84,7 @@ fn chunk(r: Run, carry: &mut [u8], window: &mut [i32], out: &mut [u8], s: &[u8])
             return q;
         };
         if end < next {
-            q = ended(q, carry, window, out, &s[start..end]);
+            q = ended(frames, q, carry, window, out, &s[start..end]);
             at = next;
         } else {
             let held = q.held;
@@ -82,9 +97,9 @@ fn chunk(r: Run, carry: &mut [u8], window: &mut [i32], out: &mut [u8], s: &[u8])
 
 // One read, and the lines that end in it. The end of the input and a read that fails end the log. Proved safe only: no contract
 // can say what is read.
-fn turn(r: Run, carry: &mut [u8], window: &mut [i32], out: &mut [u8]) -> Run
-    requires { ⌜ (r .full ≤ outBytes) × ((r .held ≤ keptLimit) × ((length (now carry) ≡ keptLimit) × (length (now out) ≡ outBytes))) ⌝ }
-    ensures { λ q. ⌜ (q .full ≤ outBytes) × (q .held ≤ keptLimit) ⌝ }
+fn turn(frames: &[u8], r: Run, carry: &mut [u8], window: &mut [i32], out: &mut [u8]) -> Run
+    requires { ⌜ Ready (now frames) (r .rest) (length (now window)) × ((r .full ≤ outBytes) × ((r .held ≤ keptLimit) × ((length (now carry) ≡ keptLimit) × (length (now out) ≡ outBytes)))) ⌝ }
+    ensures { λ q. ⌜ Ready (now (frames .entry)) (q .rest) (length (now (window .exit))) × ((q .full ≤ outBytes) × (q .held ≤ keptLimit)) ⌝ }
 {
     let mut buf = [0u8; 65536];
     let got = libc::read(STDIN_FILENO, &mut buf);
@@ -94,45 +109,46 @@ fn turn(r: Run, carry: &mut [u8], window: &mut [i32], out: &mut [u8]) -> Run
         return q;
     }
     let n = io::count(got, &buf);
-    let mut q = chunk(r, carry, window, out, &buf[..n]);
+    let mut q = chunk(frames, r, carry, window, out, &buf[..n]);
     q.more = true;
     q
 }
 
 // The log has ended: what is held is a line.
-fn last(r: Run, carry: &[u8], window: &mut [i32], out: &mut [u8]) -> Run
-    requires { ⌜ (r .full ≤ outBytes) × ((r .held ≤ keptLimit) × ((length (now carry) ≡ keptLimit) × (length (now out) ≡ outBytes))) ⌝ }
-    ensures { λ q. ⌜ (q .full ≤ outBytes) × After (atEnd (openOf r (now (carry .entry)) (now (window .entry)) (now (out .entry)))) (progressOf q (now (window .exit)) (now (out .exit))) ⌝ }
+fn last(frames: &[u8], r: Run, carry: &[u8], window: &mut [i32], out: &mut [u8]) -> Run
+    requires { ⌜ Ready (now frames) (r .rest) (length (now window)) × ((r .full ≤ outBytes) × ((r .held ≤ keptLimit) × ((length (now carry) ≡ keptLimit) × (length (now out) ≡ outBytes)))) ⌝ }
+    ensures { λ q. ⌜ (q .full ≤ outBytes) × After (atEnd (openOf (now (frames .entry)) r (now (carry .entry)) (now (window .entry)) (now (out .entry)))) (progressOf (now (frames .entry)) q (now (window .exit)) (now (out .exit))) ⌝ }
 {
     let held = r.held;
     if held == 0 {
         return r;
     }
-    step::one_line(r, window, out, &carry[..held])
+    step::one_line(frames, r, window, out, &carry[..held])
 }
 
 // Reads the log to its end. Proved safe only: the input need not end.
-fn all(r: Run, carry: &mut [u8], window: &mut [i32], out: &mut [u8]) -> Run
-    requires { ⌜ (r .full ≤ outBytes) × ((r .held ≤ keptLimit) × ((length (now carry) ≡ keptLimit) × (length (now out) ≡ outBytes))) ⌝ }
+fn all(frames: &[u8], r: Run, carry: &mut [u8], window: &mut [i32], out: &mut [u8]) -> Run
+    requires { ⌜ Ready (now frames) (r .rest) (length (now window)) × ((r .full ≤ outBytes) × ((r .held ≤ keptLimit) × ((length (now carry) ≡ keptLimit) × (length (now out) ≡ outBytes)))) ⌝ }
     ensures { λ q. ⌜ q .full ≤ outBytes ⌝ }
 {
     let mut q = r;
     q.more = true;
     let mut turns = u64::MAX;
     while turns > 0 && q.more {
-        q = turn(q, carry, window, out);
+        q = turn(frames, q, carry, window, out);
         turns -= 1;
     }
-    last(q, carry, window, out)
+    last(frames, q, carry, window, out)
 }
 
 // The totals behind what waits; answers how many bytes then wait.
 fn put_end(r: Run, out: &mut [u8]) -> usize
     requires { ⌜ (r .full ≤ outBytes) × (length (now out) ≡ outBytes) ⌝ }
-    ensures { λ n. ⌜ (n ≤ outBytes) × Ends (take n (now (out .exit))) (take (r .full) (now (out .entry)) ++ totalsLine (r .state .totals) (r .counts)) ⌝ }
+    ensures { λ n. ⌜ (n ≤ outBytes) × Ends (take n (now (out .exit))) (take (r .full) (now (out .entry)) ++ totalsLine (r .rest .totals) (r .counts)) ⌝ }
 {
     let full = r.full;
-    let totals = r.state.totals;
+    let rest = r.rest;
+    let totals = rest.totals;
     let counts = r.counts;
     let at = step::make_room(out, full);
     hex::put_totals(out, at, totals, counts)
@@ -147,8 +163,8 @@ fn finish(r: Run, out: &mut [u8])
 }
 
 // A checker's whole run over the log.
-fn run_log(state: State, carry: &mut [u8], window: &mut [i32], out: &mut [u8])
-    requires { ⌜ (length (now carry) ≡ keptLimit) × (length (now out) ≡ outBytes) ⌝ }
+fn run_log(frames: &[u8], rest: Rest, carry: &mut [u8], window: &mut [i32], out: &mut [u8])
+    requires { ⌜ Ready (now frames) rest (length (now window)) × ((length (now carry) ≡ keptLimit) × (length (now out) ≡ outBytes)) ⌝ }
 {
     let counts = Counts {
         accepted: 0,
@@ -156,22 +172,24 @@ fn run_log(state: State, carry: &mut [u8], window: &mut [i32], out: &mut [u8])
         refused: 0,
     };
     let first = Run {
-        state,
+        rest,
         counts,
         held: 0,
         full: 0,
         more: true,
     };
-    let r = step::pull_all(first, window, out);
-    let q = all(r, carry, window, out);
+    let r = step::pull_all(frames, first, window, out);
+    let q = all(frames, r, carry, window, out);
     finish(q, out);
 }
 
 // The same, with buffers of its own.
-fn run_with(state: State, window: &mut [i32]) {
+fn run_with(frames: &[u8], rest: Rest, window: &mut [i32])
+    requires { ⌜ Ready (now frames) rest (length (now window)) ⌝ }
+{
     let mut carry = [0u8; 35];
     let mut out = [0u8; 65536];
-    run_log(state, &mut carry, window, &mut out);
+    run_log(frames, rest, &mut carry, window, &mut out);
 }
 
 // The line of a refused rule.
@@ -181,20 +199,26 @@ fn say_refused(r: Refusal) {
     io::write_all(STDOUT_FILENO, &line[..n]);
 }
 
-// A rule's frames are opened and run.
-fn run_frames(frames: &[u8]) {
-    let mut window = [0i32; 2048];
-    let opened = checker::open(frames, WIDTH, &mut window);
+// A rule's frames are opened with a window and run.
+fn run_in(frames: &[u8], window: &mut [i32]) {
+    let opened = checker::open(frames, WIDTH, window);
     let state = opened.state;
     let answer = opened.answer;
     match answer {
         OpenAnswer::Opened => {
-            run_with(state, &mut window);
+            let rest = checker::rest_of(state);
+            run_with(&state.frames, rest, window);
         }
         OpenAnswer::Refused(r) => {
             say_refused(r);
         }
     }
+}
+
+// The same, with a window of its own.
+fn run_frames(frames: &[u8]) {
+    let mut window = [0i32; 2048];
+    run_in(frames, &mut window);
 }
 
 // The first frames of a buffer.

@@ -4,7 +4,8 @@ use crate::Run;
 use crate::hex;
 use checker::FeedAnswer;
 use checker::PullAnswer;
-use checker::State;
+use checker::Rest;
+use checker::Turn;
 use libc::STDOUT_FILENO;
 ghost use mathlib.Core.Path.{_≡_};
 ghost use mathlib.Core.List.{_++_};
@@ -12,9 +13,11 @@ ghost use Prim.Native.Nat.{_+_, _*_, _≤_, min};
 ghost use lib.ListN.{length, take};
 ghost use Rattle.checker.specs.Limits.{reportLeast};
 ghost use Rattle.checker.specs.Answer.{feedTold};
+ghost use Rattle.checker.specs.Parts.{stateOf};
 ghost use Rattle.checker.specs.Feed.{feedDef};
+ghost use Rattle.checker.specs.Ready.{Ready};
 ghost use Rattle.bench.specs.Print.{outBytes, hexLine, reportPart};
-ghost use Rattle.bench.specs.Progress.{blank, pullOf, isVerdict, pulledOnce, pulls, pullLimit, countedBy, fedLine, afterLine, progressOf, roomy, Ends, After};
+ghost use Rattle.bench.specs.Progress.{blank, pullOf, isVerdict, pulledOnce, pulls, pullLimit, countedBy, afterLine, progressOf, roomy, Ends, After};
 
 // With so many bytes waiting there is room for every line.
 const ROOMY: usize = 65200;
@@ -56,13 +59,24 @@ fn say_report(out: &mut [u8], full: usize, report: &[u8]) -> usize
     hex::put_line(out, at, &report[..n])
 }
 
-// A run with another state.
-fn with_state(r: Run, state: State, full: usize, more: bool) -> Run
-    ensures { λ q. ⌜ q ≡ record { state = state; counts = r .counts; held = r .held; full = full; more = more } ⌝ }
+// A run after a pull.
+fn with_turn(r: Run, turn: Turn, full: usize, more: bool) -> Run
+    ensures { λ q. ⌜ q ≡ record { rest = record { len = r .rest .len; width = r .rest .width; counts = r .rest .counts; next = turn .next; totals = turn .totals }; counts = r .counts; held = r .held; full = full; more = more } ⌝ }
 {
+    let before = r.rest;
+    let lines = before.counts;
+    let next = turn.next;
+    let totals = turn.totals;
+    let rest = Rest {
+        len: before.len,
+        width: before.width,
+        counts: lines,
+        next,
+        totals,
+    };
     let counts = r.counts;
     Run {
-        state,
+        rest,
         counts,
         held: r.held,
         full,
@@ -71,46 +85,45 @@ fn with_state(r: Run, state: State, full: usize, more: bool) -> Run
 }
 
 // One pull into a report buffer of zeros.
-fn pull_into(r: Run, window: &[i32], out: &mut [u8], report: &mut [u8]) -> Run
-    requires { ⌜ (r .full ≤ outBytes) × ((length (now out) ≡ outBytes) × (now report ≡ blank)) ⌝ }
-    ensures { λ q. ⌜ (q .full ≤ outBytes) × ((q .held ≡ r .held) × ((q .more ≡ isVerdict (pullOf (progressOf r (now (window .entry)) (now (out .entry))) .answer)) × After (pulledOnce (progressOf r (now (window .entry)) (now (out .entry)))) (progressOf q (now (window .entry)) (now (out .exit))))) ⌝ }
+fn pull_into(frames: &[u8], r: Run, window: &[i32], out: &mut [u8], report: &mut [u8]) -> Run
+    requires { ⌜ Ready (now frames) (r .rest) (length (now window)) × ((r .full ≤ outBytes) × ((length (now out) ≡ outBytes) × (now report ≡ blank))) ⌝ }
+    ensures { λ q. ⌜ Ready (now (frames .entry)) (q .rest) (length (now (window .entry))) × ((q .full ≤ outBytes) × ((q .held ≡ r .held) × ((q .more ≡ isVerdict (pullOf (progressOf (now (frames .entry)) r (now (window .entry)) (now (out .entry))) .answer)) × After (pulledOnce (progressOf (now (frames .entry)) r (now (window .entry)) (now (out .entry)))) (progressOf (now (frames .entry)) q (now (window .entry)) (now (out .exit)))))) ⌝ }
 {
-    let state = r.state;
+    let rest = r.rest;
     let full = r.full;
-    let pulled = checker::pull(state, window, report);
-    let next = pulled.state;
-    let answer = pulled.answer;
+    let turn = checker::pull_good(frames, rest, window, report);
+    let answer = turn.answer;
     match answer {
-        PullAnswer::True => with_state(r, next, full, true),
+        PullAnswer::True => with_turn(r, turn, full, true),
         PullAnswer::False => {
             let end = say_report(out, full, report);
-            with_state(r, next, end, true)
+            with_turn(r, turn, end, true)
         }
-        PullAnswer::Unknown => with_state(r, next, full, true),
-        PullAnswer::Waiting => with_state(r, next, full, false),
-        PullAnswer::Refused(_) => with_state(r, next, full, false),
+        PullAnswer::Unknown => with_turn(r, turn, full, true),
+        PullAnswer::Waiting => with_turn(r, turn, full, false),
+        PullAnswer::Refused(_) => with_turn(r, turn, full, false),
     }
 }
 
 // One pull.
-fn pull_once(r: Run, window: &[i32], out: &mut [u8]) -> Run
-    requires { ⌜ (r .full ≤ outBytes) × (length (now out) ≡ outBytes) ⌝ }
-    ensures { λ q. ⌜ (q .full ≤ outBytes) × ((q .held ≡ r .held) × ((q .more ≡ isVerdict (pullOf (progressOf r (now (window .entry)) (now (out .entry))) .answer)) × After (pulledOnce (progressOf r (now (window .entry)) (now (out .entry)))) (progressOf q (now (window .entry)) (now (out .exit))))) ⌝ }
+fn pull_once(frames: &[u8], r: Run, window: &[i32], out: &mut [u8]) -> Run
+    requires { ⌜ Ready (now frames) (r .rest) (length (now window)) × ((r .full ≤ outBytes) × (length (now out) ≡ outBytes)) ⌝ }
+    ensures { λ q. ⌜ Ready (now (frames .entry)) (q .rest) (length (now (window .entry))) × ((q .full ≤ outBytes) × ((q .held ≡ r .held) × ((q .more ≡ isVerdict (pullOf (progressOf (now (frames .entry)) r (now (window .entry)) (now (out .entry))) .answer)) × After (pulledOnce (progressOf (now (frames .entry)) r (now (window .entry)) (now (out .entry)))) (progressOf (now (frames .entry)) q (now (window .entry)) (now (out .exit)))))) ⌝ }
 {
     let mut report = [0u8; 166];
-    pull_into(r, window, out, &mut report)
+    pull_into(frames, r, window, out, &mut report)
 }
 
 // Pulls until waiting.
-pub fn pull_all(r: Run, window: &[i32], out: &mut [u8]) -> Run
-    requires { ⌜ (r .full ≤ outBytes) × (length (now out) ≡ outBytes) ⌝ }
-    ensures { λ q. ⌜ (q .full ≤ outBytes) × ((q .held ≡ r .held) × After (pulls pullLimit (progressOf r (now (window .entry)) (now (out .entry)))) (progressOf q (now (window .entry)) (now (out .exit)))) ⌝ }
+pub fn pull_all(frames: &[u8], r: Run, window: &[i32], out: &mut [u8]) -> Run
+    requires { ⌜ Ready (now frames) (r .rest) (length (now window)) × ((r .full ≤ outBytes) × (length (now out) ≡ outBytes)) ⌝ }
+    ensures { λ q. ⌜ Ready (now (frames .entry)) (q .rest) (length (now (window .entry))) × ((q .full ≤ outBytes) × ((q .held ≡ r .held) × After (pulls pullLimit (progressOf (now (frames .entry)) r (now (window .entry)) (now (out .entry)))) (progressOf (now (frames .entry)) q (now (window .entry)) (now (out .exit))))) ⌝ }
 {
     let mut q = r;
     q.more = true;
     let mut left = PULLS;
     while left > 0 && q.more {
-        q = pull_once(q, window, out);
+        q = pull_once(frames, q, window, out);
         left -= 1;
     }
     q
@@ -140,17 +153,27 @@ fn counted(c: Counts, answer: FeedAnswer) -> Counts
 }
 
 // Feeds a line and counts its answer.
-fn feed_line(r: Run, window: &mut [i32], line: &[u8]) -> Run
-    ensures { λ q. ⌜ (q ≡ record { state = feedDef (r .state) (now (window .entry)) (now (line .entry)) .state; counts = countedBy (feedDef (r .state) (now (window .entry)) (now (line .entry)) .answer) (r .counts); held = r .held; full = r .full; more = r .more }) × (now (window .exit) ≡ feedDef (r .state) (now (window .entry)) (now (line .entry)) .words) ⌝ }
+fn feed_line(frames: &[u8], r: Run, window: &mut [i32], line: &[u8]) -> Run
+    requires { ⌜ Ready (now frames) (r .rest) (length (now window)) ⌝ }
+    ensures { λ q. ⌜ Ready (now (frames .entry)) (q .rest) (length (now (window .exit))) × ((stateOf (now (frames .entry)) (q .rest) ≡ feedDef (stateOf (now (frames .entry)) (r .rest)) (now (window .entry)) (now (line .entry)) .state) × ((q .counts ≡ countedBy (feedDef (stateOf (now (frames .entry)) (r .rest)) (now (window .entry)) (now (line .entry)) .answer) (r .counts)) × ((q .held ≡ r .held) × ((q .full ≡ r .full) × ((q .more ≡ r .more) × (now (window .exit) ≡ feedDef (stateOf (now (frames .entry)) (r .rest)) (now (window .entry)) (now (line .entry)) .words)))))) ⌝ }
 {
-    let state = r.state;
-    let before = r.counts;
-    let fed = checker::feed(state, window, line);
-    let next = fed.state;
-    let answer = fed.answer;
-    let counts = counted(before, answer);
+    let before = r.rest;
+    let way = checker::feed_good(frames, before, window, line);
+    let lines = way.counts;
+    let answer = way.answer;
+    let next = before.next;
+    let totals = before.totals;
+    let rest = Rest {
+        len: before.len,
+        width: before.width,
+        counts: lines,
+        next,
+        totals,
+    };
+    let told = r.counts;
+    let counts = counted(told, answer);
     Run {
-        state: next,
+        rest,
         counts,
         held: r.held,
         full: r.full,
@@ -159,10 +182,10 @@ fn feed_line(r: Run, window: &mut [i32], line: &[u8]) -> Run
 }
 
 // One line of the log, without its LF.
-pub fn one_line(r: Run, window: &mut [i32], out: &mut [u8], line: &[u8]) -> Run
-    requires { ⌜ (r .full ≤ outBytes) × (length (now out) ≡ outBytes) ⌝ }
-    ensures { λ q. ⌜ (q .full ≤ outBytes) × ((q .held ≡ r .held) × After (afterLine (progressOf r (now (window .entry)) (now (out .entry))) (now (line .entry))) (progressOf q (now (window .exit)) (now (out .exit)))) ⌝ }
+pub fn one_line(frames: &[u8], r: Run, window: &mut [i32], out: &mut [u8], line: &[u8]) -> Run
+    requires { ⌜ Ready (now frames) (r .rest) (length (now window)) × ((r .full ≤ outBytes) × (length (now out) ≡ outBytes)) ⌝ }
+    ensures { λ q. ⌜ Ready (now (frames .entry)) (q .rest) (length (now (window .exit))) × ((q .full ≤ outBytes) × ((q .held ≡ r .held) × After (afterLine (progressOf (now (frames .entry)) r (now (window .entry)) (now (out .entry))) (now (line .entry))) (progressOf (now (frames .entry)) q (now (window .exit)) (now (out .exit))))) ⌝ }
 {
-    let q = feed_line(r, window, line);
-    pull_all(q, window, out)
+    let q = feed_line(frames, r, window, line);
+    pull_all(frames, q, window, out)
 }

@@ -64,7 +64,7 @@ passed frames w win h =
     record { accepted = q .0; width = q .1 .0; result = q .1 .1 }
 
 -- ---- accepted frames
-within-member : (rs : List Reference) → AllWithin rs → (r : Reference) → List·Memᴰ r rs → LimitsR r
+pub within-member : (rs : List Reference) → AllWithin rs → (r : Reference) → List·Memᴰ r rs → LimitsR r
 within-member [] a r m = elim m [ ]
 within-member (x ∷ xs) a r m =
     ⊎-elim

@@ -19,6 +19,7 @@ pub mod CodeBase
 pub mod CodeRing
 pub mod CodeGood
 pub mod CodeFeed
+pub mod GoodStays
 pub mod Main
 pub mod PullBits
 pub mod PullFound

@@ -28,9 +28,10 @@ use Rattle.verdict.specs.declared.Truth.the-variants.{Unknown}
 use Rattle.checker.specs.Limits.{widthLimit, windowWords, lineLimit, reportLeast}
 use Rattle.checker.specs.Answer.{opened, accepted, waiting, verdict, refused}
 use Rattle.checker.specs.Base.{referenced, base, firstInstance}
-use Rattle.checker.specs.State.{tallyIn, zeroState}
+use Rattle.checker.specs.State.{tallyIn, stateFrames, zeroState}
 use Rattle.checker.specs.Ring.{wordAt}
 use Rattle.checker.specs.Open.{openDef}
+use Rattle.checker.specs.Good.{goodState}
 use Rattle.checker.specs.Feed.{feedDef}
 use Rattle.checker.specs.Pull.{pullDef}
 use Rattle.checker.specs.Calls.{Call, Out, outs, checker}
@@ -46,6 +47,7 @@ use Rattle.checker.proofs.Exactly
 use Rattle.checker.proofs.Agree
 use Rattle.checker.proofs.Order
 use Rattle.checker.proofs.Unchanged
+use Rattle.checker.proofs.GoodStays
 
 -- ---- a list of calls, whatever its lines and report buffers, from an unrefused opening, whatever W
 module _ {frames : List ℕ} {w : ℕ} {win : List ℤ} (o : Unrefused frames w win) (cs : List Call) where
@@ -147,3 +149,24 @@ zero-feed = Exactly.zero-feed
 
 pub zero-pull : (win : List ℤ) (buffer : List ℕ) → pullDef zeroState win buffer .answer ≡ refused 12 0
 zero-pull = Exactly.zero-pull
+
+-- ---- a state that 12 lets through stays one, whatever is fed and pulled, and an unrefused opening gives one; a state's frames
+-- are bytes, as an array of them is
+pub good-stays-open : {frames : List ℕ} {w : ℕ} {win : List ℤ} → Unrefused frames w win → goodState (openDef frames w win .state) ≡ true
+good-stays-open = GoodStays.good-open
+
+pub good-stays-feed : (s : State) → goodState s ≡ true → (win : List ℤ) (line : List ℕ) → goodState (feedDef s win line .state) ≡ true
+good-stays-feed = GoodStays.good-feed
+
+pub good-stays-pull : (s : State) → goodState s ≡ true → Bytes (stateFrames s) → (win : List ℤ) (buffer : List ℕ) → goodState (pullDef s win buffer .state) ≡ true
+good-stays-pull = GoodStays.good-pull
+
+-- the frames and W stay, and the window keeps its length
+pub feed-keeps : (s : State) (win : List ℤ) (line : List ℕ) → GoodStays.SameRule s (feedDef s win line .state)
+feed-keeps = GoodStays.feed-rule
+
+pub pull-keeps : (s : State) (win : List ℤ) (buffer : List ℕ) → GoodStays.SameRule s (pullDef s win buffer .state)
+pull-keeps = GoodStays.pull-rule
+
+pub feed-long : (s : State) → goodState s ≡ true → (win : List ℤ) (line : List ℕ) → length (feedDef s win line .words) ≡ length win
+feed-long = GoodStays.feed-long

@@ -102,12 +102,12 @@ good-tally refs w m i =
     (rw (le-leb (m .next) instanceLimit (i .low)) (eq-eqb (sumOf (m .totals)) (m .next) (i .sum)))
 
 -- ---- what is known of a line that is taken
-abbrev Took : List Reference → ℕ → Tally → FeedRead → Type 0
+abbrev pub Took : List Reference → ℕ → Tally → FeedRead → Type 0
 Took refs w t (turned number place) = Unit {0}
 Took refs w t skipped = Unit {0}
 Took refs w t (taken e notes) = (referenced refs e ≡ true) × (countOf t e < lineLimit) × (countOf t e < base refs e (t .next) + w)
 
-took : (refs : List Reference) (w : ℕ) (t : Tally) (l : Told) → Took refs w t (feedRead refs w t l)
+pub took : (refs : List Reference) (w : ℕ) (t : Tally) (l : Told) → Took refs w t (feedRead refs w t l)
 unfolding feedEvent
 took refs w t (log.refused number place) = tt
 took refs w t (log.line e n₀ n₁ n₂ n₃) =
@@ -203,7 +203,7 @@ one-pending : (rs : List Reference) (found : Reference → Found) → (rs ≡ []
 one-pending [] found l h = absurd (l refl)
 one-pending (x ∷ xs) found l h = rw (h x (List·Memᴰ·head refl))
 
-all-pending : (rule : Cond) (i : ℕ) (found : Reference → Found) → (references rule ≡ [] → ⊥) → ((r : Reference) → List·Memᴰ r (references rule) → found r ≡ pending)
+pub all-pending : (rule : Cond) (i : ℕ) (found : Reference → Found) → (references rule ≡ [] → ⊥) → ((r : Reference) → List·Memᴰ r (references rule) → found r ≡ pending)
     → judgement i found rule ≡ Unsettled
 all-pending rule i found l h =
     ap₂ (λ (a b : Bool). cond (settledBy a b (value i found rule)) (settling.verdict (value i found rule)) Unsettled)
@@ -237,7 +237,7 @@ unfolding pullRead
 gave-judged rule i found n =
     cond-case (Gave rule i found) (ltb n reportLeast) short (offered (judgement i found rule)) (λ _. tt) (λ _. gave-by rule i found (judgement i found rule) refl)
 
-sum-counted : (t : Totals) (v : Truth) → sumOf (counted t v) ≡ sumOf t + 1
+pub sum-counted : (t : Totals) (v : Truth) → sumOf (counted t v) ≡ sumOf t + 1
 sum-counted t truths.True = omega arith
 sum-counted t truths.False = omega arith
 sum-counted t truths.Unknown = omega arith
@@ -277,7 +277,7 @@ module _ (frames : List ℕ) (w : ℕ) (ok : Fine frames w) where
         ∙ ap₂ (f (references (treeOf frames))) (b .sim .width) (b .sim .tally)
 
     -- ---- 12 and 13 do not come
-    good : goodState (k .state) ≡ true
+    pub good : goodState (k .state) ≡ true
     unfolding goodState goodRule
     good =
         true-and _ _

@@ -17,3 +17,4 @@ pub mod Lows
 pub mod Demand
 pub mod Sights
 pub mod Offer
+pub mod Ready

@@ -3,6 +3,7 @@ use crate::Fed;
 use crate::FeedAnswer;
 use crate::State;
 use crate::apart;
+use crate::apart::Rest;
 use crate::base;
 use crate::good;
 use crate::opening;
@@ -12,18 +13,20 @@ use log::Notes;
 use rule::Refusal;
 use verdict::Occurrence;
 ghost use mathlib.Core.Path.{_≡_};
-ghost use mathlib.Core.Bool.{true};
 ghost use mathlib.Core.List.{[], _∷_};
-ghost use Prim.Native.Nat.{_+_, _<_};
+ghost use Prim.Native.Nat.{_+_, _*_, _<_};
 ghost use lib.ListN.{length, getD, set};
-ghost use Rattle.rule.specs.Limits.{eventLimit};
-ghost use Rattle.checker.specs.Limits.{windowWords, lineLimit};
+ghost use Rattle.rule.specs.Limits.{eventLimit, frameLimit, frameBytes};
+ghost use Rattle.checker.specs.Limits.{lineLimit};
 ghost use Rattle.checker.specs.Answer.{feedTold};
 ghost use Rattle.checker.specs.State.{tallyIn, stateFrames, refsIn};
-ghost use Rattle.checker.specs.Parts.{withCounts};
-ghost use Rattle.checker.specs.Good.{goodState};
+ghost use Rattle.checker.specs.Parts.{stateOf, withCounts};
 ghost use Rattle.checker.specs.Feed.{feedEvent, fedBy, feedDef};
 ghost use Rattle.checker.specs.Lows.{lowsOf};
+ghost use Rattle.checker.specs.Ready.{Ready};
+
+// A frame has 8 bytes.
+const FRAME_BYTES: usize = 8;
 
 // At most 8 events, numbered from 0.
 const EVENTS: u8 = 8;
@@ -67,11 +70,18 @@ fn one_more(counts: [u32; 8], event: u8) -> [u32; 8]
 }
 
 // A line that could be read, of any event, with the bases of a state that 12 lets through.
-fn feed_event(s: State, lows: [u32; 8], window: &mut [i32], event: u8, notes: Notes) -> Way
-    requires { ⌜ (goodState s ≡ true) × ((lows ≡ lowsOf (stateFrames s) (s .next .0)) × (length (now window) ≡ windowWords (s .width))) ⌝ }
-    ensures { λ r. ⌜ (feedTold (r .answer) ≡ fedBy s (now (window .entry)) (feedEvent (refsIn s) (s .width) (tallyIn s) event (notes .0 ∷ (notes .1 ∷ (notes .2 ∷ (notes .3 ∷ []))))) .answer) × ((withCounts s (r .counts) ≡ fedBy s (now (window .entry)) (feedEvent (refsIn s) (s .width) (tallyIn s) event (notes .0 ∷ (notes .1 ∷ (notes .2 ∷ (notes .3 ∷ []))))) .state) × (now (window .exit) ≡ fedBy s (now (window .entry)) (feedEvent (refsIn s) (s .width) (tallyIn s) event (notes .0 ∷ (notes .1 ∷ (notes .2 ∷ (notes .3 ∷ []))))) .words)) ⌝ }
+fn feed_event(
+    frames: &[u8],
+    rest: Rest,
+    lows: [u32; 8],
+    window: &mut [i32],
+    event: u8,
+    notes: Notes,
+) -> Way
+    requires { ⌜ Ready (now frames) rest (length (now window)) × (lows ≡ lowsOf (stateFrames (stateOf (now frames) rest)) (rest .next .0)) ⌝ }
+    ensures { λ r. ⌜ (feedTold (r .answer) ≡ fedBy (stateOf (now (frames .entry)) rest) (now (window .entry)) (feedEvent (refsIn (stateOf (now (frames .entry)) rest)) (rest .width) (tallyIn (stateOf (now (frames .entry)) rest)) event (notes .0 ∷ (notes .1 ∷ (notes .2 ∷ (notes .3 ∷ []))))) .answer) × ((withCounts (stateOf (now (frames .entry)) rest) (r .counts) ≡ fedBy (stateOf (now (frames .entry)) rest) (now (window .entry)) (feedEvent (refsIn (stateOf (now (frames .entry)) rest)) (rest .width) (tallyIn (stateOf (now (frames .entry)) rest)) event (notes .0 ∷ (notes .1 ∷ (notes .2 ∷ (notes .3 ∷ []))))) .state) × (now (window .exit) ≡ fedBy (stateOf (now (frames .entry)) rest) (now (window .entry)) (feedEvent (refsIn (stateOf (now (frames .entry)) rest)) (rest .width) (tallyIn (stateOf (now (frames .entry)) rest)) event (notes .0 ∷ (notes .1 ∷ (notes .2 ∷ (notes .3 ∷ []))))) .words)) ⌝ }
 {
-    let counts = s.counts;
+    let counts = rest.counts;
     if EVENTS <= event {
         return ignore(counts);
     }
@@ -84,7 +94,7 @@ fn feed_event(s: State, lows: [u32; 8], window: &mut [i32], event: u8, notes: No
     if good::LINES <= c {
         return refuse(counts, 16, 0);
     }
-    let width = s.width;
+    let width = rest.width;
     if low + width <= c {
         return refuse(counts, 17, 0);
     }
@@ -95,23 +105,41 @@ fn feed_event(s: State, lows: [u32; 8], window: &mut [i32], event: u8, notes: No
     }
 }
 
-// A line fed to a checker, whatever the state, the window and the line are.
-fn decide(s: State, window: &mut [i32], line: &[u8]) -> Way
-    ensures { λ r. ⌜ (feedTold (r .answer) ≡ feedDef s (now (window .entry)) (now (line .entry)) .answer) × ((withCounts s (r .counts) ≡ feedDef s (now (window .entry)) (now (line .entry)) .state) × (now (window .exit) ≡ feedDef s (now (window .entry)) (now (line .entry)) .words)) ⌝ }
+// A line fed to a checker that 12 and 13 let through, with its bases.
+fn feed_with(frames: &[u8], rest: Rest, lows: [u32; 8], window: &mut [i32], line: &[u8]) -> Way
+    requires { ⌜ Ready (now frames) rest (length (now window)) × (lows ≡ lowsOf (stateFrames (stateOf (now frames) rest)) (rest .next .0)) ⌝ }
+    ensures { λ r. ⌜ (feedTold (r .answer) ≡ feedDef (stateOf (now (frames .entry)) rest) (now (window .entry)) (now (line .entry)) .answer) × ((withCounts (stateOf (now (frames .entry)) rest) (r .counts) ≡ feedDef (stateOf (now (frames .entry)) rest) (now (window .entry)) (now (line .entry)) .state) × (now (window .exit) ≡ feedDef (stateOf (now (frames .entry)) rest) (now (window .entry)) (now (line .entry)) .words)) ⌝ }
 {
-    let counts = s.counts;
-    let rest = apart::rest_of(s);
-    let tested = good::good(&s.frames, rest);
+    let counts = rest.counts;
+    let read = log::read_line(line);
+    match read {
+        Line::Bad(place) => refuse(counts, 15, place),
+        Line::Event(event, notes) => feed_event(frames, rest, lows, window, event, notes),
+    }
+}
+
+// Feeds a line to a checker that 12 and 13 let through, without testing them: for callers that carry the state from an opening.
+pub fn feed_good(frames: &[u8], rest: Rest, window: &mut [i32], line: &[u8]) -> Way
+    requires { ⌜ Ready (now frames) rest (length (now window)) ⌝ }
+    ensures { λ r. ⌜ (feedTold (r .answer) ≡ feedDef (stateOf (now (frames .entry)) rest) (now (window .entry)) (now (line .entry)) .answer) × ((withCounts (stateOf (now (frames .entry)) rest) (r .counts) ≡ feedDef (stateOf (now (frames .entry)) rest) (now (window .entry)) (now (line .entry)) .state) × (now (window .exit) ≡ feedDef (stateOf (now (frames .entry)) rest) (now (window .entry)) (now (line .entry)) .words)) ⌝ }
+{
+    let n = rest.len as usize * FRAME_BYTES;
+    let p = rest.next;
+    let lows = base::lows(&frames[..n], p);
+    feed_with(frames, rest, lows, window, line)
+}
+
+// A line fed to a checker, whatever the state, the window and the line are.
+fn decide(frames: &[u8], rest: Rest, window: &mut [i32], line: &[u8]) -> Way
+    requires { ⌜ length (now frames) ≡ frameLimit * frameBytes ⌝ }
+    ensures { λ r. ⌜ (feedTold (r .answer) ≡ feedDef (stateOf (now (frames .entry)) rest) (now (window .entry)) (now (line .entry)) .answer) × ((withCounts (stateOf (now (frames .entry)) rest) (r .counts) ≡ feedDef (stateOf (now (frames .entry)) rest) (now (window .entry)) (now (line .entry)) .state) × (now (window .exit) ≡ feedDef (stateOf (now (frames .entry)) rest) (now (window .entry)) (now (line .entry)) .words)) ⌝ }
+{
+    let counts = rest.counts;
+    let tested = good::good(frames, rest);
     if tested.fits {
-        if opening::window_fits(s.width, window.len()) {
-            let read = log::read_line(line);
-            match read {
-                Line::Bad(place) => refuse(counts, 15, place),
-                Line::Event(event, notes) => {
-                    let lows = tested.lows;
-                    feed_event(s, lows, window, event, notes)
-                }
-            }
+        if opening::window_fits(rest.width, window.len()) {
+            let lows = tested.lows;
+            feed_with(frames, rest, lows, window, line)
         } else {
             refuse(counts, 13, 0)
         }
@@ -124,7 +152,8 @@ fn decide(s: State, window: &mut [i32], line: &[u8]) -> Way
 pub fn feed(state: State, window: &mut [i32], line: &[u8]) -> Fed
     ensures { λ r. ⌜ (feedTold (r .answer) ≡ feedDef state (now (window .entry)) (now (line .entry)) .answer) × ((r .state ≡ feedDef state (now (window .entry)) (now (line .entry)) .state) × (now (window .exit) ≡ feedDef state (now (window .entry)) (now (line .entry)) .words)) ⌝ }
 {
-    let way = decide(state, window, line);
+    let rest = apart::rest_of(state);
+    let way = decide(&state.frames, rest, window, line);
     let answer = way.answer;
     let counts = way.counts;
     let mut t = state;

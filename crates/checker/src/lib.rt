@@ -9,9 +9,15 @@ mod pulling; // pulling.rt: 12, 13, 14, the next verdict or waiting
 mod report; // report.rt: the report of a false verdict
 mod words; // words.rt: the window's words
 
+pub use apart::Rest;
+pub use apart::rest_of;
+pub use feeding::Way;
 pub use feeding::feed;
+pub use feeding::feed_good;
 pub use opening::open;
+pub use pulling::Turn;
 pub use pulling::pull;
+pub use pulling::pull_good;
 use rule::Refusal;
 use verdict::Instance;
 

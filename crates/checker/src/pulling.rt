@@ -15,18 +15,20 @@ use verdict::Judgement;
 use verdict::Truth;
 ghost use mathlib.Core.Path.{_≡_};
 ghost use mathlib.Core.List.{List};
-ghost use Prim.Native.Nat.{ℕ, _+_, _*_};
+ghost use Prim.Native.Nat.{ℕ, _+_, _*_, _≤_};
 ghost use lib.ListN.{length};
 ghost use Rattle.rule.specs.Limits.{frameLimit, frameBytes};
 ghost use Rattle.rule.specs.Tree.{references};
 ghost use Rattle.rule.specs.Build.{treeOf};
 ghost use Rattle.verdict.specs.Settled.{judgement};
+ghost use Rattle.checker.specs.Limits.{reportLeast};
 ghost use Rattle.checker.specs.Answer.{pullTold};
 ghost use Rattle.checker.specs.State.{counted};
 ghost use Rattle.checker.specs.Parts.{stateOf, withTurn};
 ghost use Rattle.checker.specs.Pull.{offered, pullAnswer, pullReport, stateAfter, pullDef};
 ghost use Rattle.checker.specs.Sights.{foundBy};
 ghost use Rattle.checker.specs.Offer.{Countable, Offerable};
+ghost use Rattle.checker.specs.Ready.{Ready};
 
 // A frame has 8 bytes.
 const FRAME_BYTES: usize = 8;
@@ -139,6 +141,19 @@ fn offer(
     }
 }
 
+// Pulls from a checker that 12 and 13 let through, into a buffer that 14 does, without testing them: for callers that carry the
+// state from an opening.
+pub fn pull_good(frames: &[u8], rest: Rest, window: &[i32], report: &mut [u8]) -> Turn
+    requires { ⌜ Ready (now frames) rest (length (now window)) × (reportLeast ≤ length (now report)) ⌝ }
+    ensures { λ r. ⌜ (pullTold (r .answer) ≡ pullDef (stateOf (now (frames .entry)) rest) (now (window .entry)) (now (report .entry)) .answer) × ((withTurn (stateOf (now (frames .entry)) rest) (r .next) (r .totals) ≡ pullDef (stateOf (now (frames .entry)) rest) (now (window .entry)) (now (report .entry)) .state) × (now (report .exit) ≡ pullDef (stateOf (now (frames .entry)) rest) (now (window .entry)) (now (report .entry)) .report)) ⌝ }
+{
+    let n = rest.len as usize * FRAME_BYTES;
+    let p = rest.next;
+    let counts = rest.counts;
+    let judged = offer(&frames[..n], p, rest.width, counts, window, report);
+    give(rest, judged)
+}
+
 // A pull from a checker, whatever the state, the window and the report buffer are.
 fn decide(frames: &[u8], rest: Rest, window: &[i32], report: &mut [u8]) -> Turn
     requires { ⌜ length (now frames) ≡ frameLimit * frameBytes ⌝ }
@@ -150,11 +165,7 @@ fn decide(frames: &[u8], rest: Rest, window: &[i32], report: &mut [u8]) -> Turn
             if report.len() < REPORT_LEAST {
                 refuse(rest, 14)
             } else {
-                let n = rest.len as usize * FRAME_BYTES;
-                let p = rest.next;
-                let counts = rest.counts;
-                let judged = offer(&frames[..n], p, rest.width, counts, window, report);
-                give(rest, judged)
+                pull_good(frames, rest, window, report)
             }
         } else {
             refuse(rest, 13)

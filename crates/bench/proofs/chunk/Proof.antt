@@ -13,14 +13,15 @@ use Rattle.bench.proofs.chunk.Statement.{statement}
 use Rattle.bench.proofs.chunk.Tie as tie
 
 abbrev Inv-loop : tie.InvT-loop
-Inv-loop carry₀ window₀ out₀ s q₀ at₀ carry window out q at = Walked carry₀ window₀ out₀ s q₀ carry window out q at
+Inv-loop frames carry₀ window₀ out₀ s q₀ at₀ carry window out q at = Walked frames carry₀ window₀ out₀ s q₀ carry window out q at
 
 abbrev μ-loop : tie.MeasureT-loop
-μ-loop carry₀ window₀ out₀ s q₀ at₀ carry window out q at = length s - at
+μ-loop frames carry₀ window₀ out₀ s q₀ at₀ carry window out q at = length s - at
 
 loop-holds : tie.Need-loop-holds Inv-loop μ-loop
 loop-holds c = record {
   within = search needs;
+  ready = c .before .before .before .before .pre .0;
   full = search needs;
   held = search needs;
   carry-long = search needs;
@@ -48,46 +49,47 @@ same-length-3 : tie.Need-same-length-3 Inv-loop μ-loop
 same-length-3 c = search needs
 
 returns : tie.Need-returns Inv-loop μ-loop
-returns c = absurd (never-end (c .before .before .before .before .before .before .before .before .args .s .now) (c .before .before .before .before .loop .at) (omega arith) (sym (c .before .before .line-from .ensures) ∙ c .enum-told .given .1))
+returns c = absurd (never-end (c .before .before .before .before .before .before .before .before .before .args .s .now) (c .before .before .before .before .loop .at) (omega arith) (sym (c .before .before .line-from .ensures) ∙ c .enum-told .given .1))
 
 sub-ended : tie.Need-sub-ended Inv-loop μ-loop
-sub-ended c = omega (arith, line-within (c .before .before .before .before .before .before .before .before .before .before .before .before .before .args .s .now) _ _ _ _ (sym (c .before .before .before .before .before .before .before .line-from .ensures) ∙ c .before .before .before .before .before .start .given .1))
+sub-ended c = omega (arith, line-within (c .before .before .before .before .before .before .before .before .before .before .before .before .before .before .args .s .now) _ _ _ _ (sym (c .before .before .before .before .before .before .before .line-from .ensures) ∙ c .before .before .before .before .before .start .given .1))
 
 part-ended-start : tie.Need-part-ended-start Inv-loop μ-loop
-part-ended-start c = omega (arith, line-within (c .before .before .before .before .before .before .before .before .before .before .before .before .before .args .s .now) _ _ _ _ (sym (c .before .before .before .before .before .before .before .line-from .ensures) ∙ c .before .before .before .before .before .start .given .1))
+part-ended-start c = omega (arith, line-within (c .before .before .before .before .before .before .before .before .before .before .before .before .before .before .args .s .now) _ _ _ _ (sym (c .before .before .before .before .before .before .before .line-from .ensures) ∙ c .before .before .before .before .before .start .given .1))
 
 part-ended-end : tie.Need-part-ended-end Inv-loop μ-loop
-part-ended-end c = omega (arith, line-within (c .before .before .before .before .before .before .before .before .before .before .before .before .before .args .s .now) _ _ _ _ (sym (c .before .before .before .before .before .before .before .line-from .ensures) ∙ c .before .before .before .before .before .start .given .1))
+part-ended-end c = omega (arith, line-within (c .before .before .before .before .before .before .before .before .before .before .before .before .before .before .args .s .now) _ _ _ _ (sym (c .before .before .before .before .before .before .before .line-from .ensures) ∙ c .before .before .before .before .before .start .given .1))
 
 ended-requires : tie.Need-ended-requires Inv-loop μ-loop
-ended-requires c κs = search needs
+ended-requires c κs = (c .before .before .before .before .before .before .before .before .before .before .loop .inv .ready, (c .before .before .before .before .before .before .before .before .before .before .loop .inv .full, (c .before .before .before .before .before .before .before .before .before .before .loop .inv .held, (search needs, search needs))))
 
 loop-less : tie.Need-loop-less Inv-loop μ-loop
-loop-less c = omega (arith, line-within (c .before .before .before .before .before .before .before .before .before .before .before .before .before .before .before .before .before .before .before .before .args .s .now) _ _ _ _ (sym (c .before .before .before .before .before .before .before .before .before .before .before .before .before .before .line-from .ensures) ∙ c .before .before .before .before .before .before .before .before .before .before .before .before .start .given .1))
+loop-less c = omega (arith, line-within (c .before .before .before .before .before .before .before .before .before .before .before .before .before .before .before .before .before .before .before .before .before .args .s .now) _ _ _ _ (sym (c .before .before .before .before .before .before .before .before .before .before .before .before .before .before .line-from .ensures) ∙ c .before .before .before .before .before .before .before .before .before .before .before .before .start .given .1))
 
 loop-again : tie.Need-loop-again Inv-loop μ-loop
 loop-again c =
-    let s : List ℕ = c .before .before .before .before .before .before .before .before .before .before .before .before .before .before .before .before .before .before .before .before .args .s .now in
+    let s : List ℕ = c .before .before .before .before .before .before .before .before .before .before .before .before .before .before .before .before .before .before .before .before .before .args .s .now in
     let f = sym (c .before .before .before .before .before .before .before .before .before .before .before .before .before .before .line-from .ensures) ∙ c .before .before .before .before .before .before .before .before .before .before .before .before .start .given .1 in
-    let e : c .before .before .before .before .before .ended .result .held ≡ 0 = c .before .before .before .before .before .ended .ensures .1 .0 in
+    let e : c .before .before .before .before .before .ended .result .held ≡ 0 = c .before .before .before .before .before .ended .ensures .1 .1 .0 in
     record {
       within = omega (arith, line-within s _ _ _ _ f);
-      full = c .before .before .before .before .before .ended .ensures .0;
+      ready = c .before .before .before .before .before .ended .ensures .0;
+      full = c .before .before .before .before .before .ended .ensures .1 .0;
       held = omega arith;
-      carry-long = search needs;
-      win-long = search needs;
-      out-long = search needs;
-      same = rw e (chunk-line s (c .before .before .before .before .before .before .before .before .before .before .before .before .before .before .before .before .loop .at) _ _ _ f (omega arith) (omega arith) _ _ _ _ (c .before .before .before .before .before .before .before .before .before .before .before .before .before .before .before .before .loop .inv .same) (c .before .before .before .before .before .ended .ensures .1 .1));
+      carry-long = c .before .before .before .before .before .ended .kept .1 .1 .0 ∙ c .before .before .before .before .before .before .before .before .before .before .before .before .before .before .before .before .loop .inv .carry-long;
+      win-long = c .before .before .before .before .before .ended .kept .1 .1 .1 .0 ∙ c .before .before .before .before .before .before .before .before .before .before .before .before .before .before .before .before .loop .inv .win-long;
+      out-long = c .before .before .before .before .before .ended .kept .1 .1 .1 .1 .0 ∙ c .before .before .before .before .before .before .before .before .before .before .before .before .before .before .before .before .loop .inv .out-long;
+      same = rw e (chunk-line s (c .before .before .before .before .before .before .before .before .before .before .before .before .before .before .before .before .loop .at) _ _ _ f (omega arith) (omega arith) _ _ _ _ (c .before .before .before .before .before .before .before .before .before .before .before .before .before .before .before .before .loop .inv .same) (c .before .before .before .before .before .ended .ensures .1 .1 .1));
     }
 
 sub-keep : tie.Need-sub-keep Inv-loop μ-loop
-sub-keep c = omega (arith, line-within (c .before .before .before .before .before .before .before .before .before .before .before .args .s .now) _ _ _ _ (sym (c .before .before .before .before .before .line-from .ensures) ∙ c .before .before .before .start .given .1))
+sub-keep c = omega (arith, line-within (c .before .before .before .before .before .before .before .before .before .before .before .before .args .s .now) _ _ _ _ (sym (c .before .before .before .before .before .line-from .ensures) ∙ c .before .before .before .start .given .1))
 
 part-keep-start : tie.Need-part-keep-start Inv-loop μ-loop
-part-keep-start c = omega (arith, line-within (c .before .before .before .before .before .before .before .before .before .before .before .args .s .now) _ _ _ _ (sym (c .before .before .before .before .before .line-from .ensures) ∙ c .before .before .before .start .given .1))
+part-keep-start c = omega (arith, line-within (c .before .before .before .before .before .before .before .before .before .before .before .before .args .s .now) _ _ _ _ (sym (c .before .before .before .before .before .line-from .ensures) ∙ c .before .before .before .start .given .1))
 
 part-keep-end : tie.Need-part-keep-end Inv-loop μ-loop
-part-keep-end c = omega (arith, line-within (c .before .before .before .before .before .before .before .before .before .before .before .args .s .now) _ _ _ _ (sym (c .before .before .before .before .before .line-from .ensures) ∙ c .before .before .before .start .given .1))
+part-keep-end c = omega (arith, line-within (c .before .before .before .before .before .before .before .before .before .before .before .before .args .s .now) _ _ _ _ (sym (c .before .before .before .before .before .line-from .ensures) ∙ c .before .before .before .start .given .1))
 
 keep-requires : tie.Need-keep-requires Inv-loop μ-loop
 keep-requires c κs = search needs
@@ -97,12 +99,13 @@ loop-less-2 c = omega arith
 
 loop-again-2 : tie.Need-loop-again-2 Inv-loop μ-loop
 loop-again-2 c =
-    let s : List ℕ = c .before .before .before .before .before .before .before .before .before .before .before .before .before .before .before .args .s .now in
+    let s : List ℕ = c .before .before .before .before .before .before .before .before .before .before .before .before .before .before .before .before .args .s .now in
     let f = sym (c .before .before .before .before .before .before .before .before .before .line-from .ensures) ∙ c .before .before .before .before .before .before .before .start .given .1 in
     let h : List ℕ = take (c .before .before .before .before .before .before .before .before .before .before .before .loop .q .held) (c .before .before .before .before .before .before .before .before .before .before .before .loop .carry) in
     let l : length h ≤ keptLimit = omega (arith, length-take-le (c .before .before .before .before .before .before .before .before .before .before .before .loop .q .held) (c .before .before .before .before .before .before .before .before .before .before .before .loop .carry) (omega (arith, c .before .before .before .before .before .before .before .before .before .before .before .loop .inv .held, c .before .before .before .before .before .before .before .before .before .before .before .loop .inv .carry-long)), c .before .before .before .before .before .before .before .before .before .before .before .loop .inv .held) in
     record {
       within = omega arith;
+      ready = c .before .before .before .before .before .before .before .before .before .before .before .loop .inv .ready;
       full = c .before .before .before .before .before .before .before .before .before .before .before .loop .inv .full;
       held = c .before .before .keep .ensures .0;
       carry-long = search needs;
@@ -121,7 +124,7 @@ same-length-6 : tie.Need-same-length-6 Inv-loop μ-loop
 same-length-6 c = search needs
 
 returns-2 : tie.Need-returns-2 Inv-loop μ-loop
-returns-2 c = (c .before .loop .inv .full, (c .before .loop .inv .held, rw (bytes-done (c .before .before .before .before .before .args .s .now) (c .before .loop .at) _ (omega arith)) at (c .before .loop .inv .same)))
+returns-2 c = (c .before .loop .inv .ready, (c .before .loop .inv .full, (c .before .loop .inv .held, rw (bytes-done (c .before .before .before .before .before .before .args .s .now) (c .before .loop .at) _ (omega arith)) at (c .before .loop .inv .same))))
 
 pub chunk-spec : {M : Type 1} → statement M
 chunk-spec =

@@ -11,7 +11,7 @@ use Rattle.bench.proofs.ended.Statement.{statement}
 use Rattle.bench.proofs.ended.Tie as tie
 
 one-line-requires : tie.Need-one-line-requires
-one-line-requires c κs = search needs
+one-line-requires c κs = (c .before .before .before .before .before .before .before .pre .0, (c .before .before .before .before .before .before .before .pre .1 .0, search needs))
 
 same-length : tie.Need-same-length
 same-length c = search needs
@@ -21,8 +21,9 @@ same-length-2 c = search needs
 
 returns : tie.Need-returns
 returns c =
-    let h : c .before .before .before .before .before .before .before .before .before .before .args .r .held ≡ 0 = search needs in
-    (c .before .before .before .one-line .ensures .0, (c .before .before .before .one-line .ensures .1 .0 ∙ h, rw h (c .before .before .before .one-line .ensures .1 .1)))
+    let h : c .before .before .before .before .before .before .before .before .before .before .before .args .r .held ≡ 0 = search needs in
+    let e = c .before .before .before .one-line .ensures in
+    (e .0, (e .1 .0, (e .1 .1 .0 ∙ h, rw h (c .before .before .before .one-line .ensures .1 .1 .1))))
 
 keep-requires : tie.Need-keep-requires
 keep-requires c κs = search needs
@@ -34,7 +35,7 @@ slice-aggregate-one-line : tie.Need-slice-aggregate-one-line
 slice-aggregate-one-line c = sym (length-take-le _ _ (search needs))
 
 one-line-requires-2 : tie.Need-one-line-requires-2
-one-line-requires-2 c κs = search needs
+one-line-requires-2 c κs = (c .before .before .before .before .before .before .before .before .before .before .before .before .pre .0, (c .before .before .before .before .before .before .before .before .before .before .before .before .pre .1 .0, search needs))
 
 same-length-3 : tie.Need-same-length-3
 same-length-3 c = search needs
@@ -47,8 +48,10 @@ same-length-5 c = search needs
 
 returns-2 : tie.Need-returns-2
 returns-2 c =
-    let l : List ℕ = take (c .before .before .before .before .before .before .before .before .before .before .before .before .before .before .before .args .r .held) (c .before .before .before .before .before .before .before .before .before .before .before .before .before .before .before .args .carry .now) ++ c .before .before .before .before .before .before .before .before .before .before .before .before .before .before .before .args .part .now in
-    (c .before .before .before .one-line2 .ensures .0, (refl, rw (c .before .before .before .before .before .before .before .before .before .keep .ensures .1, after-kept (progressOf (c .before .before .before .before .before .before .before .before .before .before .before .before .before .before .before .args .r) (c .before .before .before .before .before .before .before .before .before .before .before .before .before .before .before .args .window .now) (c .before .before .before .before .before .before .before .before .before .before .before .before .before .before .before .args .out .now)) l) at (c .before .before .before .one-line2 .ensures .1 .1)))
+    let a = c .before .before .before .before .before .before .before .before .before .before .before .before .before .before .before .before .args in
+    let e = c .before .before .before .one-line2 .ensures in
+    let l : List ℕ = take (a .r .held) (a .carry .now) ++ a .part .now in
+    (e .0, (e .1 .0, (refl, rw (c .before .before .before .before .before .before .before .before .before .keep .ensures .1, after-kept (progressOf (a .frames .now) (a .r) (a .window .now) (a .out .now)) l) at (c .before .before .before .one-line2 .ensures .1 .1 .1))))
 
 pub ended-spec : {M : Type 1} → statement M
 ended-spec =

@@ -20,12 +20,12 @@ same-length c = search needs
 
 returns : tie.Need-returns
 returns c =
-    let t = c .before .before .before .before .before .before .before .before .before .args .r .state .totals in
-    let n = c .before .before .before .before .before .before .before .before .before .args .r .counts in
+    let t = c .before .before .before .before .before .before .before .before .before .before .args .r .rest .totals in
+    let n = c .before .before .before .before .before .before .before .before .before .before .args .r .counts in
     let l : length (totalsLine t n) ≡ 49 = line-length (totalsBytes t n) in (
       omega (arith, c .before .before .put-totals .ensures .0, c .before .before .before .before .make-room .ensures .0),
-      ends-more (c .before .before .before .before .before .before .before .before .before .args .out .now) _ (c .before .before .before .before .before .before .before .before .before .args .r .full) (c .before .before .before .before .make-room .result) (c .before .before .put-totals .result) (totalsLine t n) (c .before .before .before .before .make-room .ensures .1) (c .before .before .put-totals .ensures .1)
-          (omega (arith, c .before .before .before .before .make-room .ensures .0, c .before .before .before .before .before .before .before .before .before .pre .1)) (c .before .before .put-totals .ensures .0 ∙ omega arith),
+      ends-more (c .before .before .before .before .before .before .before .before .before .before .args .out .now) _ (c .before .before .before .before .before .before .before .before .before .before .args .r .full) (c .before .before .before .before .make-room .result) (c .before .before .put-totals .result) (totalsLine t n) (c .before .before .before .before .make-room .ensures .1) (c .before .before .put-totals .ensures .1)
+          (omega (arith, c .before .before .before .before .make-room .ensures .0, c .before .before .before .before .before .before .before .before .before .before .pre .1)) (c .before .before .put-totals .ensures .0 ∙ omega arith),
     )
 
 pub put-end-spec : {M : Type 1} → statement M

@@ -5,6 +5,7 @@ use Prim.Native.Nat.{_≤_}
 use native.Mathlib.Omega.{arith}
 use lib.ListN.{length}
 use borrow.Author.Needs.{needs}
+use Rattle.checker.specs.Ready.{Ready}
 use Rattle.bench.specs.Print.{outBytes}
 use Rattle.bench.specs.Progress.{pulls, pullLimit, progressOf, After}
 use Rattle.bench.proofs.RunLaws.{after-refl, pull-next, pull-end}
@@ -12,17 +13,17 @@ use Rattle.bench.proofs.step.pull_all.Statement.{statement}
 use Rattle.bench.proofs.step.pull_all.Tie as tie
 
 abbrev Inv-loop : tie.InvT-loop
-Inv-loop window out₀ q₀ left₀ out q left =
-    (q .full ≤ outBytes) × ((q .held ≡ q₀ .held) × ((length out ≡ outBytes) × After (pulls pullLimit (progressOf q₀ window out₀)) (cond (q .more) (pulls left (progressOf q window out)) (progressOf q window out))))
+Inv-loop frames window out₀ q₀ left₀ out q left =
+    Ready frames (q .rest) (length window) × ((q .full ≤ outBytes) × ((q .held ≡ q₀ .held) × ((length out ≡ outBytes) × After (pulls pullLimit (progressOf frames q₀ window out₀)) (cond (q .more) (pulls left (progressOf frames q window out)) (progressOf frames q window out)))))
 
 abbrev μ-loop : tie.MeasureT-loop
-μ-loop window out₀ q₀ left₀ out q left = left
+μ-loop frames window out₀ q₀ left₀ out q left = left
 
 loop-holds : tie.Need-loop-holds Inv-loop μ-loop
-loop-holds c = (search needs, (refl, (search needs, after-refl _)))
+loop-holds c = (c .before .before .pre .0, (search needs, (refl, (search needs, after-refl _))))
 
 pull-once-requires : tie.Need-pull-once-requires Inv-loop μ-loop
-pull-once-requires c κs = search needs
+pull-once-requires c κs = (c .before .before .before .loop .inv .0, (c .before .before .before .loop .inv .1 .0, search needs))
 
 sub-left : tie.Need-sub-left Inv-loop μ-loop
 sub-left c = search needs
@@ -33,20 +34,21 @@ loop-less c = search needs
 loop-again : tie.Need-loop-again Inv-loop μ-loop
 loop-again c =
     let e = c .before .before .pull-once .ensures in
-    let p = rw (c .before .before .before .before .if1 .taken) at (c .before .before .before .before .before .before .loop .inv .1 .1 .1) in
-    (e .0, (e .1 .0 ∙ c .before .before .before .before .before .before .loop .inv .1 .0, (search needs, pull-next _ _ _ (c .before .before .before .before .before .before .loop .left) _ (omega arith) p (e .1 .1 .1) (e .1 .1 .0))))
+    let i = c .before .before .before .before .before .before .loop .inv .1 in
+    let p = rw (c .before .before .before .before .if1 .taken) at (c .before .before .before .before .before .before .loop .inv .1 .1 .1 .1) in
+    (e .0, (e .1 .0, (e .1 .1 .0 ∙ i .1 .0, (search needs, pull-next _ _ _ (c .before .before .before .before .before .before .loop .left) _ (omega arith) p (e .1 .1 .1 .1) (e .1 .1 .1 .0)))))
 
 same-length : tie.Need-same-length Inv-loop μ-loop
 same-length c = search needs
 
 returns : tie.Need-returns Inv-loop μ-loop
-returns c = (c .before .before .loop .inv .0, (c .before .before .loop .inv .1 .0, rw (c .if1 .left) at (c .before .before .loop .inv .1 .1 .1)))
+returns c = (c .before .before .loop .inv .0, (c .before .before .loop .inv .1 .0, (c .before .before .loop .inv .1 .1 .0, rw (c .if1 .left) at (c .before .before .loop .inv .1 .1 .1 .1))))
 
 same-length-2 : tie.Need-same-length-2 Inv-loop μ-loop
 same-length-2 c = search needs
 
 returns-2 : tie.Need-returns-2 Inv-loop μ-loop
-returns-2 c = (c .before .loop .inv .0, (c .before .loop .inv .1 .0, pull-end _ _ (c .before .loop .left) (c .before .loop .q .more) (omega arith) (c .before .loop .inv .1 .1 .1)))
+returns-2 c = (c .before .loop .inv .0, (c .before .loop .inv .1 .0, (c .before .loop .inv .1 .1 .0, pull-end _ _ (c .before .loop .left) (c .before .loop .q .more) (omega arith) (c .before .loop .inv .1 .1 .1 .1))))
 
 pub pull-all-spec : {M : Type 1} → statement M
 pull-all-spec =

@@ -1,57 +1,63 @@
 -- `bench::step::pull_into` is one pull, with what it prints. Assumes nothing.
 use mathlib.Core.Path.{_≡_, ap, _∙_}
 use mathlib.Core.Bool.{true, false}
+use Prim.Native.Nat.{_*_}
+use native.Mathlib.Omega.{arith}
 use lib.ListN.{length}
 use borrow.Author.Needs.{needs}
+use Rattle.checker.specs.Limits.{reportLeast}
+use Rattle.checker.proofs.CodeBase.{bytes-take}
 use Rattle.bench.proofs.RunLaws.{pulled-arm, pulled-quiet}
 use Rattle.bench.proofs.step.pull_into.Statement.{statement}
 use Rattle.bench.proofs.step.pull_into.Tie as tie
 
-pull-requires : tie.Need-pull-requires
-pull-requires c κs = search needs
+pull-good-requires : tie.Need-pull-good-requires
+pull-good-requires c κs =
+    let l : length (c .before .before .before .before .before .args .report .now) ≡ reportLeast = ap length (c .before .before .before .before .before .pre .1 .1 .1) in
+    (c .before .before .before .before .before .pre .0, omega (arith, l))
 
 enum-told : tie.Need-enum-told
 enum-told c = search needs
 
-with-state-requires : tie.Need-with-state-requires
-with-state-requires c κs = search needs
+with-turn-requires : tie.Need-with-turn-requires
+with-turn-requires c κs = search needs
 
 enum-told-2 : tie.Need-enum-told-2
 enum-told-2 c = search needs
 
 say-report-requires : tie.Need-say-report-requires
 say-report-requires c κs =
-    let l : length (c .before .before .before .before .before .before .before .pull .last .1 .1 .0) ≡ length (c .before .before .before .before .before .before .before .before .before .before .before .before .args .report .now) = search needs in
-    (c .before .before .before .before .before .before .before .before .before .before .before .before .pre .0, (c .before .before .before .before .before .before .before .before .before .before .before .before .pre .1 .0, l ∙ ap length (c .before .before .before .before .before .before .before .before .before .before .before .before .pre .1 .1)))
+    let l : length (c .before .before .before .before .before .before .pull-good .last .1 .1 .1 .0) ≡ length (c .before .before .before .before .before .before .before .before .before .before .before .before .args .report .now) = search needs in
+    (c .before .before .before .before .before .before .before .before .before .before .before .before .pre .1 .0, (c .before .before .before .before .before .before .before .before .before .before .before .before .pre .1 .1 .0, l ∙ ap length (c .before .before .before .before .before .before .before .before .before .before .before .before .pre .1 .1 .1)))
 
-with-state-requires-2 : tie.Need-with-state-requires-2
-with-state-requires-2 c κs = search needs
+with-turn-requires-2 : tie.Need-with-turn-requires-2
+with-turn-requires-2 c κs = search needs
 
 enum-told-3 : tie.Need-enum-told-3
 enum-told-3 c = search needs
 
-with-state-requires-3 : tie.Need-with-state-requires-3
-with-state-requires-3 c κs = search needs
+with-turn-requires-3 : tie.Need-with-turn-requires-3
+with-turn-requires-3 c κs = search needs
 
 enum-told-4 : tie.Need-enum-told-4
 enum-told-4 c = search needs
 
-with-state-requires-4 : tie.Need-with-state-requires-4
-with-state-requires-4 c κs = search needs
+with-turn-requires-4 : tie.Need-with-turn-requires-4
+with-turn-requires-4 c κs = search needs
 
 enum-told-5 : tie.Need-enum-told-5
 enum-told-5 c = search needs
 
-with-state-requires-5 : tie.Need-with-state-requires-5
-with-state-requires-5 c κs = search needs
+with-turn-requires-5 : tie.Need-with-turn-requires-5
+with-turn-requires-5 c κs = search needs
 
 same-length : tie.Need-same-length
 same-length c = search needs
 
 returns : tie.Need-returns
 returns c =
-    pulled-quiet (c .before .before .before .before .before .before .before .before .before .before .before .args .r) _ (c .before .before .before .before .before .before .before .before .before .before .before .args .window .now) (c .before .before .before .before .before .before .before .before .before .before .before .args .out .now) (c .before .before .before .before .before .before .before .before .before .before .before .args .report .now) (c .before .before .before .before .before .before .pull .result .state) true (c .before .before .before .before .before .before .pull .result .answer)
-    (c .with-state .ensures) (c .before .before .before .before .before .before .pull .ensures .1 .0) (c .before .before .before .before .before .before .pull .ensures .0) (c .before .before .before .before .before .before .before .before .before .before .before .pre .1 .1) (c .before .before .before .before .before .before .before .before .before .before .before .pre .0) (rw (c .before .enum-told .given .1))
+    pulled-quiet (c .before .before .before .before .before .before .before .before .before .before .before .args .frames .now) (c .before .before .before .before .before .before .before .before .before .before .before .args .r) _ (c .before .before .before .before .before .before .before .before .before .before .before .args .window .now) (c .before .before .before .before .before .before .before .before .before .before .before .args .out .now) (c .before .before .before .before .before .before .before .before .before .before .before .args .report .now) _ true (c .before .before .before .before .before .pull-good .result .answer)
+    (c .with-turn .ensures) (c .before .before .before .before .before .before .before .before .before .before .before .pre .0) (bytes-take (c .before .before .before .before .before .before .before .before .before .before .before .args .r .rest .len * 8) (c .before .before .before .before .before .before .before .before .before .before .before .args .frames .now) (λ i. c .before .before .before .before .before .before .before .before .before .before .shared-slice-known .given i .fits)) (c .before .before .before .before .before .pull-good .ensures .1 .0) (c .before .before .before .before .before .pull-good .ensures .0) (c .before .before .before .before .before .before .before .before .before .before .before .pre .1 .1 .1) (c .before .before .before .before .before .before .before .before .before .before .before .pre .1 .0) (rw (c .before .enum-told .given .1))
     (rw (c .before .enum-told .given .1))
 
 same-length-2 : tie.Need-same-length-2
@@ -62,17 +68,17 @@ same-length-3 c = search needs
 
 returns-2 : tie.Need-returns-2
 returns-2 c =
-    pulled-arm (c .before .before .before .before .before .before .before .before .before .before .before .before .before .before .before .before .args .r) _ (c .before .before .before .before .before .before .before .before .before .before .before .before .before .before .before .before .args .window .now) (c .before .before .before .before .before .before .before .before .before .before .before .before .before .before .before .before .args .out .now) _ (c .before .before .before .before .before .before .before .before .before .before .before .before .before .before .before .before .args .report .now) (c .before .before .before .before .before .before .before .before .before .before .before .pull .result .state) _ true (c .before .before .before .before .before .before .before .before .before .before .before .pull .result .answer)
-    (c .with-state2 .ensures) (c .before .before .before .before .before .before .before .before .before .before .before .pull .ensures .1 .0) (c .before .before .before .before .before .before .before .before .before .before .before .pull .ensures .0) (c .before .before .before .before .before .before .before .before .before .before .before .before .before .before .before .before .pre .1 .1) (c .before .before .before .say-report .ensures .0) (rw (c .before .before .before .before .before .before .enum-told2 .given .1))
-    (rw (c .before .before .before .before .before .before .enum-told2 .given .1) (rw (c .before .before .before .before .before .before .before .before .before .before .before .pull .ensures .1 .1) at (c .before .before .before .say-report .ensures .1)))
+    pulled-arm (c .before .before .before .before .before .before .before .before .before .before .before .before .before .before .before .before .args .frames .now) (c .before .before .before .before .before .before .before .before .before .before .before .before .before .before .before .before .args .r) _ (c .before .before .before .before .before .before .before .before .before .before .before .before .before .before .before .before .args .window .now) (c .before .before .before .before .before .before .before .before .before .before .before .before .before .before .before .before .args .out .now) _ (c .before .before .before .before .before .before .before .before .before .before .before .before .before .before .before .before .args .report .now) _ _ true (c .before .before .before .before .before .before .before .before .before .before .pull-good .result .answer)
+    (c .with-turn2 .ensures) (c .before .before .before .before .before .before .before .before .before .before .before .before .before .before .before .before .pre .0) (bytes-take (c .before .before .before .before .before .before .before .before .before .before .before .before .before .before .before .before .args .r .rest .len * 8) (c .before .before .before .before .before .before .before .before .before .before .before .before .before .before .before .before .args .frames .now) (λ i. c .before .before .before .before .before .before .before .before .before .before .before .before .before .before .before .shared-slice-known .given i .fits)) (c .before .before .before .before .before .before .before .before .before .before .pull-good .ensures .1 .0) (c .before .before .before .before .before .before .before .before .before .before .pull-good .ensures .0) (c .before .before .before .before .before .before .before .before .before .before .before .before .before .before .before .before .pre .1 .1 .1) (c .before .before .before .say-report .ensures .0) (rw (c .before .before .before .before .before .before .enum-told2 .given .1))
+    (rw (c .before .before .before .before .before .before .enum-told2 .given .1) (rw (c .before .before .before .before .before .before .before .before .before .before .pull-good .ensures .1 .1) at (c .before .before .before .say-report .ensures .1)))
 
 same-length-4 : tie.Need-same-length-4
 same-length-4 c = search needs
 
 returns-3 : tie.Need-returns-3
 returns-3 c =
-    pulled-quiet (c .before .before .before .before .before .before .before .before .before .before .before .args .r) _ (c .before .before .before .before .before .before .before .before .before .before .before .args .window .now) (c .before .before .before .before .before .before .before .before .before .before .before .args .out .now) (c .before .before .before .before .before .before .before .before .before .before .before .args .report .now) (c .before .before .before .before .before .before .pull .result .state) true (c .before .before .before .before .before .before .pull .result .answer)
-    (c .with-state3 .ensures) (c .before .before .before .before .before .before .pull .ensures .1 .0) (c .before .before .before .before .before .before .pull .ensures .0) (c .before .before .before .before .before .before .before .before .before .before .before .pre .1 .1) (c .before .before .before .before .before .before .before .before .before .before .before .pre .0) (rw (c .before .enum-told3 .given .1))
+    pulled-quiet (c .before .before .before .before .before .before .before .before .before .before .before .args .frames .now) (c .before .before .before .before .before .before .before .before .before .before .before .args .r) _ (c .before .before .before .before .before .before .before .before .before .before .before .args .window .now) (c .before .before .before .before .before .before .before .before .before .before .before .args .out .now) (c .before .before .before .before .before .before .before .before .before .before .before .args .report .now) _ true (c .before .before .before .before .before .pull-good .result .answer)
+    (c .with-turn3 .ensures) (c .before .before .before .before .before .before .before .before .before .before .before .pre .0) (bytes-take (c .before .before .before .before .before .before .before .before .before .before .before .args .r .rest .len * 8) (c .before .before .before .before .before .before .before .before .before .before .before .args .frames .now) (λ i. c .before .before .before .before .before .before .before .before .before .before .shared-slice-known .given i .fits)) (c .before .before .before .before .before .pull-good .ensures .1 .0) (c .before .before .before .before .before .pull-good .ensures .0) (c .before .before .before .before .before .before .before .before .before .before .before .pre .1 .1 .1) (c .before .before .before .before .before .before .before .before .before .before .before .pre .1 .0) (rw (c .before .enum-told3 .given .1))
     (rw (c .before .enum-told3 .given .1))
 
 same-length-5 : tie.Need-same-length-5
@@ -80,8 +86,8 @@ same-length-5 c = search needs
 
 returns-4 : tie.Need-returns-4
 returns-4 c =
-    pulled-quiet (c .before .before .before .before .before .before .before .before .before .before .before .args .r) _ (c .before .before .before .before .before .before .before .before .before .before .before .args .window .now) (c .before .before .before .before .before .before .before .before .before .before .before .args .out .now) (c .before .before .before .before .before .before .before .before .before .before .before .args .report .now) (c .before .before .before .before .before .before .pull .result .state) false (c .before .before .before .before .before .before .pull .result .answer)
-    (c .with-state4 .ensures) (c .before .before .before .before .before .before .pull .ensures .1 .0) (c .before .before .before .before .before .before .pull .ensures .0) (c .before .before .before .before .before .before .before .before .before .before .before .pre .1 .1) (c .before .before .before .before .before .before .before .before .before .before .before .pre .0) (rw (c .before .enum-told4 .given .1))
+    pulled-quiet (c .before .before .before .before .before .before .before .before .before .before .before .args .frames .now) (c .before .before .before .before .before .before .before .before .before .before .before .args .r) _ (c .before .before .before .before .before .before .before .before .before .before .before .args .window .now) (c .before .before .before .before .before .before .before .before .before .before .before .args .out .now) (c .before .before .before .before .before .before .before .before .before .before .before .args .report .now) _ false (c .before .before .before .before .before .pull-good .result .answer)
+    (c .with-turn4 .ensures) (c .before .before .before .before .before .before .before .before .before .before .before .pre .0) (bytes-take (c .before .before .before .before .before .before .before .before .before .before .before .args .r .rest .len * 8) (c .before .before .before .before .before .before .before .before .before .before .before .args .frames .now) (λ i. c .before .before .before .before .before .before .before .before .before .before .shared-slice-known .given i .fits)) (c .before .before .before .before .before .pull-good .ensures .1 .0) (c .before .before .before .before .before .pull-good .ensures .0) (c .before .before .before .before .before .before .before .before .before .before .before .pre .1 .1 .1) (c .before .before .before .before .before .before .before .before .before .before .before .pre .1 .0) (rw (c .before .enum-told4 .given .1))
     (rw (c .before .enum-told4 .given .1))
 
 same-length-6 : tie.Need-same-length-6
@@ -89,26 +95,26 @@ same-length-6 c = search needs
 
 returns-5 : tie.Need-returns-5
 returns-5 c =
-    pulled-quiet (c .before .before .before .before .before .before .before .before .before .before .before .args .r) _ (c .before .before .before .before .before .before .before .before .before .before .before .args .window .now) (c .before .before .before .before .before .before .before .before .before .before .before .args .out .now) (c .before .before .before .before .before .before .before .before .before .before .before .args .report .now) (c .before .before .before .before .before .before .pull .result .state) false (c .before .before .before .before .before .before .pull .result .answer)
-    (c .with-state5 .ensures) (c .before .before .before .before .before .before .pull .ensures .1 .0) (c .before .before .before .before .before .before .pull .ensures .0) (c .before .before .before .before .before .before .before .before .before .before .before .pre .1 .1) (c .before .before .before .before .before .before .before .before .before .before .before .pre .0) (rw (c .before .enum-told5 .given .1))
+    pulled-quiet (c .before .before .before .before .before .before .before .before .before .before .before .args .frames .now) (c .before .before .before .before .before .before .before .before .before .before .before .args .r) _ (c .before .before .before .before .before .before .before .before .before .before .before .args .window .now) (c .before .before .before .before .before .before .before .before .before .before .before .args .out .now) (c .before .before .before .before .before .before .before .before .before .before .before .args .report .now) _ false (c .before .before .before .before .before .pull-good .result .answer)
+    (c .with-turn5 .ensures) (c .before .before .before .before .before .before .before .before .before .before .before .pre .0) (bytes-take (c .before .before .before .before .before .before .before .before .before .before .before .args .r .rest .len * 8) (c .before .before .before .before .before .before .before .before .before .before .before .args .frames .now) (λ i. c .before .before .before .before .before .before .before .before .before .before .shared-slice-known .given i .fits)) (c .before .before .before .before .before .pull-good .ensures .1 .0) (c .before .before .before .before .before .pull-good .ensures .0) (c .before .before .before .before .before .before .before .before .before .before .before .pre .1 .1 .1) (c .before .before .before .before .before .before .before .before .before .before .before .pre .1 .0) (rw (c .before .enum-told5 .given .1))
     (rw (c .before .enum-told5 .given .1))
 
 pub pull-into-spec : {M : Type 1} → statement M
 pull-into-spec =
     tie.close
     (tie.spec
-    pull-requires
+    pull-good-requires
     enum-told
-    with-state-requires
+    with-turn-requires
     enum-told-2
     say-report-requires
-    with-state-requires-2
+    with-turn-requires-2
     enum-told-3
-    with-state-requires-3
+    with-turn-requires-3
     enum-told-4
-    with-state-requires-4
+    with-turn-requires-4
     enum-told-5
-    with-state-requires-5
+    with-turn-requires-5
     same-length
     returns
     same-length-2

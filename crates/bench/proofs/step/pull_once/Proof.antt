@@ -7,13 +7,13 @@ slice-aggregate-pull-into : tie.Need-slice-aggregate-pull-into
 slice-aggregate-pull-into c = search needs
 
 pull-into-requires : tie.Need-pull-into-requires
-pull-into-requires c κs = search needs
+pull-into-requires c κs = (c .before .before .before .before .pre .0, (c .before .before .before .before .pre .1 .0, (search needs, search needs)))
 
 same-length : tie.Need-same-length
 same-length c = search needs
 
 returns : tie.Need-returns
-returns c = search needs
+returns c = c .before .before .before .pull-into .ensures
 
 pub pull-once-spec : {M : Type 1} → statement M
 pull-once-spec =

@@ -3,23 +3,19 @@ use mathlib.Core.Path.{_≡_, sym, ap, _∙_}
 use mathlib.Core.Bool.{true, false}
 use mathlib.Core.List.{List}
 use Prim.Native.Nat.{ℕ}
-use native.Mathlib.Omega.{arith}
 use borrow.Author.Needs.{needs}
-use borrow.Author.Tests.{eqb-true, lt-ltb, le-ltb}
+use borrow.Author.Tests.{eqb-true, lt-ltb}
 use lib.Dec.{eqb}
 use lib.IntN.{ℤ}
 use lib.ListN.{length}
-use lib.Seq.{length-take-le}
-use Rattle.verdict.specs.declared.Judgement.{Judgement}
 use Rattle.checker.specs.Limits.{windowWords}
 use Rattle.checker.specs.Answer.{pullTold, refused}
 use Rattle.checker.specs.Parts.{stateOf, withTurn}
 use Rattle.checker.specs.Good.{goodState}
-use Rattle.checker.specs.Pull.{PullResult, offered, notPulled, pulledBy, pullDef}
+use Rattle.checker.specs.Pull.{PullResult, notPulled, pullDef}
 use Rattle.checker.specs.declared.State.{State}
 use Rattle.checker.specs.declared.pulling.Turn.{Turn}
-use Rattle.checker.proofs.CodeGood.{good-facts}
-use Rattle.checker.proofs.PullOffer.{pull-12, pull-13, pull-14, pull-offers}
+use Rattle.checker.proofs.PullOffer.{pull-12, pull-13, pull-14}
 use Rattle.checker.proofs.pulling.decide.Statement.{statement}
 use Rattle.checker.proofs.pulling.decide.Tie as tie
 
@@ -32,40 +28,16 @@ window-fits-requires c κs = search needs
 refuse-requires : tie.Need-refuse-requires
 refuse-requires c κs = search needs
 
-cast-n : tie.Need-cast-n
-cast-n c = search needs
-
-mul-n : tie.Need-mul-n
-mul-n c =
-    let s : State = stateOf (c .before .before .before .before .before .before .before .before .args .frames .now) (c .before .before .before .before .before .before .before .before .args .rest) in
-    let g : goodState s ≡ true = sym (c .before .before .before .before .before .good2 .ensures .0) ∙ c .before .before .before .before .if1 .taken in
-    omega (arith, good-facts s g .few)
-
-slice-aggregate-offer : tie.Need-slice-aggregate-offer
-slice-aggregate-offer c =
-    let s : State = stateOf (c .before .before .before .before .before .before .before .before .before .before .before .args .frames .now) (c .before .before .before .before .before .before .before .before .before .before .before .args .rest) in
-    let g : goodState s ≡ true = sym (c .before .before .before .before .before .before .before .before .good2 .ensures .0) ∙ c .before .before .before .before .before .before .before .if1 .taken in
-    sym (length-take-le _ _ (omega (arith, c .before .before .before .before .before .before .before .before .before .before .before .pre, good-facts s g .few)))
-
-offer-requires : tie.Need-offer-requires
-offer-requires c κs =
-    let a = c .before .before .before .before .before .before .before .before .before .before .before .before .args in
-    let s : State = stateOf (a .frames .now) (a .rest) in
-    let win : List ℤ = a .window .now in
-    let g : goodState s ≡ true = sym (c .before .before .before .before .before .before .before .before .before .good2 .ensures .0) ∙ c .before .before .before .before .before .before .before .before .if1 .taken in
-    let l : eqb (length win) (windowWords (s .width)) ≡ true = sym (c .before .before .before .before .before .before .before .window-fits .ensures) ∙ c .before .before .before .before .before .before .if2 .taken in
-    let f = good-facts s g in
-    record {
-      accepted = f .accepted;
-      look = record { instance-in = f .totals .low; some = f .some; most = f .most; words = eqb-true (length win) (windowWords (s .width)) l };
-      room = c .before .before .before .before .before .if3 .left;
-    }
-
-give-requires : tie.Need-give-requires
-give-requires c κs =
-    let s : State = stateOf (c .before .before .before .before .before .before .before .before .before .before .before .before .before .before .before .args .frames .now) (c .before .before .before .before .before .before .before .before .before .before .before .before .before .before .before .args .rest) in
-    let g : goodState s ≡ true = sym (c .before .before .before .before .before .before .before .before .before .before .before .before .good2 .ensures .0) ∙ c .before .before .before .before .before .before .before .before .before .before .before .if1 .taken in
-    good-facts s g .totals
+pull-good-requires : tie.Need-pull-good-requires
+pull-good-requires c κs =
+    let a = c .before .before .before .before .before .before .before .before .args in (
+      record {
+        long = c .before .before .before .before .before .before .before .before .pre;
+        good = sym (c .before .before .before .before .before .good2 .ensures .0) ∙ c .before .before .before .before .if1 .taken;
+        words = eqb-true (length (a .window .now)) (windowWords (a .rest .width)) (sym (c .before .before .before .window-fits .ensures) ∙ c .before .before .if2 .taken);
+      },
+      c .before .if3 .left,
+    )
 
 refuse-requires-2 : tie.Need-refuse-requires-2
 refuse-requires-2 c κs = search needs
@@ -90,18 +62,7 @@ same-length : tie.Need-same-length
 same-length c = search needs
 
 returns-2 : tie.Need-returns-2
-returns-2 c =
-    let a = c .before .before .before .before .before .before .before .before .before .before .before .before .before .before .before .before .args in
-    let s : State = stateOf (a .frames .now) (a .rest) in
-    let win : List ℤ = a .window .now in
-    let out : List ℕ = a .report .now in
-    let g : goodState s ≡ true = sym (c .before .before .before .before .before .before .before .before .before .before .before .before .before .good2 .ensures .0) ∙ c .before .before .before .before .before .before .before .before .before .before .before .before .if1 .taken in
-    let l : eqb (length win) (windowWords (s .width)) ≡ true = sym (c .before .before .before .before .before .before .before .before .before .before .before .window-fits .ensures) ∙ c .before .before .before .before .before .before .before .before .before .before .if2 .taken in
-    let j : Judgement = c .before .before .before .offer .result in
-    let e : pulledBy s win out (offered j) ≡ pullDef s win out = pull-offers s win out g l (le-ltb (length out) 166 (c .before .before .before .before .before .before .before .before .before .if3 .left)) j (c .before .before .before .offer .ensures .0) in (
-      c .give .ensures .0 ∙ ap (λ (x : PullResult). x .answer) e,
-      (c .give .ensures .1 (a .frames .now) ∙ ap (λ (x : PullResult). x .state) e, c .before .before .before .offer .ensures .1 ∙ ap (λ (x : PullResult). x .report) e),
-    )
+returns-2 c = c .before .before .pull-good .ensures
 
 returns-3 : tie.Need-returns-3
 returns-3 c =
@@ -129,4 +90,17 @@ returns-4 c =
     )
 
 pub decide-spec : {M : Type 1} → statement M
-decide-spec = tie.close (tie.spec good-requires window-fits-requires refuse-requires cast-n mul-n slice-aggregate-offer offer-requires give-requires refuse-requires-2 refuse-requires-3 returns same-length returns-2 returns-3 returns-4)
+decide-spec =
+    tie.close
+    (tie.spec
+    good-requires
+    window-fits-requires
+    refuse-requires
+    pull-good-requires
+    refuse-requires-2
+    refuse-requires-3
+    returns
+    same-length
+    returns-2
+    returns-3
+    returns-4)

@@ -1,0 +1,29 @@
+-- `bench::run_log` runs a checker that 12 and 13 let through. Assumes nothing.
+use mathlib.Core.Path.{_∙_}
+use borrow.Author.Needs.{needs}
+use Rattle.bench.proofs.run_log.Statement.{statement}
+use Rattle.bench.proofs.run_log.Tie as tie
+
+pull-all-requires : tie.Need-pull-all-requires
+pull-all-requires c κs = (c .before .before .before .before .before .pre .0, search needs)
+
+all-requires : tie.Need-all-requires
+all-requires c κs = (c .before .before .before .before .before .pull-all .ensures .0, search needs)
+
+finish-requires : tie.Need-finish-requires
+finish-requires c κs = (c .before .before .before .before .before .before .all .ensures, c .before .before .before .before .before .before .all .kept .1 .1 .1 .1 .0 ∙ c .before .before .before .before .before .before .before .before .before .before .before .before .pull-all .kept .1 .1 .1 .0 ∙ c .before .before .before .before .before .before .before .before .before .before .before .before .before .before .before .before .before .before .pre .1 .1)
+
+same-length : tie.Need-same-length
+same-length c = search needs
+
+same-length-2 : tie.Need-same-length-2
+same-length-2 c = search needs
+
+same-length-3 : tie.Need-same-length-3
+same-length-3 c = search needs
+
+returns : tie.Need-returns
+returns c = search needs
+
+pub run-log-spec : {M : Type 1} → statement M
+run-log-spec = tie.close (tie.spec pull-all-requires all-requires finish-requires same-length same-length-2 same-length-3 returns)

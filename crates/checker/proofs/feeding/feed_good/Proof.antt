@@ -1,0 +1,45 @@
+-- `checker::feeding::feed_good` meets its contract. Assumes nothing.
+use mathlib.Core.Path.{sym}
+use native.Mathlib.Omega.{arith}
+use lib.Seq.{length-take-le}
+use borrow.Author.Needs.{needs}
+use Rattle.checker.specs.Parts.{stateOf}
+use Rattle.checker.proofs.CodeGood.{good-facts}
+use Rattle.checker.proofs.feeding.feed_good.Statement.{statement}
+use Rattle.checker.proofs.feeding.feed_good.Tie as tie
+
+cast-n : tie.Need-cast-n
+cast-n c = search needs
+
+mul-n : tie.Need-mul-n
+mul-n c = omega (arith, good-facts (stateOf (c .before .before .before .args .frames .now) (c .before .before .before .args .rest)) (c .before .before .before .pre .good) .few)
+
+slice-aggregate-lows : tie.Need-slice-aggregate-lows
+slice-aggregate-lows c =
+    sym (length-take-le _ _ (omega (arith, c .before .before .before .before .before .pre .long, good-facts (stateOf (c .before .before .before .before .before .args .frames .now) (c .before .before .before .before .before .args .rest)) (c .before .before .before .before .before .pre .good) .few)))
+
+lows-requires : tie.Need-lows-requires
+lows-requires c κs =
+    let f = good-facts (stateOf (c .before .before .before .before .before .args .frames .now) (c .before .before .before .before .before .args .rest)) (c .before .before .before .before .before .pre .good) in
+    record { accepted = f .accepted; instance-in = f .totals .low }
+
+feed-with-requires : tie.Need-feed-with-requires
+feed-with-requires c κs = (c .before .before .before .before .before .before .before .pre, c .before .lows .ensures)
+
+same-length : tie.Need-same-length
+same-length c = search needs
+
+returns : tie.Need-returns
+returns c = c .before .feed-with .ensures
+
+pub feed-good-spec : {M : Type 1} → statement M
+feed-good-spec =
+    tie.close
+    (tie.spec
+    cast-n
+    mul-n
+    slice-aggregate-lows
+    lows-requires
+    feed-with-requires
+    same-length
+    returns)
