@@ -9,6 +9,7 @@ use checker::Rest;
 use libc::STDIN_FILENO;
 use libc::STDOUT_FILENO;
 use log::walk::Found;
+use rule::FRAME_BYTES;
 use rule::Reading;
 use rule::Refusal;
 ghost use mathlib.Core.Path.{_≡_};
@@ -36,9 +37,6 @@ pub struct Run {
     pub full: usize,
     pub more: bool,
 }
-
-// A frame has 8 bytes.
-const FRAME_BYTES: usize = 8;
 
 // The document's W for this program.
 const WIDTH: u32 = 64;

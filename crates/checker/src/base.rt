@@ -1,4 +1,5 @@
 // The base of each event, in one pass over the frames. Base is the document's term.
+use rule::FRAME_BYTES;
 use rule::Frame;
 use verdict::Instance;
 use verdict::Meant;
@@ -13,9 +14,6 @@ ghost use Rattle.checker.specs.Lows.{loweredBy, lowsOf, Startable, Passa
 
 // In the place of a base, of an event with no reference; no base is as large.
 pub const NO_BASE: u32 = 4294967295;
-
-// A frame has 8 bytes.
-const FRAME_BYTES: usize = 8;
 
 // The lower of a number and the occurrence that a reference means, void as 0.
 fn lower(low: u32, p: Instance, factor: u8, offset: i32) -> u32

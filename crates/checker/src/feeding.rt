@@ -10,6 +10,7 @@ use crate::opening;
 use crate::words;
 use log::Line;
 use log::Notes;
+use rule::FRAME_BYTES;
 use rule::Refusal;
 use verdict::Occurrence;
 ghost use mathlib.Core.Path.{_≡_};
@@ -24,9 +25,6 @@ ghost use Rattle.checker.specs.Parts.{stateOf, withCounts};
 ghost use Rattle.checker.specs.Feed.{feedEvent, fedBy, feedDef};
 ghost use Rattle.checker.specs.Lows.{lowsOf};
 ghost use Rattle.checker.specs.Ready.{Ready};
-
-// A frame has 8 bytes.
-const FRAME_BYTES: usize = 8;
 
 // At most 8 events, numbered from 0.
 const EVENTS: u8 = 8;

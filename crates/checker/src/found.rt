@@ -1,5 +1,6 @@
 // What the counts and the window say of each reference of a rule.
 use crate::words;
+use rule::FRAME_BYTES;
 use rule::Frame;
 use verdict::Instance;
 use verdict::Meant;
@@ -15,9 +16,6 @@ ghost use Rattle.checker.specs.Limits.{windowWords};
 ghost use Rattle.checker.specs.Found.{windowAt};
 ghost use Rattle.checker.specs.Within.{InWindow};
 ghost use Rattle.checker.specs.Sights.{foundBy, Shows, Looked, Lookable, Limited};
-
-// A frame has 8 bytes.
-const FRAME_BYTES: usize = 8;
 
 // The document's marks of a reference.
 const PRESENT: u8 = 0;

@@ -4,6 +4,7 @@ use crate::apart::Rest;
 use crate::base;
 use crate::opening;
 use rule::Checked;
+use rule::FRAME_BYTES;
 use verdict::Instance;
 ghost use mathlib.Core.Path.{_≡_};
 ghost use mathlib.Core.Bool.{Bool, true, false, _&&_};
@@ -22,9 +23,6 @@ ghost use Rattle.checker.specs.Lows.{lowsOf, countFits, ruleFits, tallyF
 
 // At most 64 frames of 8 bytes.
 const FRAMES: u32 = 64;
-
-// A frame has 8 bytes.
-const FRAME_BYTES: usize = 8;
 
 // At most 8 events, numbered from 0.
 const EVENTS: usize = 8;

@@ -4,6 +4,7 @@ use crate::Opened;
 use crate::State;
 use crate::Totals;
 use rule::Checked;
+use rule::FRAME_BYTES;
 use rule::Refusal;
 use verdict::Instance;
 ghost use mathlib.Core.Path.{_≡_};
@@ -24,9 +25,6 @@ const WIDTH_LIMIT: u32 = 256;
 
 // A window has 32 × W words.
 const WORDS: usize = 32;
-
-// A frame has 8 bytes.
-const FRAME_BYTES: usize = 8;
 
 // The number of the first instance.
 const FIRST_INSTANCE: u32 = 0;

@@ -9,6 +9,7 @@ use crate::found;
 use crate::good;
 use crate::opening;
 use crate::report;
+use rule::FRAME_BYTES;
 use rule::Refusal;
 use verdict::Instance;
 use verdict::Judgement;
@@ -29,9 +30,6 @@ ghost use Rattle.checker.specs.Pull.{offered, pullAnswer, pullReport, st
 ghost use Rattle.checker.specs.Sights.{foundBy};
 ghost use Rattle.checker.specs.Offer.{Countable, Offerable};
 ghost use Rattle.checker.specs.Ready.{Ready};
-
-// A frame has 8 bytes.
-const FRAME_BYTES: usize = 8;
 
 // A report buffer has at least 166 bytes.
 const REPORT_LEAST: usize = 166;

@@ -1,4 +1,5 @@
 // The report of a false verdict. Report is the document's term.
+use rule::FRAME_BYTES;
 use verdict::Instance;
 ghost use mathlib.Core.Path.{_≡_};
 ghost use mathlib.Core.Bool.{cond};
@@ -14,9 +15,6 @@ ghost use Rattle.rule.specs.Tree.{wordBytes};
 ghost use Rattle.rule.specs.References.{referenceByte, referenceCount};
 ghost use Rattle.checker.specs.Report.{written};
 ghost use Rattle.checker.specs.Sights.{Fillable, headerOf, entryOf, reportTo};
-
-// A frame has 8 bytes.
-const FRAME_BYTES: usize = 8;
 
 // The fifth byte, for false.
 const FALSE: u8 = 0;
