@@ -17,6 +17,15 @@ fn condition(text: &str) -> Result<usize, (u8, usize)> {
     answer(&format!("{HEAD}{text}"))
 }
 
+/// A rule of so many frames: read, up to 64.
+fn few(frames: usize) -> Result<usize, (u8, usize)> {
+    if frames <= 64 {
+        Ok(frames)
+    } else {
+        Err((6, 0))
+    }
+}
+
 /// The refusal at a place of such a condition.
 fn behind_head(number: u8, place: usize) -> Result<usize, (u8, usize)> {
     Err((number, HEAD.len() + place))
@@ -149,24 +158,10 @@ fn a_group_ends_its_depth() {
     for times in 1..=21 {
         let units = beside("{!{!t(a[i]) = 1}}", times, "&&");
         let expected = 3 * times + 2 * times + times - 1;
-        assert_eq!(
-            condition(&units),
-            if expected <= 64 {
-                Ok(expected)
-            } else {
-                Err((6, 0))
-            }
-        );
+        assert_eq!(condition(&units), few(expected));
         let groups = format!("{} = t(a[i])", beside("abs((i))", times, "-"));
         let expected = 3 * times - 1 + 2;
-        assert_eq!(
-            condition(&groups),
-            if expected <= 64 {
-                Ok(expected)
-            } else {
-                Err((6, 0))
-            }
-        );
+        assert_eq!(condition(&groups), few(expected));
     }
 }
 
@@ -199,28 +194,14 @@ fn frames() {
             let sum = vec!["t(a[i])"; operands].join("+");
             let text = format!("{}{sum} = 1", "!".repeat(nots));
             let frames = 2 * operands + 1 + nots;
-            assert_eq!(
-                condition(&text),
-                if frames <= 64 {
-                    Ok(frames)
-                } else {
-                    Err((6, 0))
-                }
-            );
+            assert_eq!(condition(&text), few(frames));
         }
     }
     for relations in 1..=20 {
         for operator in ["&&", "||"] {
             let text = vec!["t(a[i])=1"; relations].join(operator);
             let frames = 4 * relations - 1;
-            assert_eq!(
-                condition(&text),
-                if frames <= 64 {
-                    Ok(frames)
-                } else {
-                    Err((6, 0))
-                }
-            );
+            assert_eq!(condition(&text), few(frames));
         }
     }
 }
