@@ -161,12 +161,15 @@ fn stored_cases() {
     let room = Room::new("stored");
     for case in 0..40 {
         let file = |name: &str| std::fs::read(vector(&format!("bench/{case:02}/{name}"))).unwrap();
-        let printed = room.run(&file("rule.loc"), &file("log"));
-        same(
-            &printed,
-            &text_of(file("stdout")),
-            &format!("bench/{case:02}"),
-        );
+        let (rule, log, expected) = (file("rule.loc"), file("log"), text_of(file("stdout")));
+        let pieces = pieces(&mut Random::new(case + 70_000_000), &log);
+        for (how, printed) in [
+            ("whole", room.run(&rule, &log)),
+            ("pipe", room.run_pipe(&rule, &pieces)),
+            ("packets", room.run_packets(&rule, &pieces)),
+        ] {
+            same(&printed, &expected, &format!("bench/{case:02}, {how}"));
+        }
     }
 }
 
