@@ -127,8 +127,8 @@ pub fn feed_good(frames: &[u8], rest: Rest, window: &mut [i32], line: &[u8]) -> 
     feed_with(frames, rest, lows, window, line)
 }
 
-// A line fed to a checker, whatever the state, the window and the line are.
-fn decide(frames: &[u8], rest: Rest, window: &mut [i32], line: &[u8]) -> Way
+// Feeds a line to a checker in parts, whatever the state, the window and the line are.
+pub fn feed_parts(frames: &[u8], rest: Rest, window: &mut [i32], line: &[u8]) -> Way
     requires { ⌜ length (now frames) ≡ frameLimit * frameBytes ⌝ }
     ensures { λ r. ⌜ (feedTold (r .answer) ≡ feedDef (stateOf (now (frames .entry)) rest) (now (window .entry)) (now (line .entry)) .answer) × ((withCounts (stateOf (now (frames .entry)) rest) (r .counts) ≡ feedDef (stateOf (now (frames .entry)) rest) (now (window .entry)) (now (line .entry)) .state) × (now (window .exit) ≡ feedDef (stateOf (now (frames .entry)) rest) (now (window .entry)) (now (line .entry)) .words)) ⌝ }
 {
@@ -150,11 +150,13 @@ fn decide(frames: &[u8], rest: Rest, window: &mut [i32], line: &[u8]) -> Way
 pub fn feed(state: State, window: &mut [i32], line: &[u8]) -> Fed
     ensures { λ r. ⌜ (feedTold (r .answer) ≡ feedDef state (now (window .entry)) (now (line .entry)) .answer) × ((r .state ≡ feedDef state (now (window .entry)) (now (line .entry)) .state) × (now (window .exit) ≡ feedDef state (now (window .entry)) (now (line .entry)) .words)) ⌝ }
 {
+    let frames = state.frames;
     let rest = apart::rest_of(state);
-    let way = decide(&state.frames, rest, window, line);
+    let way = feed_parts(&frames, rest, window, line);
     let answer = way.answer;
     let counts = way.counts;
-    let mut t = state;
-    t.counts = counts;
-    Fed { answer, state: t }
+    Fed {
+        answer,
+        state: apart::with_counts(frames, rest, counts),
+    }
 }

@@ -8,6 +8,7 @@ use verdict::Occurrence;
 ghost use mathlib.Core.Path.{_≡_};
 ghost use lib.IntN.{pos};
 ghost use lib.ListN.{length};
+ghost use Rattle.rule.specs.Limits.{frameLimit};
 ghost use Rattle.rule.specs.Tree.{LimitsR};
 ghost use Rattle.rule.specs.References.{referenceByte, referenceOf};
 ghost use Rattle.rule.specs.Check.{checkedOf};
@@ -28,12 +29,6 @@ const VOID: u8 = 2;
 pub struct Seen {
     pub mark: u8,
     pub note: i32,
-}
-
-// A mark and a value for each frame; those of other kinds do not count.
-pub struct Sights {
-    pub marks: [u8; 64],
-    pub notes: [i32; 64],
 }
 
 // A note of an occurrence: pending from the count on.
@@ -87,14 +82,20 @@ fn of_frame(x: Frame, p: Instance, width: u32, counts: [u32; 8], window: &[i32])
     }
 }
 
-// Each reference of accepted frames at instance p.
-pub fn look(frames: &[u8], p: Instance, width: u32, counts: [u32; 8], window: &[i32]) -> Sights
-    requires { ⌜ (checkedOf (now frames) ≡ Checked.Accepted) × Lookable (p .0) width (length (now window)) ⌝ }
-    ensures { λ r. ⌜ Looked (now (frames .entry)) (foundBy width counts (now (window .entry)) (p .0)) (r .marks) (r .notes) ⌝ }
+// A mark and a value for each frame, at instance p of accepted frames; those of other kinds than references do not count.
+pub fn look(
+    frames: &[u8],
+    p: Instance,
+    width: u32,
+    counts: [u32; 8],
+    window: &[i32],
+    marks: &mut [u8; 64],
+    notes: &mut [i32; 64],
+)
+    requires { ⌜ (checkedOf (now frames) ≡ Checked.Accepted) × (Lookable (p .0) width (length (now window)) × ((length (now marks) ≡ frameLimit) × (length (now notes) ≡ frameLimit))) ⌝ }
+    ensures { λ r. ⌜ Looked (now (frames .entry)) (foundBy width counts (now (window .entry)) (p .0)) (now (marks .exit)) (now (notes .exit)) ⌝ }
 {
     let n = frames.len() / FRAME_BYTES;
-    let mut marks = [0u8; 64];
-    let mut notes = [0i32; 64];
     let mut k = 0;
     while k < n {
         let x = rule::frame_at(frames, k);
@@ -104,5 +105,4 @@ pub fn look(frames: &[u8], p: Instance, width: u32, counts: [u32; 8], window: &[
         notes[k] = note;
         k += 1;
     }
-    Sights { marks, notes }
 }

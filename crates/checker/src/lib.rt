@@ -11,13 +11,17 @@ mod words; // words.rt: the window's words
 
 pub use apart::Rest;
 pub use apart::rest_of;
+pub use apart::with_counts;
+pub use apart::with_turn;
 pub use feeding::Way;
 pub use feeding::feed;
 pub use feeding::feed_good;
+pub use feeding::feed_parts;
 pub use opening::open;
 pub use pulling::Turn;
 pub use pulling::pull;
 pub use pulling::pull_good;
+pub use pulling::pull_parts;
 use rule::Refusal;
 use verdict::Instance;
 

@@ -125,14 +125,15 @@ fn offer(
     requires { ⌜ Offerable (now frames) (p .0) width (length (now window)) (length (now report)) ⌝ }
     ensures { λ r. ⌜ (r ≡ judgement (p .0) (foundBy width counts (now (window .entry)) (p .0)) (treeOf (now (frames .entry)))) × (now (report .exit) ≡ pullReport (p .0) (references (treeOf (now (frames .entry)))) (foundBy width counts (now (window .entry)) (p .0)) (now (report .entry)) (offered r)) ⌝ }
 {
-    let sights = found::look(frames, p, width, counts, window);
-    let marks = sights.marks;
-    let judged = verdict::judge(frames, p, &marks, &sights.notes);
+    let mut marks = [0u8; 64];
+    let mut notes = [0i32; 64];
+    found::look(frames, p, width, counts, window, &mut marks, &mut notes);
+    let judged = verdict::judge(frames, p, &marks, &notes);
     match judged {
         Judgement::Unsettled => Judgement::Unsettled,
         Judgement::True => Judgement::True,
         Judgement::False => {
-            report::fill(report, frames, p, &marks, &sights.notes);
+            report::fill(report, frames, p, &marks, &notes);
             Judgement::False
         }
         Judgement::Unknown => Judgement::Unknown,
@@ -152,8 +153,8 @@ pub fn pull_good(frames: &[u8], rest: Rest, window: &[i32], report: &mut [u8]) -
     give(rest, judged)
 }
 
-// A pull from a checker, whatever the state, the window and the report buffer are.
-fn decide(frames: &[u8], rest: Rest, window: &[i32], report: &mut [u8]) -> Turn
+// Pulls from a checker in parts, whatever the state, the window and the report buffer are.
+pub fn pull_parts(frames: &[u8], rest: Rest, window: &[i32], report: &mut [u8]) -> Turn
     requires { ⌜ length (now frames) ≡ frameLimit * frameBytes ⌝ }
     ensures { λ r. ⌜ (pullTold (r .answer) ≡ pullDef (stateOf (now (frames .entry)) rest) (now (window .entry)) (now (report .entry)) .answer) × ((withTurn (stateOf (now (frames .entry)) rest) (r .next) (r .totals) ≡ pullDef (stateOf (now (frames .entry)) rest) (now (window .entry)) (now (report .entry)) .state) × (now (report .exit) ≡ pullDef (stateOf (now (frames .entry)) rest) (now (window .entry)) (now (report .entry)) .report)) ⌝ }
 {
@@ -177,13 +178,14 @@ fn decide(frames: &[u8], rest: Rest, window: &[i32], report: &mut [u8]) -> Turn
 pub fn pull(state: State, window: &[i32], report: &mut [u8]) -> Pulled
     ensures { λ r. ⌜ (pullTold (r .answer) ≡ pullDef state (now (window .entry)) (now (report .entry)) .answer) × ((r .state ≡ pullDef state (now (window .entry)) (now (report .entry)) .state) × (now (report .exit) ≡ pullDef state (now (window .entry)) (now (report .entry)) .report)) ⌝ }
 {
+    let frames = state.frames;
     let rest = apart::rest_of(state);
-    let turn = decide(&state.frames, rest, window, report);
+    let turn = pull_parts(&frames, rest, window, report);
     let answer = turn.answer;
     let next = turn.next;
     let totals = turn.totals;
-    let mut t = state;
-    t.next = next;
-    t.totals = totals;
-    Pulled { answer, state: t }
+    Pulled {
+        answer,
+        state: apart::with_turn(frames, rest, next, totals),
+    }
 }

@@ -51,12 +51,14 @@ pub extern "C" fn dillplatter_open(frames: &[u8], width: u32, window: &mut [i32]
 pub extern "C" fn dillplatter_feed(state: State, window: &mut [i32], line: &[u8]) -> CallResult
     ensures { λ r. ⌜ (r .answer ≡ answerOf (checked (feedDef state (now (window .entry)) (now (line .entry)) .answer))) × ((r .number ≡ numberOf (checked (feedDef state (now (window .entry)) (now (line .entry)) .answer))) × ((r .place ≡ placeOf (checked (feedDef state (now (window .entry)) (now (line .entry)) .answer))) × ((r .state ≡ feedDef state (now (window .entry)) (now (line .entry)) .state) × (now (window .exit) ≡ feedDef state (now (window .entry)) (now (line .entry)) .words)))) ⌝ }
 {
-    let fed = checker::feed(state, window, line);
-    let after_feed = fed.state;
-    let a = fed.answer;
+    let frames = state.frames;
+    let rest = checker::rest_of(state);
+    let way = checker::feed_parts(&frames, rest, window, line);
+    let a = way.answer;
     let feeding = told::feeding(a);
+    let counts = way.counts;
     CallResult {
-        state: after_feed,
+        state: checker::with_counts(frames, rest, counts),
         answer: feeding.answer,
         number: feeding.number,
         place: feeding.place,
@@ -68,12 +70,15 @@ pub extern "C" fn dillplatter_feed(state: State, window: &mut [i32], line: &[u8]
 pub extern "C" fn dillplatter_pull(state: State, window: &[i32], report: &mut [u8]) -> CallResult
     ensures { λ r. ⌜ (r .answer ≡ answerOf (checked (pullDef state (now (window .entry)) (now (report .entry)) .answer))) × ((r .number ≡ numberOf (checked (pullDef state (now (window .entry)) (now (report .entry)) .answer))) × ((r .place ≡ placeOf (checked (pullDef state (now (window .entry)) (now (report .entry)) .answer))) × ((r .state ≡ pullDef state (now (window .entry)) (now (report .entry)) .state) × (now (report .exit) ≡ pullDef state (now (window .entry)) (now (report .entry)) .report)))) ⌝ }
 {
-    let pulled = checker::pull(state, window, report);
-    let after_pull = pulled.state;
-    let a = pulled.answer;
+    let frames = state.frames;
+    let rest = checker::rest_of(state);
+    let turn = checker::pull_parts(&frames, rest, window, report);
+    let a = turn.answer;
     let pulling = told::pulling(a);
+    let next = turn.next;
+    let totals = turn.totals;
     CallResult {
-        state: after_pull,
+        state: checker::with_turn(frames, rest, next, totals),
         answer: pulling.answer,
         number: pulling.number,
         place: pulling.place,

@@ -1,4 +1,4 @@
--- `checker::pulling::decide` meets its contract. Assumes nothing.
+-- `checker::pulling::pull_parts` meets its contract. Assumes nothing.
 use mathlib.Core.Path.{_≡_, sym, ap, _∙_}
 use mathlib.Core.Bool.{true, false}
 use mathlib.Core.List.{List}
@@ -16,8 +16,8 @@ use Rattle.checker.specs.Pull.{PullResult, notPulled, pullDef}
 use Rattle.checker.specs.declared.State.{State}
 use Rattle.checker.specs.declared.pulling.Turn.{Turn}
 use Rattle.checker.proofs.PullOffer.{pull-12, pull-13, pull-14}
-use Rattle.checker.proofs.pulling.decide.Statement.{statement}
-use Rattle.checker.proofs.pulling.decide.Tie as tie
+use Rattle.checker.proofs.pulling.pull_parts.Statement.{statement}
+use Rattle.checker.proofs.pulling.pull_parts.Tie as tie
 
 good-requires : tie.Need-good-requires
 good-requires c κs = search needs
@@ -89,8 +89,8 @@ returns-4 c =
       (ap (λ (x : Turn). withTurn s (x .next) (x .totals)) (c .refuse3 .ensures) ∙ ap (λ (x : PullResult). x .state) e, ap (λ (x : PullResult). x .report) e),
     )
 
-pub decide-spec : {M : Type 1} → statement M
-decide-spec =
+pub pull-parts-spec : {M : Type 1} → statement M
+pull-parts-spec =
     tie.close
     (tie.spec
     good-requires

@@ -1,4 +1,4 @@
--- `checker::feeding::decide` meets its contract. Assumes nothing.
+-- `checker::feeding::feed_parts` meets its contract. Assumes nothing.
 use mathlib.Core.Path.{_≡_, sym, ap, _∙_}
 use mathlib.Core.Bool.{true, false}
 use mathlib.Core.List.{List}
@@ -16,8 +16,8 @@ use Rattle.checker.specs.declared.State.{State}
 use Rattle.checker.specs.declared.feeding.Way.{Way}
 use Rattle.checker.proofs.CodeFeed.{fed-13, fed-12}
 use borrow.Author.Needs.{needs}
-use Rattle.checker.proofs.feeding.decide.Statement.{statement}
-use Rattle.checker.proofs.feeding.decide.Tie as tie
+use Rattle.checker.proofs.feeding.feed_parts.Statement.{statement}
+use Rattle.checker.proofs.feeding.feed_parts.Tie as tie
 
 good-requires : tie.Need-good-requires
 good-requires c κs = search needs
@@ -72,8 +72,8 @@ returns-3 c =
       (ap (λ (x : Way). withCounts s (x .counts)) (c .refuse2 .ensures) ∙ sym (ap (λ (f : FeedResult). f .state) d), sym (ap (λ (f : FeedResult). f .words) d)),
     )
 
-pub decide-spec : {M : Type 1} → statement M
-decide-spec =
+pub feed-parts-spec : {M : Type 1} → statement M
+feed-parts-spec =
     tie.close
     (tie.spec
     good-requires
