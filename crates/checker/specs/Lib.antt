@@ -1,20 +1,23 @@
+-- What a buyer reads: limits and answers, bases, the state and the window, the report, the three calls, the plain machine, and the
+-- words of the third demand.
 pub mod Limits
 pub mod Answer
 pub mod Base
 pub mod State
-pub mod Parts
 pub mod Ring
 pub mod Found
+pub mod Report
 pub mod Open
 pub mod Good
 pub mod Feed
-pub mod Report
 pub mod Pull
 pub mod Calls
 pub mod Machine
+pub mod Demand
+-- What the contracts of inner functions are said by; no public contract cites it.
+pub mod Parts
 pub mod Within
 pub mod Lows
-pub mod Demand
 pub mod Sights
 pub mod Offer
 pub mod Ready

@@ -1,0 +1,82 @@
+/* Counts the bytes that each call of the library copies by memcpy, whatever it answers. The library is linked with its memcpy
+ * renamed, so that copies of the caller's own do not count. Fails where a call copies more than docs/DECISIONS.md says. */
+#include <stdio.h>
+#include <string.h>
+
+#include "dillplatter.h"
+
+#define WIDTH 4
+#define WORDS DILLPLATTER_WINDOW_WORDS(WIDTH)
+
+/* The frames, once to be lent and once into the result. */
+#define MOST (2 * DILLPLATTER_FRAME_BUFFER)
+
+/* What takes the place of the library's memcpy. */
+void *__wrap_memcpy(void *to, const void *from, size_t len);
+
+static size_t copied, most_copied;
+static int seen[9];
+
+void *__wrap_memcpy(void *to, const void *from, size_t len) {
+    copied += len;
+    return memcpy(to, from, len);
+}
+
+static uint8_t report[DILLPLATTER_REPORT_BYTES];
+static int32_t window[WORDS];
+static dillplatter_result result;
+
+static void note(void) {
+    if (most_copied < copied)
+        most_copied = copied;
+    copied = 0;
+    seen[result.answer] = 1;
+}
+
+static void feed(size_t words, uint8_t event, int32_t value) {
+    uint8_t line[DILLPLATTER_LINE_BYTES];
+    const int32_t notes[4] = {value, 0, 0, 0};
+    dillplatter_line(line, event, notes);
+    result = dillplatter_feed(result.state, window, words, line, sizeof line);
+    note();
+}
+
+static void pull(size_t room) {
+    result = dillplatter_pull(result.state, window, WORDS, report, room);
+    note();
+}
+
+/* A checker of a rule. */
+static int opened(const char *text) {
+    uint8_t frames[DILLPLATTER_FRAME_BUFFER];
+    dillplatter_reading reading = dillplatter_read((const uint8_t *)text, strlen(text), frames, sizeof frames);
+    copied = 0;
+    result = dillplatter_open(frames, DILLPLATTER_FRAME_BYTES * (size_t)reading.frames, WIDTH, window, WORDS);
+    note();
+    return result.answer == DILLPLATTER_OPENED;
+}
+
+/* Lines and pulls of every answer; the first pull of each rule is of an instance that is not settled. */
+static void run(void) {
+    pull(sizeof report);
+    pull(0);
+    feed(0, 0, 0);
+    feed(WORDS, 7, 0);
+    for (int k = 0; k < 40; k++) {
+        feed(WORDS, 0, k % 3);
+        feed(WORDS, 1, 0);
+        if (k % 8 < 7)
+            pull(sizeof report);
+    }
+}
+
+int main(void) {
+    int good = opened("events a b; notes t; t(a[i])+t(b[i]) <= 1");
+    run();
+    good &= opened("events a b; notes t; t(a[i])+t(b[i-1]) <= 1");
+    run();
+    for (int answer = DILLPLATTER_REFUSED; answer <= DILLPLATTER_UNKNOWN; answer++)
+        good &= answer == DILLPLATTER_READ || seen[answer];
+    printf("open, feed, pull: %zu bytes copied, at most %d\n", most_copied, MOST);
+    return !(good && most_copied <= MOST);
+}
