@@ -72,18 +72,17 @@ static int begin(void) {
     return 1;
 }
 
-/* Feeds a line and pulls. A line that is refused is not counted, and the next one of its event would take its number: so where
- * the window is full this controller says so and begins anew, rather than drop the line and go on. */
+/* Feeds a line and pulls. A line that is refused is not counted, and the next one of its event would take its number: so this
+ * controller says so and begins a fresh checker with the lines that follow, rather than go on as if it had been taken. */
 static void take(const uint8_t *line, size_t len) {
     dillplatter_told told = dillplatter_feed_at(&state, window, DILLPLATTER_WINDOW_WORDS(WIDTH), line, len);
     if (told.answer == DILLPLATTER_ACCEPTED) {
         pull_all();
-    } else if (told.number == DILLPLATTER_WINDOW_FULL) {
-        printf("window full: %s %" PRIu32 ", %s %" PRIu32 "; beginning anew\n", events[0], state.counts[0], events[1], state.counts[1]);
+    } else if (told.answer == DILLPLATTER_REFUSED) {
+        printf("line refused with %" PRIu32 " at %" PRIu32 ", %s %" PRIu32 ", %s %" PRIu32 "; beginning anew\n", told.number, told.place,
+               events[0], state.counts[0], events[1], state.counts[1]);
         say_totals();
         begin();
-    } else if (told.answer == DILLPLATTER_REFUSED) {
-        printf("line refused with %" PRIu32 " at %" PRIu32 "\n", told.number, told.place);
     }
 }
 
@@ -119,7 +118,7 @@ int main(void) {
     take((const uint8_t *)"00 bad line", 11);
     happened(0, INT32_MIN);
     happened(1, INT32_MAX);       /* arithmetic is exact: false */
-    happened_often(5, 0, 100, 1); /* the fifth down with no up finds the window full */
+    happened_often(5, 0, 100, 1); /* the fifth down with no up finds the window full: 17 */
     happened_often(4, 0, 200, 1);
     happened_often(4, 1, 200, 10); /* the last of these is 27 units after its down: false */
     say_totals();

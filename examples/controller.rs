@@ -72,7 +72,8 @@ fn pull_all(mut state: State, window: &[i32], report: &mut [u8]) -> State {
             6 => println!("instance {} is true", state.next - 1),
             7 => println!("instance {} is false, {} references: {:?}", state.next - 1, report[5], &report[6..16]),
             8 => println!("instance {} is unknown", state.next - 1),
-            _ => return state,
+            5 => return state,
+            _ => panic!("pull refused with {}", pulled.number),
         }
     }
 }
@@ -94,6 +95,7 @@ fn main() {
     for line in ["000000000A", "0100000028", "0000000032", "010000004B"] {
         let fed = feed(state, &mut window, format!("{line:0<34}").as_bytes());
         println!("fed: answer {}, number {}, place {}", fed.answer, fed.number, fed.place);
+        assert_ne!(fed.answer, 0, "a refused line is not counted: mend it, or open anew");
         state = pull_all(fed.state, &window, &mut report);
     }
     println!("true {}, false {}, unknown {}", state.totals.held, state.totals.failed, state.totals.unknown);

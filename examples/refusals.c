@@ -107,7 +107,7 @@ static void reading(void) {
     refuse_text("an event that is not declared", DILLPLATTER_NAME, "events a; notes t; t(b[i]) > 0");
     refuse_text("the factor 10", DILLPLATTER_NUMBER, "events a; notes t; t(a[10*i]) > 0");
     refuse_text("seventeen times not", DILLPLATTER_DEPTH, "events a; notes t; !!!!!!!!!!!!!!!!! t(a[i]) > 0");
-    refuse_text("no event", DILLPLATTER_NO_REFERENCE, "events a; notes t; 1 = 1");
+    refuse_text("no reference", DILLPLATTER_NO_REFERENCE, "events a; notes t; 1 = 1");
     refuse_text("a product of two notes and 1", DILLPLATTER_MAGNITUDE, "events a; notes t; t(a[i]) * t(a[i]) + 1 > 0");
 }
 

@@ -52,7 +52,7 @@ extern "C" {
 
 /* The field `answer` of every result. */
 enum dillplatter_answer {
-    DILLPLATTER_REFUSED = 0,  /* any call: `number` and `place` say why and where; nothing has changed */
+    DILLPLATTER_REFUSED = 0,  /* any call: `number` and `place` say why and where; lent memory is unchanged */
     DILLPLATTER_READ = 1,     /* read: the buffer holds the frames */
     DILLPLATTER_OPENED = 2,   /* open: the state is that of a fresh checker, the window is cleared */
     DILLPLATTER_ACCEPTED = 3, /* feed: the line is counted */
@@ -75,8 +75,8 @@ enum dillplatter_refusal {
                                       its role; place: its first byte */
     DILLPLATTER_NUMBER = 5,        /* read: a number beyond its limit; place: its first byte */
     DILLPLATTER_DEPTH = 6,         /* read: depth over 16 or over 64 frames */
-    DILLPLATTER_NO_REFERENCE = 7,  /* read, open: the rule references no event */
-    DILLPLATTER_MAGNITUDE = 8,     /* read, open: a sum that could exceed 2^62 */
+    DILLPLATTER_NO_REFERENCE = 7,  /* read, open: the condition has no reference */
+    DILLPLATTER_MAGNITUDE = 8,     /* read, open: a sum whose magnitude, a bound on its value, is over 2^62 */
     DILLPLATTER_FRAMES_SIZE = 9,   /* open: the frames' length isn't 8 to 512 in steps of 8 */
     DILLPLATTER_FRAMES_ORDER = 10, /* open: not a rule in postfix order with fields within the limits; place: the first frame that
                                       does not fit, the number of frames if only the end is wrong */

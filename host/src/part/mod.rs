@@ -104,20 +104,6 @@ pub fn read_rule(text: &[u8]) -> Result<Vec<u8>, Refusal> {
 }
 
 impl State {
-    /// The state that is zero throughout; a refused opening hands it back.
-    pub const ZERO: State = State {
-        frames: [0; FRAME_BUFFER],
-        len: 0,
-        width: 0,
-        counts: [0; 8],
-        next: 0,
-        totals: Totals {
-            held: 0,
-            failed: 0,
-            unknown: 0,
-        },
-    };
-
     /// Opens a checker for frames and W, with a window of 32 x W words that is set to 0. The state is zero throughout
     /// where there is a refusal (9, 10, 7, 8, 11), which leaves the window as it was.
     pub fn open(frames: &[u8], width: u32, window: &mut [i32]) -> (State, Result<(), Refusal>) {
@@ -185,10 +171,5 @@ impl Checker {
     /// The state as it is.
     pub fn state(&self) -> &State {
         &self.state
-    }
-
-    /// The window as it is.
-    pub fn window(&self) -> &[i32] {
-        &self.window
     }
 }

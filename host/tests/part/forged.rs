@@ -137,10 +137,10 @@ fn calls(random: &mut Random, state: State, events: &[usize], seen: &mut BTreeMa
     let mut pair = Pair::forged(state, window);
     for _ in 0..4 {
         let words = if random.once_in(2) {
-            format!("{:?}", pair.feed(&random_line(random, events)))
+            format!("feed {:?}", pair.feed(&random_line(random, events)))
         } else {
             let length = random.pick(&[166, 166, 166, 300, 165]);
-            format!("{:?}", pair.pull(&mut vec![0xA5; length]))
+            format!("pull {:?}", pair.pull(&mut vec![0xA5; length]))
         };
         let words = words.split("place").next().unwrap().to_string();
         *seen.entry(words).or_default() += 1;
@@ -168,8 +168,8 @@ fn forged_states_and_windows() {
         }
         calls(random, state, &events, &mut seen);
     }
-    // Accepted, ignored, 12, 13, 15, 16, 17; three verdicts, waiting, 14.
-    assert_eq!(seen.len(), 12, "{seen:?}");
+    // Accepted, ignored, 12, 13, 15, 16, 17; three verdicts, waiting, 12, 13, 14.
+    assert_eq!(seen.len(), 14, "{seen:?}");
     for (answer, times) in &seen {
         assert!(*times > 100, "{answer} came {times} times");
     }

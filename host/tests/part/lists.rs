@@ -38,17 +38,17 @@ fn call(random: &mut Random, pair: &mut Pair, events: &[usize]) -> String {
         let window = wrong_window(random, pair.model().w);
         let mut other = pair.with_window(window);
         return if random.once_in(2) {
-            format!("{:?}", other.feed(&random_line(random, events)))
+            format!("feed {:?}", other.feed(&random_line(random, events)))
         } else {
-            format!("{:?}", other.pull(&mut [random.below(256) as u8; 166]))
+            format!("pull {:?}", other.pull(&mut [random.below(256) as u8; 166]))
         };
     }
     if random.once_in(2) {
-        return format!("{:?}", pair.feed(&random_line(random, events)));
+        return format!("feed {:?}", pair.feed(&random_line(random, events)));
     }
     let length = random.pick(&[166, 166, 166, 166, 200, 167, 165, 0]);
     let mut report: Vec<u8> = (0..length).map(|_| random.below(256) as u8).collect();
-    format!("{:?}", pair.pull(&mut report))
+    format!("pull {:?}", pair.pull(&mut report))
 }
 
 #[test]
@@ -69,7 +69,7 @@ fn random_lists_of_calls() {
         stays_settled(&pair);
     }
     // Accepted, ignored, 13, 15, 17; three verdicts, waiting, 13, 14.
-    assert_eq!(seen.len(), 10, "{seen:?}");
+    assert_eq!(seen.len(), 11, "{seen:?}");
     for (answer, times) in &seen {
         assert!(*times > 500, "{answer} came {times} times");
     }
