@@ -8,6 +8,7 @@ ghost use mathlib.Core.Path.{_≡_};
 ghost use Rattle.checker.specs.Answer.{openTold, feedTold, pullTold, refused};
 ghost use Rattle.dillplatter.specs.Told.{checked, readTold, answerOf, numberOf, placeOf, framesOf};
 
+// The numbers of the answers, as include/dillplatter.h has them.
 const REFUSED: u32 = 0;
 
 const READ: u32 = 1;
