@@ -60,7 +60,7 @@ module _ (frames : List ℕ) (w : ℕ) where
   more-step m (feed line) = more-fed m (machineFeed (treeOf frames) w m line)
   more-step m (pull buffer) = more-pulled m (machinePull (treeOf frames) w m buffer)
 
-  more-end : (cs : List Call) (m : Machine) → MoreLines (m .lists) (end (machineFor frames w) cs m .lists)
+  pub more-end : (cs : List Call) (m : Machine) → MoreLines (m .lists) (end (machineFor frames w) cs m .lists)
   unfolding end
   more-end [] m = more-refl (m .lists)
   more-end (c ∷ cs) m =

@@ -10,6 +10,7 @@ pub mod Value
 pub mod Text
 pub mod Agree
 pub mod Order
+pub mod Reports
 pub mod Never
 pub mod Exactly
 pub mod Unchanged

@@ -24,7 +24,7 @@ use Rattle.verdict.specs.Settled.{settled, judgement}
 use Rattle.verdict.specs.Settled as settling
 use Rattle.verdict.specs.Later.{MoreLines}
 use Rattle.verdict.specs.declared.Truth.{Truth}
-use Rattle.verdict.specs.declared.Truth.the-variants.{Unknown}
+use Rattle.verdict.specs.declared.Truth.the-variants.{False, Unknown}
 use Rattle.checker.specs.Limits.{widthLimit, windowWords, lineLimit, reportLeast}
 use Rattle.checker.specs.Answer.{opened, accepted, waiting, verdict, refused}
 use Rattle.checker.specs.Base.{referenced, base, firstInstance}
@@ -37,6 +37,7 @@ use Rattle.checker.specs.Pull.{pullDef}
 use Rattle.checker.specs.Calls.{Call, Out, outs, checker}
 use Rattle.checker.specs.Machine.{atFirst, tallyOf, machineFor}
 use Rattle.checker.specs.Demand.{Unrefused, fresh, answerOf, span, totalsOf, checkerAfter, machineAfter, handedOut, acceptedIn, Reordered}
+use Rattle.checker.specs.Demand.{reportsOut, Reported, ReportedTwice}
 use Rattle.checker.specs.declared.State.{State}
 use Rattle.checker.proofs.Lists
 use Rattle.checker.proofs.Final
@@ -46,6 +47,7 @@ use Rattle.checker.proofs.Never
 use Rattle.checker.proofs.Exactly
 use Rattle.checker.proofs.Agree
 use Rattle.checker.proofs.Order
+use Rattle.checker.proofs.Reports
 use Rattle.checker.proofs.Unchanged
 use Rattle.checker.proofs.GoodStays
 
@@ -124,6 +126,27 @@ module _ {frames : List ℕ} {w w′ : ℕ} {win win′ : List ℤ} (o : Unrefus
       → i < length (handedOut frames w win cs) → i < length (handedOut frames w′ win′ cs′)
       → getD (handedOut frames w win cs) i Unknown ≡ getD (handedOut frames w′ win′ cs′) i Unknown
   third-order = Order.order o o′ cs cs′
+
+  -- where one's accepted lines begin the other's, the two reports of an instance that both hand out as false are the same but for
+  -- references that are present in one and pending in the other
+  pub third-reports : MoreLines (machineAfter frames w cs .lists) (machineAfter frames w′ cs′ .lists) → (i : ℕ)
+      → getD (handedOut frames w win cs) i Unknown ≡ False → getD (handedOut frames w′ win′ cs′) i Unknown ≡ False
+      → ReportedTwice frames w w′ cs cs′ (firstInstance + i)
+      (getD (reportsOut frames w win cs) i []) (getD (reportsOut frames w′ win′ cs′) i [])
+  third-reports = Reports.two-reports o o′ cs cs′
+
+  -- so it is after another order of lines between events and with later lines
+  pub third-order-reports : Reordered (acceptedIn frames w cs atFirst) (acceptedIn frames w′ cs′ atFirst) → (i : ℕ)
+      → getD (handedOut frames w win cs) i Unknown ≡ False → getD (handedOut frames w′ win′ cs′) i Unknown ≡ False
+      → ReportedTwice frames w w′ cs cs′ (firstInstance + i)
+      (getD (reportsOut frames w win cs) i []) (getD (reportsOut frames w′ win′ cs′) i [])
+  third-order-reports = Reports.order-reports o o′ cs cs′
+
+-- ---- within one list: each false verdict handed out comes with the report of its instance at the moment of the pull
+pub third-report : {frames : List ℕ} {w : ℕ} {win : List ℤ} → Unrefused frames w win → (cs : List Call) (i : ℕ)
+    → getD (handedOut frames w win cs) i Unknown ≡ False
+    → Reported frames w cs (firstInstance + i) (getD (reportsOut frames w win cs) i [])
+third-report = Reports.report
 
 -- ---- opening is not refused exactly where the frames are a rule's within the limits, W is 1 to 256 and the window 32 × W words
 pub opens-exactly : {frames : List ℕ} (w : ℕ) (win : List ℤ) → Bytes frames
