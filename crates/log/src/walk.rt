@@ -74,7 +74,7 @@ pub fn next<'a>(r: LogReader<'a>) -> Found
 
 // The line at a place of a log, by way of a reader. Its parameters are plain: every other caller uses this one.
 pub fn line_from(log: &[u8], at: usize) -> Found
-    ensures { λ r. ⌜ r ≡ lineAt (now (log .entry)) at ⌝ }
+    ensures { λ found. ⌜ found ≡ lineAt (now (log .entry)) at ⌝ }
 {
     next(at_place(log, at))
 }
