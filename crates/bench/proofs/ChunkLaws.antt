@@ -14,8 +14,7 @@ use Rattle.log.specs.Digit.{isDigit}
 use Rattle.log.specs.Line.{digitsAtFront, badPlace, lineOf, refused}
 use Rattle.log.specs.Walk.{toLF, endOf, lineAt}
 use Rattle.log.specs.declared.walk.Found.the-variants.{Line, End}
-use Rattle.log.proofs.Lines.{line-of-other}
-use Rattle.log.proofs.Walking.{endOf-within}
+use Rattle.log.proofs.Main.{line-of-other, endOf-within}
 use Rattle.checker.specs.Feed.{feedDef}
 use Rattle.checker.specs.Ready.{Ready}
 use Rattle.checker.specs.declared.State.{State}

@@ -1,1 +1,2 @@
+-- What a buyer reads: the number that stands for each answer.
 pub mod Told

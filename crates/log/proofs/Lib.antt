@@ -1,8 +1,10 @@
-pub mod Digits
-pub mod Pairs
-pub mod Lines
-pub mod Exactly
-pub mod Answers
-pub mod Walking
+-- What crates above may cite.
 pub mod Main
-pub mod Examples
+-- How it is proved, and worked lines.
+mod Digits
+mod Pairs
+mod Lines
+mod Exactly
+mod Answers
+mod Walking
+mod Examples

@@ -1,7 +1,7 @@
 // Log lines: digits, pairs of digits, the line of 34, and the walk over a log of many lines. Nothing here knows of rules.
-pub mod digit;
-pub mod line;
-pub mod walk;
+mod digit; // digit.rt: digits and pairs of them
+mod line; // line.rt: the line of 34 digits
+pub mod walk; // walk.rt: the lines of a log
 
 pub use line::Line;
 pub use line::Notes;

@@ -16,6 +16,9 @@ pub enum Line {
     Bad(u32),
 }
 
+// "A log line is 34 digits".
+const DIGITS: usize = 34;
+
 // The pair of digits from a place on.
 fn pair_at(bytes: &[u8], at: usize) -> Pair
     requires { ⌜ at + 2 ≤ length (now bytes) ⌝ }
@@ -55,7 +58,7 @@ fn bad_place(bytes: &[u8]) -> u32
     ensures { λ r. ⌜ r ≡ badPlace (now (bytes .entry)) ⌝ }
 {
     let mut i = 0;
-    while i < 34 {
+    while i < DIGITS {
         if i == bytes.len() {
             return i as u32;
         }
@@ -64,14 +67,14 @@ fn bad_place(bytes: &[u8]) -> u32
         }
         i += 1;
     }
-    34
+    i as u32
 }
 
 // Reads one line, without its LF.
 pub fn read_line(bytes: &[u8]) -> Line
     ensures { λ r. ⌜ told r ≡ lineOf (now (bytes .entry)) ⌝ }
 {
-    if bytes.len() != 34 {
+    if bytes.len() != DIGITS {
         return Line::Bad(bad_place(bytes));
     }
     let Pair::Byte(event) = pair_at(bytes, 0) else {

@@ -58,11 +58,11 @@ pub fn line_at(log: &[u8], at: usize) -> Found
     }
 }
 
-// A reader at the log's start.
-pub fn new<'a>(log: &'a [u8]) -> LogReader<'a>
-    ensures { λ r. ⌜ (r .log ≡ log .entry) × (r .at ≡ 0) ⌝ }
+// A reader at a place of a log.
+pub fn at_place<'a>(log: &'a [u8], at: usize) -> LogReader<'a>
+    ensures { λ r. ⌜ (r .log ≡ log .entry) × (r .at ≡ at) ⌝ }
 {
-    LogReader { log, at: 0 }
+    LogReader { log, at }
 }
 
 // The line at the reader's place.
@@ -72,23 +72,9 @@ pub fn next<'a>(r: LogReader<'a>) -> Found
     line_at(r.log, r.at)
 }
 
-// The reader at another place: where the next line starts.
-pub fn moved<'a>(r: LogReader<'a>, at: usize) -> LogReader<'a>
-    ensures { λ q. ⌜ (q .log ≡ r .entry .log) × (q .at ≡ at) ⌝ }
-{
-    LogReader { log: r.log, at }
-}
-
-// A reader at a place of a log.
-pub fn at_place<'a>(log: &'a [u8], at: usize) -> LogReader<'a>
-    ensures { λ r. ⌜ (r .log ≡ log .entry) × (r .at ≡ at) ⌝ }
-{
-    LogReader { log, at }
-}
-
 // The line at a place of a log, by way of a reader. Its parameters are plain: every other caller uses this one.
 pub fn line_from(log: &[u8], at: usize) -> Found
-    ensures { λ r. ⌜ r ≡ lineAt (now (log .entry)) at ⌝ }
+    ensures { λ found. ⌜ found ≡ lineAt (now (log .entry)) at ⌝ }
 {
     next(at_place(log, at))
 }

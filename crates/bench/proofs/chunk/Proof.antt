@@ -6,7 +6,7 @@ use native.Mathlib.Omega.{arith}
 use lib.ListN.{length, take}
 use lib.Seq.{length-take-le}
 use borrow.Author.Needs.{needs}
-use Rattle.log.proofs.Walking.{line-within}
+use Rattle.log.proofs.Main.{line-within}
 use Rattle.bench.specs.Kept.{keptLimit}
 use Rattle.bench.proofs.ChunkLaws.{Walked, open-refl, never-end, chunk-line, chunk-rest, bytes-done}
 use Rattle.bench.proofs.chunk.Statement.{statement}

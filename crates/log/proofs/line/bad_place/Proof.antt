@@ -56,6 +56,9 @@ loop-again c =
     let i = c .before .before .before .before .before .loop .i in
     omega (arith, reach-digit s i (lt-ltb (digitValue (getD s i 0)) 16 (omega arith)))
 
+cast-result-3 : tie.Need-cast-result-3 Inv-loop μ-loop
+cast-result-3 c = search needs
+
 returns-3 : tie.Need-returns-3 Inv-loop μ-loop
 unfolding badPlace
 returns-3 c = search needs
@@ -76,4 +79,5 @@ bad-place-spec =
     add-i
     loop-less
     loop-again
+    cast-result-3
     returns-3)
