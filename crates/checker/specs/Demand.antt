@@ -98,12 +98,14 @@ pub record ThirdDemand (frames : List ℕ) (w : ℕ) (win : List ℤ) (cs : List
   pub state : tallyIn (checkerAfter frames w win cs .state) ≡ tallyOf (machineAfter frames w cs)
   -- "The definition over all lines accepted in the list is the one over the machine's lists after the last call"
   pub final : map settling.verdict (handedOut frames w win cs)
-      ≡ span firstInstance (length (handedOut frames w win cs)) (λ (i : ℕ). judgement i (foundIn (machineAfter frames w cs .lists) i) (treeOf frames))
+      ≡ span firstInstance (length (handedOut frames w win cs))
+      (λ (i : ℕ). judgement i (foundIn (machineAfter frames w cs .lists) i) (treeOf frames))
   -- "the totals true, false, unknown, which sum to p"
   pub totals : (checkerAfter frames w win cs .state .next .0 ≡ firstInstance + length (handedOut frames w win cs))
       × (checkerAfter frames w win cs .state .totals ≡ totalsOf (handedOut frames w win cs))
   -- "So 12 and 13 never come in such a list"
-  pub never-12-13 : (x : Out) → List·Memᴰ x (outs checker cs (fresh frames w win)) → (place : ℕ) → (answerOf x ≢ refused 12 place) × (answerOf x ≢ refused 13 place)
+  pub never-12-13 : (x : Out) → List·Memᴰ x (outs checker cs (fresh frames w win)) → (place : ℕ)
+      → (answerOf x ≢ refused 12 place) × (answerOf x ≢ refused 13 place)
 
 -- ---- accepted lines
 -- of "accepted lines, each as its four notes": one, with its event
@@ -128,5 +130,6 @@ acceptedIn frames w (pull buffer ∷ cs) m = acceptedIn frames w cs (machineFor 
 pub data Reordered : List Entry → List Entry → Type 0 where
   same : (es : List Entry) → Reordered es es
   later : (es more : List Entry) → Reordered es (es ++ more)
-  swapped : (front : List Entry) (a b : Entry) (rest : List Entry) → a .event ≢ b .event → Reordered (front ++ (a ∷ (b ∷ rest))) (front ++ (b ∷ (a ∷ rest)))
+  swapped : (front : List Entry) (a b : Entry) (rest : List Entry) → a .event ≢ b .event
+      → Reordered (front ++ (a ∷ (b ∷ rest))) (front ++ (b ∷ (a ∷ rest)))
   then : (es fs gs : List Entry) → Reordered es fs → Reordered fs gs → Reordered es gs

@@ -82,7 +82,8 @@ module _ (rule : Cond) (w : ℕ) where
   machine m (feed line) = record { out = fed (feedAnswer (machineFeed m line)); next = afterFeed m (machineFeed m line) }
   machine m (pull buffer) =
       record {
-        out = pulled (pullAnswer (machinePull m buffer)) (pullReport (m .next) (references rule) (foundNow m) buffer (machinePull m buffer));
+        out = pulled (pullAnswer (machinePull m buffer))
+            (pullReport (m .next) (references rule) (foundNow m) buffer (machinePull m buffer));
         next = afterPull m (machinePull m buffer);
       }
 

@@ -34,7 +34,8 @@ pub record Shows (x : Found) (mark : ℕ) (note : ℤ) : Type 0 where
 -- "per reference in frame order": at each among the first k frames
 abbrev pub ShownTo : List ℕ → (Reference → Found) → List ℕ → List ℤ → ℕ → Type 0
 ShownTo s found marks notes k =
-    (j : ℕ) → j < k → frameAt s j .kind ≡ referenceByte → Shows (found (referenceOf (frameAt s j))) (getD marks j 0) (getD notes j (pos 0))
+    (j : ℕ) → j < k → frameAt s j .kind ≡ referenceByte
+    → Shows (found (referenceOf (frameAt s j))) (getD marks j 0) (getD notes j (pos 0))
 
 -- "per reference in frame order": at each of all frames
 pub record Looked (s : List ℕ) (found : Reference → Found) (marks : List ℕ) (notes : List ℤ) : Type 0 where

@@ -18,7 +18,7 @@ use Rattle.verdict.specs.declared.Truth.the-variants.{True, False, Unkno
 use Rattle.verdict.specs.declared.evaluate.Top.{Top}
 
 -- ---- what a kind asks for; some value where it asks for nothing of the sort
--- of two sums
+-- "11 add, 12 subtract, 13 multiply" of two sums
 abbrev pub computedBy : Kind → ℤ → ℤ → ℤ
 computedBy (operand s) x y = x
 computedBy (arithmetic o) x y = computed o x y
@@ -28,7 +28,7 @@ computedBy negation x y = x
 computedBy (connective j) x y = x
 computedBy none x y = x
 
--- a relation of two sums
+-- "21 to 26 the relations as listed" of two sums
 abbrev pub holdsBy : Kind → ℤ → ℤ → Bool
 holdsBy (operand s) x y = false
 holdsBy (arithmetic o) x y = false
@@ -38,7 +38,7 @@ holdsBy negation x y = false
 holdsBy (connective j) x y = false
 holdsBy none x y = false
 
--- of two conditions
+-- "32 and, 33 or, 34 implies" of two conditions
 abbrev pub joinedBy : Kind → Truth → Truth → Truth
 joinedBy (operand s) p q = p
 joinedBy (arithmetic o) p q = p
@@ -67,7 +67,7 @@ passOf sums conds t =
       present = t .present;
     }
 
--- every value is within the limit of magnitudes, so that it fits 64 bits
+-- "None exceeds 2^62, so arithmetic is exact": every value fits 64 bits
 abbrev pub Small : List ℤ → Type 0
 Small [] = Unit {0}
 Small (v ∷ vs) = (natAbs v ≤ magnitudeLimit) × Small vs
