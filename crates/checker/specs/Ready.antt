@@ -1,5 +1,5 @@
 -- What the inner calls require: a state that 12 lets through, as its frames and the rest, and a window that 13 does.
--- No contract of open, feed or pull cites it; crates bench and dillplatter call by it. Assumes nothing: definitions.
+-- No contract of open, feed or pull cites it; crate bench calls by it. Assumes nothing: definitions.
 use mathlib.Core.Path.{_≡_}
 use mathlib.Core.Bool.{true}
 use mathlib.Core.List.{List}

@@ -18,8 +18,8 @@ use Rattle.verdict.specs.declared.Truth.the-variants.{Unknown}
 use Rattle.verdict.specs.declared.Judgement.{Judgement}
 use Rattle.verdict.specs.declared.Judgement.the-variants.{Unsettled}
 
--- after some frames: the sums' values and the conditions' truth values, the last first; whether a reference since the last
--- relation is missing; whether a reference is pending, and whether one is present
+-- after some frames "in postfix order": the sums' values and the conditions' truth values, the last first; whether a reference
+-- since the last relation is missing; whether a reference is pending, and whether one is present
 pub record Pass : Type 0 where
   pub sums : List ℤ
   pub missing : Bool
@@ -31,11 +31,11 @@ pub record Pass : Type 0 where
 abbrev pub atStart : Pass
 atStart = record { sums = []; missing = false; conds = []; pending = false; present = false }
 
--- with other sums
+-- with other sums, as kinds "01 literal" to "14 abs" leave them
 abbrev pub withSums : Pass → List ℤ → Pass
 withSums p vs = record { sums = vs; missing = p .missing; conds = p .conds; pending = p .pending; present = p .present }
 
--- with other conditions
+-- with other conditions, as kinds "31 not" to "34 implies" leave them
 abbrev pub withConds : Pass → List Truth → Pass
 withConds p cs = record { sums = p .sums; missing = p .missing; conds = cs; pending = p .pending; present = p .present }
 
@@ -56,7 +56,7 @@ related r missing [] = Unknown
 related r missing (y ∷ []) = Unknown
 related r missing (y ∷ (x ∷ vs)) = cond missing Unknown (truth (holds r x y))
 
--- with a relation, which takes the sums; the next one begins with no reference
+-- with one of "21 to 26 the relations", which takes the sums; the next one begins with no reference
 abbrev pub withRelation : Pass → Relation → Pass
 withRelation p r =
     record {
@@ -93,12 +93,12 @@ abbrev pub judgedBy : Bool → Bool → Truth → Judgement
 judgedBy somePending somePresent t = cond (settledBy somePending somePresent t) (verdict t) Unsettled
 
 module _ (s : List ℕ) (i : ℕ) (marks : List ℕ) (notes : List ℤ) where
-  -- after the first k frames
+  -- after the first k frames "in postfix order"
   abbrev pub passAt : ℕ → Pass
   passAt zero = atStart
   passAt (suc k) = passBy (kindOf (frameAt s k .kind)) (frameAt s k .value) i (getD marks k 0) (getD notes k (pos 0)) (passAt k)
 
-  -- what judge answers
+  -- what judge answers: "The verdict of a settled instance is the rule's value"
   unfoldable pub judgementOf : Judgement
   judgementOf =
       judgedBy (passAt (frameCount s) .pending) (passAt (frameCount s) .present) (firstT (passAt (frameCount s) .conds))

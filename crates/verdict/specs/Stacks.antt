@@ -48,15 +48,15 @@ joinedBy negation p q = p
 joinedBy (connective j) p q = joined j p q
 joinedBy none p q = p
 
--- ---- conditions as bytes: 0 false, 1 true, else unknown
+-- ---- conditions as bytes, of "three values": 0 false, 1 true, else unknown
 abbrev pub truthOf : ℕ → Truth
 truthOf b = cond (eqb b 0) False (cond (eqb b 1) True Unknown)
 
--- the c conditions that an array holds, the last first
+-- the c conditions that an array holds, the last first, as a pass over frames "in postfix order" takes them
 abbrev pub truthsOf : List ℕ → ℕ → List Truth
 truthsOf cells c = map truthOf (stackOf 0 cells c)
 
--- what two arrays hold
+-- what two arrays hold of a pass over frames "in postfix order"
 abbrev pub passOf : List ℤ → List ℕ → Top → Pass
 passOf sums conds t =
     record {
@@ -72,7 +72,7 @@ abbrev pub Small : List ℤ → Type 0
 Small [] = Unit {0}
 Small (v ∷ vs) = (natAbs v ≤ magnitudeLimit) × Small vs
 
--- what a step requires: room, the sums and conditions that its kind needs, and small values after it
+-- what a step requires: room, for "at most 64 frames", the sums and conditions that its kind needs, and small values after it
 pub record Begun (o : Kind) (sums : List ℤ) (conds : List ℕ) (t : Top) (next : Pass) : Type 0 where
   pub long : length sums ≡ 64
   pub long-c : length conds ≡ 64
