@@ -25,7 +25,7 @@ use Rattle.verdict.specs.Settled as settling
 use Rattle.verdict.specs.declared.Truth.{Truth}
 use Rattle.checker.specs.Limits.{lineLimit}
 use Rattle.checker.specs.Base.{referenced, base}
-use Rattle.checker.specs.State.{counted, sumOf, Tally, countOf, tallyIn, stateFrames, ruleIn, refsIn, withCount, withPulled}
+use Rattle.checker.specs.State.{counted, sumOf, Tally, countOf, tallyIn, stateFrames, ruleIn, refsIn, SameRule, withCount, withPulled}
 use Rattle.checker.specs.Found.{windowAt}
 use Rattle.checker.specs.Open.{windowFits, openDef}
 use Rattle.checker.specs.Good.{allTo, goodRule, goodCount, goodTally, goodState}
@@ -234,11 +234,6 @@ module _ (s : State) (g : goodState s ≡ true) where
       (λ _. refl)
 
 -- ---- the rule and W stay
-pub record SameRule (s s′ : State) : Type 0 where
-  pub frames : s′ .frames ≡ s .frames
-  pub len : s′ .len ≡ s .len
-  pub width : s′ .width ≡ s .width
-
 rule-same : (s : State) → SameRule s s
 rule-same s = record { frames = refl; len = refl; width = refl }
 

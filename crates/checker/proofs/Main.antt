@@ -28,7 +28,7 @@ use Rattle.verdict.specs.declared.Truth.the-variants.{False, Unknown}
 use Rattle.checker.specs.Limits.{widthLimit, windowWords, lineLimit, reportLeast}
 use Rattle.checker.specs.Answer.{opened, accepted, waiting, verdict, refused}
 use Rattle.checker.specs.Base.{referenced, base, firstInstance}
-use Rattle.checker.specs.State.{tallyIn, stateFrames, zeroState}
+use Rattle.checker.specs.State.{tallyIn, stateFrames, zeroState, SameRule}
 use Rattle.checker.specs.Ring.{wordAt}
 use Rattle.checker.specs.Open.{openDef}
 use Rattle.checker.specs.Good.{goodState}
@@ -36,7 +36,7 @@ use Rattle.checker.specs.Feed.{feedDef}
 use Rattle.checker.specs.Pull.{pullDef}
 use Rattle.checker.specs.Calls.{Call, Out, outs, checker}
 use Rattle.checker.specs.Machine.{atFirst, tallyOf, machineFor}
-use Rattle.checker.specs.Demand.{Unrefused, fresh, answerOf, span, totalsOf, checkerAfter, machineAfter, handedOut, acceptedIn, Reordered}
+use Rattle.checker.specs.Demand.{Unrefused, fresh, answerOf, span, totalsOf, checkerAfter, machineAfter, handedOut, ThirdDemand, acceptedIn, Reordered}
 use Rattle.checker.specs.Demand.{reportsOut, Reported, ReportedTwice}
 use Rattle.checker.specs.declared.State.{State}
 use Rattle.checker.proofs.Lists
@@ -75,6 +75,11 @@ module _ {frames : List ℕ} {w : ℕ} {win : List ℤ} (o : Unrefused frames w 
   -- 12 and 13 never come
   pub never-12-13 : (x : Out) → List·Memᴰ x (outs checker cs (fresh frames w win)) → (place : ℕ) → (answerOf x ≢ refused 12 place) × (answerOf x ≢ refused 13 place)
   never-12-13 = Never.never o cs
+
+  -- the five together: "The third demand is a single claim about the whole list and not one for each call"
+  pub third-demand : ThirdDemand frames w win cs
+  third-demand =
+      record { answers = third-answers; state = third-state; final = third-final; totals = third-totals; never-12-13 = never-12-13 }
 
   -- one call more: 'waiting' exactly where the buffer is long enough and the next instance is not settled by the machine's lists
   pub waiting-exactly : (buffer : List ℕ)
@@ -185,10 +190,10 @@ pub good-stays-pull : (s : State) → goodState s ≡ true → Bytes (stateFrame
 good-stays-pull = GoodStays.good-pull
 
 -- the frames and W stay, and the window keeps its length
-pub feed-keeps : (s : State) (win : List ℤ) (line : List ℕ) → GoodStays.SameRule s (feedDef s win line .state)
+pub feed-keeps : (s : State) (win : List ℤ) (line : List ℕ) → SameRule s (feedDef s win line .state)
 feed-keeps = GoodStays.feed-rule
 
-pub pull-keeps : (s : State) (win : List ℤ) (buffer : List ℕ) → GoodStays.SameRule s (pullDef s win buffer .state)
+pub pull-keeps : (s : State) (win : List ℤ) (buffer : List ℕ) → SameRule s (pullDef s win buffer .state)
 pull-keeps = GoodStays.pull-rule
 
 pub feed-long : (s : State) → goodState s ≡ true → (win : List ℤ) (line : List ℕ) → length (feedDef s win line .words) ≡ length win

@@ -1,12 +1,21 @@
--- All thirteen marked examples (M) of document 01 in one table, computed: the answers of opening, of the plain machine and of
--- the checker's definitions. Assumes nothing.
+-- All thirteen marked examples (M) of document 01 in one table, computed: what reading gives, and the answers of opening, of the
+-- plain machine and of the checker's definitions. Assumes nothing.
 use mathlib.Core.Path.{_≡_, refl}
 use mathlib.Core.Bool.{cond}
 use mathlib.Core.List.{List, [], _∷_, _++_, map}
-use Prim.Native.Nat.{ℕ, zero, suc, _+_, _/_, _%_}
+use Prim.Native.Nat.{ℕ, zero, suc, _+_, _-_, _/_, _%_}
+use Prim.Native.Char.{code as charCode}
+use Prim.Native.String.{String, [] as nil, _∷_ as cons}
 use lib.Dec.{ltb}
 use lib.IntN.{ℤ, pos, negsuc}
-use lib.ListN.{replicate}
+use lib.ListN.{length, replicate}
+use Rattle.rule.specs.Class.{classOf, span}
+use Rattle.rule.specs.Token.{same, wordKind, markOf, markWidth, widthOf, tokenHere, tokenAt, tokensIn, tokensFrom}
+use Rattle.rule.specs.Token.{kindOf as tokenKind}
+use Rattle.rule.specs.Name.{code, nameCode}
+use Rattle.rule.specs.Number.{decimalFrom, decimal, numberValue}
+use Rattle.rule.specs.Machine.{deeper, startFactor, step, finish, run}
+use Rattle.rule.specs.Memory.{position, negated, put, acts}
 use Rattle.rule.specs.Frames.{add, subtract, multiply, equal, less, atMost, more, or, kindOf}
 use Rattle.rule.specs.Tree.{Sum, literal, reference, arithmetic, abs, Cond, relation, connective, postfix, bytesOf}
 use Rattle.rule.specs.References.{referenceCount}
@@ -14,6 +23,9 @@ use Rattle.rule.specs.Order.{orderOf}
 use Rattle.rule.specs.Sizes.{sizesFit}
 use Rattle.rule.specs.Build.{treeOf}
 use Rattle.rule.specs.Check.{checkedOf}
+use Rattle.rule.specs.Reading.{bufferBytes, refusedAs, judged, readOf}
+use Rattle.rule.specs.declared.Reading.{Reading}
+use Rattle.rule.specs.declared.Reading.the-variants as reading
 use Rattle.log.specs.Digit.{digitValue}
 use Rattle.log.specs.Line.{digitsAtFront, badPlace, lineOf}
 use Rattle.verdict.specs.declared.Truth.the-variants.{True, False, Unknown}
@@ -31,31 +43,52 @@ use Rattle.checker.specs.Calls.{Call, feed, pull, Out, fed, pulled, outs
 use Rattle.checker.specs.Demand.{answerOf, fresh}
 use Rattle.checker.specs.Machine.{atFirst, tabulated, joined, moved, machineFor}
 
--- ---- rules; t is note 0
+-- ---- rules, as texts and as trees; t is note 0
 abbrev t : ℕ → ℤ → Sum
 t e o = reference (record { event = e; note = 0; factor = 1; offset = o })
 
--- events in out; notes t; t(out[i]) - t(in[i]) <= 25
+-- "the rule above", the bench program's
+abbrev latencyText : String
+latencyText = "events in out; notes t; t(out[i]) - t(in[i]) <= 25"
+
 abbrev latency : Cond
 latency = relation atMost (arithmetic subtract (t 1 (pos 0)) (t 0 (pos 0))) (literal 25)
 
--- events a b; notes t; t(a[i+10]) > 100 || t(b[i-5]) < 300
+-- "With `events a b; notes t;` from here on", "(after 003)"
+abbrev after003Text : String
+after003Text = "events a b; notes t; t(a[i+10]) > 100 || t(b[i-5]) < 300"
+
 abbrev after003 : Cond
 after003 = connective or (relation more (t 0 (pos 10)) (literal 100)) (relation less (t 1 (negsuc 4)) (literal 300))
 
--- t(a[i-2]) > 0
+-- M8
+abbrev twoBeforeText : String
+twoBeforeText = "events a b; notes t; t(a[i-2]) > 0"
+
 abbrev twoBefore : Cond
 twoBefore = relation more (t 0 (negsuc 1)) (literal 0)
 
--- t(a[i]) > 0 || 0 = 0
+-- M9
+abbrev orTrueText : String
+orTrueText = "events a b; notes t; t(a[i]) > 0 || 0 = 0"
+
 abbrev orTrue : Cond
 orTrue = connective or (relation more (t 0 (pos 0)) (literal 0)) (relation equal (literal 0) (literal 0))
 
--- abs(t(a[i])) > 2147483647
+-- M10
+abbrev greatestText : String
+greatestText = "events a b; notes t; abs(t(a[i])) > 2147483647"
+
 abbrev greatest : Cond
 greatest = relation more (abs (t 0 (pos 0))) (literal 2147483647)
 
--- a product of two notes, in a relation with 0, and the same plus 1
+-- M11: "a product of two notes", in a relation with 0, and the same plus 1
+abbrev productText : String
+productText = "events a b; notes t; t(a[i]) * t(b[i]) > 0"
+
+abbrev plusOneText : String
+plusOneText = "events a b; notes t; t(a[i]) * t(b[i]) + 1 > 0"
+
 abbrev product : Sum
 product = arithmetic multiply (t 0 (pos 0)) (t 1 (pos 0))
 
@@ -77,6 +110,8 @@ next = pull (replicate reportLeast 7)
 
 -- ---- the table
 pub record Example : Type 0 where
+  pub text : String
+  pub reading : Reading
   pub rule : Cond
   pub width : ℕ
   pub calls : List Call
@@ -87,6 +122,8 @@ abbrev table : List Example
 table =
     -- M1
     record {
+      text = latencyText;
+      reading = reading.Frames 5;
       rule = latency;
       width = 4;
       opening = opened;
@@ -95,6 +132,8 @@ table =
     }
     -- M2
     ∷ record {
+      text = latencyText;
+      reading = reading.Frames 5;
       rule = latency;
       width = 4;
       opening = opened;
@@ -103,6 +142,8 @@ table =
     }
     -- M3
     ∷ record {
+      text = latencyText;
+      reading = reading.Frames 5;
       rule = latency;
       width = 4;
       opening = opened;
@@ -111,6 +152,8 @@ table =
     }
     -- M4: a[10] to a[19] settle instances 0 to 9
     ∷ record {
+      text = after003Text;
+      reading = reading.Frames 7;
       rule = after003;
       width = 16;
       opening = opened;
@@ -119,6 +162,8 @@ table =
     }
     -- M5: a[10] to a[13] settle instances 0 to 3
     ∷ record {
+      text = after003Text;
+      reading = reading.Frames 7;
       rule = after003;
       width = 16;
       opening = opened;
@@ -127,6 +172,8 @@ table =
     }
     -- M6
     ∷ record {
+      text = after003Text;
+      reading = reading.Frames 7;
       rule = after003;
       width = 16;
       opening = opened;
@@ -135,6 +182,8 @@ table =
     }
     -- M7
     ∷ record {
+      text = after003Text;
+      reading = reading.Frames 7;
       rule = after003;
       width = 16;
       opening = opened;
@@ -143,6 +192,8 @@ table =
     }
     -- M8
     ∷ record {
+      text = twoBeforeText;
+      reading = reading.Frames 3;
       rule = twoBefore;
       width = 4;
       opening = opened;
@@ -151,6 +202,8 @@ table =
     }
     -- M9
     ∷ record {
+      text = orTrueText;
+      reading = reading.Frames 7;
       rule = orTrue;
       width = 4;
       opening = opened;
@@ -159,6 +212,8 @@ table =
     }
     -- M10: −2,147,483,648
     ∷ record {
+      text = greatestText;
+      reading = reading.Frames 4;
       rule = greatest;
       width = 4;
       opening = opened;
@@ -166,10 +221,28 @@ table =
       answers = accepted ∷ verdict True ∷ [];
     }
     -- M11
-    ∷ record { rule = relation more product (literal 0); width = 4; opening = opened; calls = []; answers = [] }
-    ∷ record { rule = relation more (arithmetic add product (literal 1)) (literal 0); width = 4; opening = refused 8 0; calls = []; answers = [] }
+    ∷ record {
+      text = productText;
+      reading = reading.Frames 5;
+      rule = relation more product (literal 0);
+      width = 4;
+      opening = opened;
+      calls = [];
+      answers = [];
+    }
+    ∷ record {
+      text = plusOneText;
+      reading = refusedAs 8 0;
+      rule = relation more (arithmetic add product (literal 1)) (literal 0);
+      width = 4;
+      opening = refused 8 0;
+      calls = [];
+      answers = [];
+    }
     -- M12 and M13: W 1
     ∷ record {
+      text = latencyText;
+      reading = reading.Frames 5;
       rule = latency;
       width = 1;
       opening = opened;
@@ -179,8 +252,22 @@ table =
     ∷ []
 
 -- ---- what the definitions answer
+-- a text's bytes
+abbrev bytes : String → List ℕ
+bytes nil = []
+bytes (cons c s) = charCode c ∷ bytes s
+
+-- the frame buffer that reading is lent holds 7 throughout
+abbrev lent : List ℕ
+lent = replicate bufferBytes 7
+
 abbrev framesOf : Example → List ℕ
 framesOf x = bytesOf (postfix (x .rule))
+
+-- what the buffer holds then: the frames of the tree and zero after the last, or what it held
+abbrev filled : Example → Reading → List ℕ
+filled x (reading.Frames n) = framesOf x ++ replicate (bufferBytes - length (framesOf x)) 0
+filled x (reading.Refused r) = lent
 
 -- the window that opening is given holds 7 throughout
 abbrev windowOf : Example → List ℤ
@@ -192,15 +279,16 @@ byMachine x = map answerOf (outs (machineFor (framesOf x) (x .width)) (x .calls)
 abbrev byChecker : Example → List Answer
 byChecker x = map answerOf (outs checker (x .calls) (fresh (framesOf x) (x .width) (windowOf x)))
 
--- opening, the plain machine and the checker, example by example
+-- reading, opening, the plain machine and the checker, example by example
 pub record Shown (xs : List Example) : Type 0 where
+  pub reading : map (λ x. readOf (bytes (x .text)) lent) xs ≡ map (λ x. (x .reading, filled x (x .reading))) xs
   pub opening : map (λ x. openDef (framesOf x) (x .width) (windowOf x) .answer) xs ≡ map (λ x. x .opening) xs
   pub machine : map byMachine xs ≡ map (λ x. x .answers) xs
   pub checker : map byChecker xs ≡ map (λ x. x .answers) xs
 
 pub marked : Shown table
-unfolding kindOf referenceCount orderOf sizesFit treeOf checkedOf digitValue digitsAtFront badPlace lineOf ofEvent referenced smallest base freshState withCount withPulled stored kept openDef goodRule goodCount allTo goodTally goodState feedEvent feedDef reportBytes pullRead pullDef outs tabulated joined moved
-marked = record { opening = refl; machine = refl; checker = refl }
+unfolding classOf span same wordKind markOf markWidth tokenKind widthOf tokenHere tokenAt tokensIn tokensFrom code nameCode decimalFrom decimal numberValue startFactor step finish run deeper position negated put acts judged readOf kindOf referenceCount orderOf sizesFit treeOf checkedOf digitValue digitsAtFront badPlace lineOf ofEvent referenced smallest base freshState withCount withPulled stored kept openDef goodRule goodCount allTo goodTally goodState feedEvent feedDef reportBytes pullRead pullDef outs tabulated joined moved
+marked = record { reading = refl; opening = refl; machine = refl; checker = refl }
 
 -- ---- the report of the bench program's example: instance 0 false, two references, 40 and 10; later bytes keep
 abbrev bench : List Call

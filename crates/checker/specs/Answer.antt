@@ -16,15 +16,18 @@ pub data Answer : Type 0 where
   verdict : Truth → Answer
   refused : (number place : ℕ) → Answer
 
+-- "Where an answer is an enum, a definition tells you this paper's number and values for each of its cases": of opening
 abbrev pub openTold : OpenAnswer → Answer
 openTold opens.Opened = opened
 openTold (opens.Refused r) = refused (r .number) (r .place)
 
+-- "Where an answer is an enum, a definition tells you this paper's number and values for each of its cases": of feeding
 abbrev pub feedTold : FeedAnswer → Answer
 feedTold feeds.Accepted = accepted
 feedTold feeds.Ignored = ignored
 feedTold (feeds.Refused r) = refused (r .number) (r .place)
 
+-- "Where an answer is an enum, a definition tells you this paper's number and values for each of its cases": of pulling
 abbrev pub pullTold : PullAnswer → Answer
 pullTold pulls.True = verdict True
 pullTold pulls.False = verdict False

@@ -8,20 +8,21 @@ use lib.IntN.{ℤ, pos, negsuc}
 use Rattle.rule.specs.Tree.{Reference}
 use Rattle.verdict.specs.Found.{occurrence}
 
--- an event's references: those that name it
+-- "its references": those that name the event
 unfoldable pub ofEvent : ℕ → List Reference → List Reference
 ofEvent e [] = []
 ofEvent e (r ∷ rs) = cond (eqb (r .event) e) (r ∷ ofEvent e rs) (ofEvent e rs)
 
+-- some reference is there, for "An event that isn't referenced"
 abbrev pub isSome : List Reference → Bool
 isSome [] = false
 isSome (r ∷ rs) = true
 
--- referenced: at least one reference names the event
+-- not "An event that isn't referenced": at least one reference names it
 unfoldable pub referenced : List Reference → ℕ → Bool
 referenced refs e = isSome (ofEvent e refs)
 
--- max(0, z)
+-- max(0, z), for "max(0, factor × p + offset)"
 abbrev pub orZero : ℤ → ℕ
 orZero (pos k) = k
 orZero (negsuc k) = 0
@@ -30,7 +31,7 @@ orZero (negsuc k) = 0
 abbrev pub startAt : ℕ → Reference → ℕ
 startAt p r = orZero (occurrence (r .factor) (r .offset) p)
 
--- the smallest of some numbers, 0 where there is none
+-- "the smallest of" some numbers, 0 where there is none
 unfoldable pub smallest : List ℕ → ℕ
 smallest [] = 0
 smallest (n ∷ []) = n
@@ -40,6 +41,6 @@ smallest (n ∷ (m ∷ ns)) = min n (smallest (m ∷ ns))
 unfoldable pub base : List Reference → ℕ → ℕ → ℕ
 base refs e p = smallest (map (startAt p) (ofEvent e refs))
 
--- the number of the first instance: verdicts are pulled from instance 0 on
+-- "the number p of verdicts pulled .. 0 at first": verdicts are pulled from instance 0 on
 abbrev pub firstInstance : ℕ
 firstInstance = 0

@@ -12,26 +12,29 @@ pub data Call : Type 0 where
   feed : (line : List ℕ) → Call
   pull : (buffer : List ℕ) → Call
 
--- an answer, and of a pull the report buffer after it
+-- "each answer with its number and place and each report buffer after its pull"
 pub data Out : Type 0 where
   fed : Answer → Out
   pulled : Answer → (report : List ℕ) → Out
 
+-- one call: what it gives, and what it "hands .. on"
 pub record Step (S : Type 0) : Type 0 where
   pub out : Out
   pub next : S
 
--- what a list of calls gives, call by call, and where it ends
+-- "a list of feeding and pulling calls": what it gives, call by call, and where it ends
 module _ {S : Type 0} (step : S → Call → Step S) where
+  -- "After every list, each answer .. and each report buffer after its pull"
   unfoldable pub outs : List Call → S → List Out
   outs [] s = []
   outs (c ∷ cs) s = step s c .out ∷ outs cs (step s c .next)
 
+  -- what stands "after the last call"
   unfoldable pub end : List Call → S → S
   end [] s = s
   end (c ∷ cs) s = end cs (step s c .next)
 
--- ---- the checker: what a caller holds between calls
+-- ---- the checker: "the state and window", which a caller holds between calls
 pub record Checker : Type 0 where
   pub state : State
   pub words : List ℤ

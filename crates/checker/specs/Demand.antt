@@ -1,23 +1,28 @@
 -- Words of the third demand: verdicts handed out, lines accepted, and what another order of lines may change.
 -- From document 01, "Feeding, pulling and the window". Assumes nothing: definitions.
 use mathlib.Core.Path.{_≡_}
-use mathlib.Core.List.{List, [], _∷_, _++_, map}
+use mathlib.Core.List.{List, [], _∷_, _++_, map, List·Memᴰ}
 use mathlib.Core.Logic.{_≢_}
 use Prim.Native.Nat.{ℕ, zero, suc, _+_}
 use lib.IntN.{ℤ}
+use lib.ListN.{length}
 use Rattle.rule.specs.Frames.{Bytes}
 use Rattle.rule.specs.Tree.{Reference, references}
 use Rattle.rule.specs.Build.{treeOf}
 use Rattle.verdict.specs.Found.{Found, present, pending, foundIn}
+use Rattle.verdict.specs.Settled.{judgement}
+use Rattle.verdict.specs.Settled as settling
 use Rattle.verdict.specs.Later.{Gains}
 use Rattle.verdict.specs.declared.Truth.{Truth}
 use Rattle.verdict.specs.declared.Truth.the-variants.{True, False, Unknown}
 use Rattle.checker.specs.Answer.{Answer, opened, accepted, ignored, waiting, verdict, refused}
+use Rattle.checker.specs.Base.{firstInstance}
+use Rattle.checker.specs.State.{tallyIn}
 use Rattle.checker.specs.Report.{reportBytes, written}
 use Rattle.checker.specs.Open.{openDef}
 use Rattle.checker.specs.Feed.{FeedRead, turned, skipped, taken}
 use Rattle.checker.specs.Calls.{Call, feed, pull, Out, fed, pulled, outs, end, Checker, checker}
-use Rattle.checker.specs.Machine.{Machine, atFirst, machineFeed, machineFor}
+use Rattle.checker.specs.Machine.{Machine, atFirst, tallyOf, machineFeed, machineFor}
 use Rattle.checker.specs.declared.Totals.{Totals}
 
 -- "an unrefused opening"; the frames are bytes, as a slice of them is
@@ -29,11 +34,13 @@ pub record Unrefused (frames : List ℕ) (w : ℕ) (win : List ℤ) : Type 0 whe
 abbrev pub fresh : List ℕ → ℕ → List ℤ → Checker
 fresh frames w win = record { state = openDef frames w win .state; words = openDef frames w win .words }
 
+-- "each answer with its number and place", without the report buffer
 abbrev pub answerOf : Out → Answer
 answerOf (fed a) = a
 answerOf (pulled a report) = a
 
 -- ---- verdicts
+-- "the answer is its verdict": one such answer before others
 abbrev pub handed : Answer → List Truth → List Truth
 handed opened vs = vs
 handed accepted vs = vs
@@ -42,16 +49,17 @@ handed waiting vs = vs
 handed (verdict v) vs = v ∷ vs
 handed (refused number place) vs = vs
 
--- the verdicts that a list of calls hands out, the first instance's first
+-- the "verdicts pulled" in a list of calls, the first instance's first
 unfoldable pub verdicts : List Out → List Truth
 verdicts [] = []
 verdicts (o ∷ os) = handed (answerOf o) (verdicts os)
 
--- f at i, i + 1, .., i + n - 1
+-- f at i, i + 1, .., i + n - 1, for the instances before p, "the number p of verdicts pulled"
 unfoldable pub span : {A : Type 0} → ℕ → ℕ → (ℕ → A) → List A
 span i zero f = []
 span i (suc n) f = f i ∷ span (i + 1) n f
 
+-- 1 where a verdict is the one that is counted, for "a total for each of the verdicts"
 abbrev pub isIt : Truth → Truth → ℕ
 isIt True True = 1
 isIt True False = 0
@@ -63,31 +71,52 @@ isIt Unknown True = 0
 isIt Unknown False = 0
 isIt Unknown Unknown = 1
 
--- how often a verdict is among others
+-- "a total for each of the verdicts": how often one is among others
 unfoldable pub countIn : List Truth → Truth → ℕ
 countIn [] v = 0
 countIn (x ∷ xs) v = isIt v x + countIn xs v
 
+-- "the totals true, false, unknown"
 abbrev pub totalsOf : List Truth → Totals
 totalsOf vs = record { held = countIn vs True; failed = countIn vs False; unknown = countIn vs Unknown }
 
 -- ---- after a list of calls, from an opening with these frames, this W and this window
+-- "After every list": the checker
 abbrev pub checkerAfter : List ℕ → ℕ → List ℤ → List Call → Checker
 checkerAfter frames w win cs = end checker cs (fresh frames w win)
 
+-- "the machine's lists after the last call", with its p and totals
 abbrev pub machineAfter : List ℕ → ℕ → List Call → Machine
 machineAfter frames w cs = end (machineFor frames w) cs atFirst
 
--- the verdicts that the checker handed out
+-- "verdicts pulled" from the checker
 abbrev pub handedOut : List ℕ → ℕ → List ℤ → List Call → List Truth
 handedOut frames w win cs = verdicts (outs checker cs (fresh frames w win))
 
+-- ---- "The third demand is a single claim about the whole list and not one for each call"
+pub record ThirdDemand (frames : List ℕ) (w : ℕ) (win : List ℤ) (cs : List Call) : Type 0 where
+  -- "After every list, each answer with its number and place and each report buffer after its pull are as the machine gave them"
+  pub answers : outs checker cs (fresh frames w win) ≡ outs (machineFor frames w) cs atFirst
+  -- "and the counts, p and totals in the state are the machine's"
+  pub state : tallyIn (checkerAfter frames w win cs .state) ≡ tallyOf (machineAfter frames w cs)
+  -- "The definition over all lines accepted in the list is the one over the machine's lists after the last call"
+  pub final : map settling.verdict (handedOut frames w win cs)
+      ≡ span firstInstance (length (handedOut frames w win cs))
+      (λ (i : ℕ). judgement i (foundIn (machineAfter frames w cs .lists) i) (treeOf frames))
+  -- "the totals true, false, unknown, which sum to p"
+  pub totals : (checkerAfter frames w win cs .state .next .0 ≡ firstInstance + length (handedOut frames w win cs))
+      × (checkerAfter frames w win cs .state .totals ≡ totalsOf (handedOut frames w win cs))
+  -- "So 12 and 13 never come in such a list"
+  pub never-12-13 : (x : Out) → List·Memᴰ x (outs checker cs (fresh frames w win)) → (place : ℕ)
+      → (answerOf x ≢ refused 12 place) × (answerOf x ≢ refused 13 place)
+
 -- ---- accepted lines
--- an accepted line: its event and its four notes
+-- of "accepted lines, each as its four notes": one, with its event
 pub record Entry : Type 0 where
   pub event : ℕ
   pub notes : List ℤ
 
+-- "Any other line is accepted": one such line before others
 abbrev pub joining : FeedRead → List Entry → List Entry
 joining (turned number place) es = es
 joining skipped es = es
@@ -100,11 +129,12 @@ acceptedIn frames w (feed line ∷ cs) m =
     joining (machineFeed (treeOf frames) w m line) (acceptedIn frames w cs (machineFor frames w m (feed line) .next))
 acceptedIn frames w (pull buffer ∷ cs) m = acceptedIn frames w cs (machineFor frames w m (pull buffer) .next)
 
--- the same lines in another order between events, and perhaps later lines
+-- "two orders of lines": the same lines in another order between events, and perhaps later lines
 pub data Reordered : List Entry → List Entry → Type 0 where
   same : (es : List Entry) → Reordered es es
   later : (es more : List Entry) → Reordered es (es ++ more)
-  swapped : (front : List Entry) (a b : Entry) (rest : List Entry) → a .event ≢ b .event → Reordered (front ++ (a ∷ (b ∷ rest))) (front ++ (b ∷ (a ∷ rest)))
+  swapped : (front : List Entry) (a b : Entry) (rest : List Entry) → a .event ≢ b .event
+      → Reordered (front ++ (a ∷ (b ∷ rest))) (front ++ (b ∷ (a ∷ rest)))
   then : (es fs gs : List Entry) → Reordered es fs → Reordered fs gs → Reordered es gs
 
 -- ---- reports

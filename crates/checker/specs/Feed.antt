@@ -18,7 +18,7 @@ use Rattle.checker.specs.Good.{goodState}
 use Rattle.checker.specs.declared.State.{State}
 
 -- ---- the decision, which the plain machine and the checker share
--- a line is turned down with a number and a place, ignored, or taken as four notes of an event
+-- "A refused line" with its number and place, "an ignored line", or an accepted one with its event and "four notes"
 pub data FeedRead : Type 0 where
   turned : (number place : ℕ) → FeedRead
   skipped : FeedRead
@@ -38,13 +38,14 @@ abbrev pub feedRead : List Reference → ℕ → Tally → Told → FeedRead
 feedRead refs w t (log.refused number place) = turned number place
 feedRead refs w t (log.line e a b c d) = feedEvent refs w t e (a ∷ b ∷ c ∷ d ∷ [])
 
+-- "is refused with 15 and its place .. is 'ignored' .. is accepted"
 abbrev pub feedAnswer : FeedRead → Answer
 feedAnswer (turned number place) = refused number place
 feedAnswer skipped = ignored
 feedAnswer (taken e notes) = accepted
 
 -- ---- the checker
--- the answer, the state that is handed on, and the window's words after the call
+-- "the answer, the state and all lent words": those of the window
 pub record FeedResult : Type 0 where
   pub answer : Answer
   pub state : State
@@ -54,6 +55,7 @@ pub record FeedResult : Type 0 where
 abbrev pub notFed : State → List ℤ → Answer → FeedResult
 notFed s win a = record { answer = a; state = s; words = win }
 
+-- "Each accepted occurrence from base on is found there .. One that arrives below base is counted and not stored"
 abbrev pub fedBy : State → List ℤ → FeedRead → FeedResult
 fedBy s win (turned number place) = notFed s win (refused number place)
 fedBy s win skipped = notFed s win ignored
@@ -64,7 +66,7 @@ fedBy s win (taken e notes) =
       words = kept win (s .width) e (base (refsIn s) e (s .next .0)) (countOf (tallyIn s) e) notes;
     }
 
--- for every state, every window and every line
+-- "for .. every argument": 12, then 13, then the line
 unfoldable pub feedDef : State → List ℤ → List ℕ → FeedResult
 feedDef s win line =
     cond (goodState s)

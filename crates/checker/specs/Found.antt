@@ -16,6 +16,6 @@ abbrev pub windowAt : ℕ → List ℤ → ℕ → ℕ → ℕ → ℤ → Found
 windowAt w win c e n (negsuc k) = void
 windowAt w win c e n (pos k) = cond (ltb k c) (present (getD win (wordAt w e k n) (pos 0))) pending
 
--- what a reference of instance i is
+-- "A reference of instance i means occurrence factor × i + offset": what it is by the counts and the window
 abbrev pub foundInWindow : ℕ → Tally → List ℤ → ℕ → Reference → Found
 foundInWindow w t win i r = windowAt w win (countOf t (r .event)) (r .event) (r .note) (occurrence (r .factor) (r .offset) i)

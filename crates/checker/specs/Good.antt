@@ -15,6 +15,7 @@ use Rattle.checker.specs.State.{sumOf, Tally, countOf, tallyIn, stateFra
 use Rattle.checker.specs.Open.{widthFits}
 use Rattle.checker.specs.declared.State.{State}
 
+-- not "frames .. opening would refuse"
 abbrev pub isAccepted : Checked → Bool
 isAccepted Accepted = true
 isAccepted (Refused r) = false
@@ -28,7 +29,7 @@ unfoldable pub goodCount : List Reference → ℕ → Tally → ℕ → Bool
 goodCount refs w t e =
     leb (countOf t e) lineLimit && cond (referenced refs e) (leb (countOf t e) (base refs e (t .next) + w)) (eqb (countOf t e) 0)
 
--- f holds of 0 to n - 1
+-- f holds of 0 to n - 1, for 12's counts of every event
 unfoldable pub allTo : ℕ → (ℕ → Bool) → Bool
 allTo zero f = true
 allTo (suc n) f = f n && allTo n f
@@ -38,5 +39,6 @@ unfoldable pub goodTally : List Reference → ℕ → Tally → Bool
 goodTally refs w t =
     allTo eventLimit (goodCount refs w t) && (leb (t .next) instanceLimit && eqb (sumOf (t .totals)) (t .next))
 
+-- what 12 lets through: none of "Feeding, pulling: a state whose frames or W opening would refuse .. or a count above base plus W"
 unfoldable pub goodState : State → Bool
 goodState s = goodRule s && goodTally (refsIn s) (s .width) (tallyIn s)

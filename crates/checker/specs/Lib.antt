@@ -14,7 +14,8 @@ pub mod Pull
 pub mod Calls
 pub mod Machine
 pub mod Demand
--- What the contracts of inner functions are said by; no public contract cites it.
+-- What the contracts of inner functions are said by; no contract of open, feed or pull cites it. Crates bench and dillplatter call
+-- by Parts, and bench by Ready too.
 pub mod Parts
 pub mod Within
 pub mod Lows

@@ -20,31 +20,32 @@ use Rattle.checker.specs.Open.{widthFits}
 use Rattle.checker.specs.Good.{isAccepted, allTo}
 use Rattle.checker.specs.declared.Totals.{Totals}
 
--- of an event with no reference; no base is as large
+-- in the place of a base, of "an unreferenced event"; no base is as large
 abbrev pub noBase : ℕ
 noBase = 4294967295
 
--- one reference more
+-- "the smallest of max(0, factor × p + offset)": with one reference more
 abbrev pub lowered : ℕ → Reference → List ℕ → List ℕ
 lowered p r lows = set lows (r .event) (min (getD lows (r .event) 0) (startAt p r))
 
--- one frame more
+-- with one frame more, "over its references"
 abbrev pub loweredBy : ℕ → Frame → List ℕ → List ℕ
 loweredBy p x lows = cond (eqb (x .kind) referenceByte) (lowered p (referenceOf x) lows) lows
 
--- after the first k frames
+-- "The base of an event", of each event, after the first k frames
 abbrev pub lowsTo : List ℕ → ℕ → ℕ → List ℕ
 lowsTo s p k = referencesTo (lowered p) s (replicate eventLimit noBase) k
 
+-- "The base of an event", of each event, after all frames
 unfoldable pub lowsOf : List ℕ → ℕ → List ℕ
 lowsOf s p = lowsTo s p (frameCount s)
 
--- what a frame's step requires
+-- what a frame's step requires: "The factor of i is 1 to 9 .., the offset −9,999 to 9,999", and not "p over 1,009,999"
 pub record Startable (p : ℕ) (x : Frame) : Type 0 where
   pub instance-in : p ≤ instanceLimit
   pub limits : x .kind ≡ referenceByte → LimitsR (referenceOf x)
 
--- what a pass over frames requires
+-- what a pass over frames requires: not frames that "opening would refuse", nor "p over 1,009,999"
 pub record Passable (s : List ℕ) (p : ℕ) : Type 0 where
   pub accepted : checkedOf s ≡ Accepted
   pub instance-in : p ≤ instanceLimit
@@ -53,10 +54,11 @@ pub record Passable (s : List ℕ) (p : ℕ) : Type 0 where
 abbrev pub countFits : ℕ → ℕ → ℕ → Bool
 countFits w low c = leb c lineLimit && cond (eqb low noBase) (eqb c 0) (leb c (low + w))
 
--- 12 of a state's fields, by the pass
+-- 12 of a state's fields: not "a state whose frames or W opening would refuse"
 abbrev pub ruleFits : List ℕ → ℕ → ℕ → Bool
 ruleFits frames n w = (leb n frameLimit && isAccepted (checkedOf (take (n * frameBytes) frames))) && widthFits w
 
+-- 12 of the others, by the pass: nor "a count over 1,000,000, p over 1,009,999, totals not summing to p"
 unfoldable pub tallyFits : List ℕ → ℕ → List ℕ → ℕ → Totals → Bool
 tallyFits s w counts p totals =
     leb p instanceLimit

@@ -25,10 +25,11 @@ pub record Machine : Type 0 where
   pub next : ℕ
   pub totals : Totals
 
+-- "empty at first .. 0 at first"
 abbrev pub atFirst : Machine
 atFirst = record { lists = λ e. []; next = firstInstance; totals = noTotals }
 
--- f at 0, 1, .., n - 1
+-- f at 0, 1, .., n - 1, for what there is "per event"
 unfoldable pub tabulated : {A : Type 0} → ℕ → (ℕ → A) → List A
 tabulated zero f = []
 tabulated (suc n) f = f zero ∷ tabulated n (λ k. f (suc k))
@@ -56,6 +57,7 @@ afterFeed m (turned number place) = m
 afterFeed m skipped = m
 afterFeed m (taken e notes) = joined m e notes
 
+-- "A refused line or pull .. and 'waiting' change nothing"
 abbrev pub afterPull : Machine → PullRead → Machine
 afterPull m short = m
 afterPull m waits = m
@@ -63,24 +65,28 @@ afterPull m (gave v) = moved m v
 
 -- "It has the rule and W that opening was given", and is fed the line of each feed and the report buffer of each pull
 module _ (rule : Cond) (w : ℕ) where
+  -- "Feeding: a line that 15 names is refused .. Any other line is accepted"
   abbrev pub machineFeed : Machine → List ℕ → FeedRead
   machineFeed m line = feedRead (references rule) w (tallyOf m) (lineOf line)
 
-  -- what each reference of instance p is by the lists
+  -- "instance p .. by the lists": what each of its references is
   abbrev pub foundNow : Machine → Reference → Found
   foundNow m = foundIn (m .lists) (m .next)
 
+  -- "Pulling: a buffer that 14 names is refused with 14. If instance p is settled by the lists, the answer is its verdict"
   abbrev pub machinePull : Machine → List ℕ → PullRead
   machinePull m buffer = pullRead rule (m .next) (foundNow m) (length buffer)
 
+  -- "The plain machine runs beside a list of feeding and pulling calls": one call
   abbrev pub machine : Machine → Call → Step Machine
   machine m (feed line) = record { out = fed (feedAnswer (machineFeed m line)); next = afterFeed m (machineFeed m line) }
   machine m (pull buffer) =
       record {
-        out = pulled (pullAnswer (machinePull m buffer)) (pullReport (m .next) (references rule) (foundNow m) buffer (machinePull m buffer));
+        out = pulled (pullAnswer (machinePull m buffer))
+            (pullReport (m .next) (references rule) (foundNow m) buffer (machinePull m buffer));
         next = afterPull m (machinePull m buffer);
       }
 
--- with the frames that opening was given
+-- "the rule and W that opening was given", the rule as frames
 abbrev pub machineFor : List ℕ → ℕ → Machine → Call → Step Machine
 machineFor frames w = machine (treeOf frames) w

@@ -10,12 +10,12 @@ use Rattle.checker.specs.State.{sumOf}
 use Rattle.checker.specs.Sights.{Lookable}
 use Rattle.checker.specs.declared.Totals.{Totals}
 
--- of totals and the instance that they sum to
+-- of totals and p: "the totals true, false, unknown, which sum to p"
 pub record Countable (t : Totals) (p : ℕ) : Type 0 where
   pub sum : sumOf t ≡ p
   pub low : p ≤ instanceLimit
 
--- of frames, an instance, W, the window's length and the buffer's
+-- of frames, an instance, W, the window's length and the buffer's: what 12, 13 and 14 let through
 pub record Offerable (frames : List ℕ) (p w n m : ℕ) : Type 0 where
   pub accepted : checkedOf frames ≡ Accepted
   pub look : Lookable p w n

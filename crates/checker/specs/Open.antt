@@ -14,7 +14,7 @@ use Rattle.checker.specs.Answer.{Answer, opened, refused}
 use Rattle.checker.specs.State.{zeroState, freshState}
 use Rattle.checker.specs.declared.State.{State}
 
--- the answer, the state that is given back, and the window's words after the call
+-- "the answer, the state and all lent words": those of the window
 pub record OpenResult : Type 0 where
   pub answer : Answer
   pub state : State
@@ -36,10 +36,11 @@ notOpened win number place = record { answer = refused number place; state = zer
 abbrev pub openedAs : List ℕ → ℕ → OpenResult
 openedAs frames w = record { answer = opened; state = freshState frames w; words = replicate (windowWords w) (pos 0) }
 
+-- 11 after the checks of frames: "W outside 1 to 256, or a window not 32 × W words"
 abbrev pub afterFrames : List ℕ → ℕ → List ℤ → Checked → OpenResult
 afterFrames frames w win (Refused r) = notOpened win (r .number) (r .place)
 afterFrames frames w win Accepted = cond (widthFits w && windowFits w win) (openedAs frames w) (notOpened win 11 0)
 
--- for every slice of frames, every W and every window
+-- "opening refuses exactly where one of its checks holds": for every slice of frames, every W and every window
 unfoldable pub openDef : List ℕ → ℕ → List ℤ → OpenResult
 openDef frames w win = afterFrames frames w win (checkedOf frames)

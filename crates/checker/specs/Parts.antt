@@ -1,5 +1,5 @@
--- A state put together: from its frames and the rest, and with what a call changes. No public contract cites it.
--- Assumes nothing: definitions.
+-- A state put together: from its frames and the rest, and with what a call changes. No contract of open, feed or pull cites it;
+-- crates bench and dillplatter call by it. Assumes nothing: definitions.
 use mathlib.Core.List.{List}
 use Prim.Native.Nat.{ℕ}
 use Rattle.verdict.specs.declared.Instance.{Instance}
@@ -7,7 +7,7 @@ use Rattle.checker.specs.declared.Totals.{Totals}
 use Rattle.checker.specs.declared.apart.Rest.{Rest}
 use Rattle.checker.specs.declared.State.{State}
 
--- the state of frames and a rest
+-- "The state carries frames, W (1 to 256), per-event counts, p, and the totals": of frames and the rest
 abbrev pub stateOf : List ℕ → Rest → State
 stateOf frames r =
     record {
@@ -19,7 +19,7 @@ stateOf frames r =
       totals = r .totals;
     }
 
--- other counts
+-- with other "per-event counts", as after a feed
 abbrev pub withCounts : State → List ℕ → State
 withCounts s counts =
     record {
@@ -31,7 +31,7 @@ withCounts s counts =
       totals = s .totals;
     }
 
--- another p and other totals
+-- with another "p, and the totals", as after a pull
 abbrev pub withTurn : State → Instance → Totals → State
 withTurn s p totals =
     record {

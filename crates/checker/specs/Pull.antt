@@ -1,5 +1,5 @@
 -- Pulling: 12, 13, 14, then the verdict of the next instance or 'waiting'. From document 01, "Feeding, pulling and the window"
--- and "What is turned down". Assumes nothing: definitions.
+-- and "What is turned down". Pull is the document's term. Assumes nothing: definitions.
 use mathlib.Core.Bool.{cond}
 use mathlib.Core.List.{List}
 use Prim.Native.Nat.{ℕ}
@@ -23,7 +23,7 @@ use Rattle.checker.specs.Report.{reportAfter}
 use Rattle.checker.specs.declared.State.{State}
 
 -- ---- the decision, which the plain machine and the checker share
--- the buffer is too short, the instance is not settled, or its verdict is given
+-- "a buffer that 14 names", 'waiting', or "its verdict"
 pub data PullRead : Type 0 where
   short waits : PullRead
   gave : Truth → PullRead
@@ -39,28 +39,30 @@ offered Unknown = gave truths.Unknown
 unfoldable pub pullRead : Cond → ℕ → (Reference → Found) → ℕ → PullRead
 pullRead rule i found n = cond (ltb n reportLeast) short (offered (judgement i found rule))
 
+-- "is refused with 14 .. the answer is its verdict .. Else the answer is 'waiting'"
 abbrev pub pullAnswer : PullRead → Answer
 pullAnswer short = refused 14 0
 pullAnswer waits = waiting
 pullAnswer (gave v) = verdict v
 
--- the report buffer after the pull
+-- "a false one fills the report": the buffer after the pull
 abbrev pub pullReport : ℕ → List Reference → (Reference → Found) → List ℕ → PullRead → List ℕ
 pullReport i refs found buffer short = buffer
 pullReport i refs found buffer waits = buffer
 pullReport i refs found buffer (gave v) = reportAfter i refs found buffer v
 
 -- ---- the checker
--- the answer, the state that is handed on, and the report buffer after the call; the window is only read
+-- "the answer, the state and all lent words": those of the report buffer; the window is only read
 pub record PullResult : Type 0 where
   pub answer : Answer
   pub state : State
   pub report : List ℕ
 
+-- "A refusal .. changes nothing"
 abbrev pub notPulled : State → List ℕ → Answer → PullResult
 notPulled s buffer a = record { answer = a; state = s; report = buffer }
 
--- what each reference of the next instance is
+-- "A reference of instance i", where i is p: what it is by the counts and the window
 abbrev pub foundHere : State → List ℤ → Reference → Found
 foundHere s win = foundInWindow (s .width) (tallyIn s) win (s .next .0)
 
@@ -70,6 +72,7 @@ stateAfter s short = s
 stateAfter s waits = s
 stateAfter s (gave v) = withPulled s v
 
+-- "the answer is its verdict, a false one fills the report .., and p and that verdict's total go up by 1"
 abbrev pub pulledBy : State → List ℤ → List ℕ → PullRead → PullResult
 pulledBy s win buffer x =
     record {
@@ -78,7 +81,7 @@ pulledBy s win buffer x =
       report = pullReport (s .next .0) (refsIn s) (foundHere s win) buffer x;
     }
 
--- for every state, every window and every report buffer
+-- "for .. every argument": pull is the document's term; 12, then 13, then 14
 unfoldable pub pullDef : State → List ℤ → List ℕ → PullResult
 pullDef s win buffer =
     cond (goodState s)

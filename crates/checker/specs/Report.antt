@@ -21,6 +21,7 @@ markOf void = voidMark
 abbrev pub entry : Found → List ℕ → List ℕ
 entry x rest = markOf x ∷ wordBytes (ofZ w32 (noteOf x)) rest
 
+-- "then per reference in frame order"
 abbrev pub entries : List Found → List ℕ
 entries [] = []
 entries (x ∷ xs) = entry x (entries xs)

@@ -22,38 +22,40 @@ use Rattle.checker.specs.Limits.{widthLimit, windowWords, reportLeast}
 use Rattle.checker.specs.Found.{windowAt}
 use Rattle.checker.specs.Report.{markOf, falseByte}
 
--- what a reference is, by the counts: foundInWindow of a tally is this of its counts
+-- "void below 0, pending if not yet accepted, else present": foundInWindow of a tally is this of its counts
 abbrev pub foundBy : ℕ → List ℕ → List ℤ → ℕ → Reference → Found
 foundBy w counts win p r = windowAt w win (getD counts (r .event) 0) (r .event) (r .note) (occurrence (r .factor) (r .offset) p)
 
--- a mark and a value as the report has them: the value is 0 unless present
+-- "a mark (00 present, 01 pending, 02 void) and the value (4 bytes, 0 unless present)"
 pub record Shows (x : Found) (mark : ℕ) (note : ℤ) : Type 0 where
   pub mark-is : mark ≡ markOf x
   pub note-is : note ≡ noteOf x
 
--- at each reference among the first k frames
+-- "per reference in frame order": at each among the first k frames
 abbrev pub ShownTo : List ℕ → (Reference → Found) → List ℕ → List ℤ → ℕ → Type 0
 ShownTo s found marks notes k =
-    (j : ℕ) → j < k → frameAt s j .kind ≡ referenceByte → Shows (found (referenceOf (frameAt s j))) (getD marks j 0) (getD notes j (pos 0))
+    (j : ℕ) → j < k → frameAt s j .kind ≡ referenceByte
+    → Shows (found (referenceOf (frameAt s j))) (getD marks j 0) (getD notes j (pos 0))
 
--- what is told of all frames
+-- "per reference in frame order": at each of all frames
 pub record Looked (s : List ℕ) (found : Reference → Found) (marks : List ℕ) (notes : List ℤ) : Type 0 where
   pub marked : length marks ≡ frameLimit
   pub noted : length notes ≡ frameLimit
   pub shown : ShownTo s found marks notes (frameCount s)
 
 -- ---- what is required
--- of W, the window's length and the instance
+-- of W, the window's length and the instance: "W (1 to 256)", "The window is 32 × W signed 32-bit words", not "p over 1,009,999"
 pub record Lookable (p w n : ℕ) : Type 0 where
   pub instance-in : p ≤ instanceLimit
   pub some : 1 ≤ w
   pub most : w ≤ widthLimit
   pub words : n ≡ windowWords w
 
+-- of a frame that is a reference: "The factor of i is 1 to 9 (1 if absent), the offset −9,999 to 9,999"
 abbrev pub Limited : Frame → Type 0
 Limited x = x .kind ≡ referenceByte → LimitsR (referenceOf x)
 
--- of a report's buffer of n bytes and of the arrays
+-- of a report's buffer of n bytes, not "under 166 bytes", and of the arrays
 pub record Fillable (s : List ℕ) (n : ℕ) (marks : List ℕ) (notes : List ℤ) : Type 0 where
   pub accepted : checkedOf s ≡ Accepted
   pub room : reportLeast ≤ n
@@ -61,14 +63,15 @@ pub record Fillable (s : List ℕ) (n : ℕ) (marks : List ℕ) (notes : List �
   pub noted : frameCount s ≤ length notes
 
 -- ---- the report's bytes
+-- "p before the pull (4 bytes), 00 for false, reference count (1 byte)"
 abbrev pub headerOf : ℕ → ℕ → List ℕ
 headerOf p n = wordBytes p (falseByte ∷ (n ∷ []))
 
--- of one reference
+-- of one reference, "a mark .. and the value (4 bytes, 0 unless present)"
 abbrev pub entryOf : ℕ → ℤ → List ℕ
 entryOf mark note = mark ∷ wordBytes (ofZ w32 note) []
 
--- after the first k frames
+-- "per reference in frame order": after the first k frames
 abbrev pub reportTo : List ℕ → List ℕ → List ℤ → List ℕ → ℕ → List ℕ
 reportTo s marks notes out zero = out
 reportTo s marks notes out (suc k) =

@@ -1,5 +1,6 @@
 -- The state, and each change of it. From document 01, "Feeding, pulling and the window" and "What is turned down".
 -- Assumes nothing: definitions.
+use mathlib.Core.Path.{_≡_}
 use mathlib.Core.List.{List, _++_}
 use Prim.Native.Nat.{ℕ, _+_, _*_, _-_, _/_}
 use lib.ListN.{length, getD, set, take, replicate}
@@ -13,6 +14,7 @@ use Rattle.checker.specs.declared.Totals.{Totals}
 use Rattle.checker.specs.declared.State.{State}
 
 -- ---- totals
+-- "a total for each of the verdicts, 0 at first"
 abbrev pub noTotals : Totals
 noTotals = record { held = 0; failed = 0; unknown = 0 }
 
@@ -22,19 +24,21 @@ counted t True = record { held = t .held + 1; failed = t .failed; unknown = t .u
 counted t False = record { held = t .held; failed = t .failed + 1; unknown = t .unknown }
 counted t Unknown = record { held = t .held; failed = t .failed; unknown = t .unknown + 1 }
 
+-- the sum in "totals not summing to p"
 abbrev pub sumOf : Totals → ℕ
 sumOf t = t .held + t .failed + t .unknown
 
--- ---- counts, p and totals, which the state and the plain machine both have; next is p
+-- ---- "the counts, p and totals in the state", which the plain machine has too; next is p
 pub record Tally : Type 0 where
   pub counts : List ℕ
   pub next : ℕ
   pub totals : Totals
 
--- an event's count
+-- "An event's count"
 abbrev pub countOf : Tally → ℕ → ℕ
 countOf t e = getD (t .counts) e 0
 
+-- "The state carries frames, W (1 to 256), per-event counts, p, and the totals": the last three
 abbrev pub tallyIn : State → Tally
 tallyIn s = record { counts = s .counts; next = s .next .0; totals = s .totals }
 
@@ -51,7 +55,7 @@ zeroState =
       totals = noTotals;
     }
 
--- the state that an unrefused opening gives back, zero after the last frame
+-- "the state .. that an unrefused opening gave back", zero after the last frame
 unfoldable pub freshState : List ℕ → ℕ → State
 freshState frames w =
     record {
@@ -63,18 +67,26 @@ freshState frames w =
       totals = noTotals;
     }
 
--- a state's frames, its rule as a tree, and that rule's references in frame order
+-- "a state whose frames": those that its rule is
 abbrev pub stateFrames : State → List ℕ
 stateFrames s = take (s .len * frameBytes) (s .frames)
 
+-- "the rule .. that opening was given", as a tree
 abbrev pub ruleIn : State → Cond
 ruleIn s = treeOf (stateFrames s)
 
+-- the rule's references, "in frame order"
 abbrev pub refsIn : State → List Reference
 refsIn s = references (ruleIn s)
 
+-- "the rule and W that opening was given": the same in two states
+pub record SameRule (s s′ : State) : Type 0 where
+  pub frames : s′ .frames ≡ s .frames
+  pub len : s′ .len ≡ s .len
+  pub width : s′ .width ≡ s .width
+
 -- ---- changes
--- one line more of an event
+-- an accepted line "is counted": one more of its event
 unfoldable pub withCount : State → ℕ → State
 withCount s e =
     record {

@@ -4,6 +4,7 @@ use Prim.Native.Nat.{ℕ, _≤_, _<_}
 use Rattle.rule.specs.Limits.{eventLimit, noteLimit}
 use Rattle.checker.specs.Limits.{widthLimit}
 
+-- "W (1 to 256)", and events and notes "numbered from 0 .., at most 8 and 4"
 pub record InWindow (w e n : ℕ) : Type 0 where
   pub some : 1 ≤ w
   pub most : w ≤ widthLimit

@@ -7,17 +7,15 @@ use rule::Checked;
 use rule::FRAME_BYTES;
 use verdict::Instance;
 ghost use mathlib.Core.Path.{_≡_};
-ghost use mathlib.Core.Bool.{Bool, true, false, _&&_};
+ghost use mathlib.Core.Bool.{true, false};
 ghost use Prim.Native.Nat.{_*_, _≤_};
-ghost use lib.Dec.{leb, eqb};
+ghost use lib.Dec.{eqb};
 ghost use lib.ListN.{length, getD, take};
 ghost use Rattle.rule.specs.Limits.{eventLimit, frameLimit, frameBytes};
 ghost use Rattle.rule.specs.Check.{checkedOf};
 ghost use Rattle.rule.specs.declared.Checked.{Checked};
-ghost use Rattle.verdict.specs.Found.{instanceLimit};
 ghost use Rattle.checker.specs.State.{sumOf, stateFrames};
 ghost use Rattle.checker.specs.Parts.{stateOf};
-ghost use Rattle.checker.specs.Open.{widthFits};
 ghost use Rattle.checker.specs.Good.{isAccepted, allTo, goodState};
 ghost use Rattle.checker.specs.Lows.{lowsOf, countFits, ruleFits, tallyFits};
 
@@ -39,6 +37,7 @@ pub struct Tested {
     pub lows: [u32; 8],
 }
 
+// Whether the check of frames took them.
 fn accepted(c: Checked) -> bool
     ensures { λ r. ⌜ r ≡ isAccepted c ⌝ }
 {

@@ -45,27 +45,32 @@ pub struct State {
     pub totals: Totals,
 }
 
+// What opening answers: opened, or refused with a number and a place.
 pub enum OpenAnswer {
     Opened,
     Refused(Refusal),
 }
 
+// What opening gives: its answer and a state; a refused opening's is zero throughout.
 pub struct Opened {
     pub answer: OpenAnswer,
     pub state: State,
 }
 
+// What feeding answers: the line is accepted, ignored, or refused with a number and a place.
 pub enum FeedAnswer {
     Accepted,
     Ignored,
     Refused(Refusal),
 }
 
+// What feeding gives: its answer and the state that is handed on.
 pub struct Fed {
     pub answer: FeedAnswer,
     pub state: State,
 }
 
+// What pulling answers: the verdict of instance p, waiting, or refused with a number.
 pub enum PullAnswer {
     True,
     False,
@@ -74,6 +79,7 @@ pub enum PullAnswer {
     Refused(Refusal),
 }
 
+// What pulling gives: its answer and the state that is handed on.
 pub struct Pulled {
     pub answer: PullAnswer,
     pub state: State,

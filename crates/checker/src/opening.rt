@@ -23,12 +23,13 @@ ghost use Rattle.checker.specs.Open.{widthFits, openDef};
 // W is 1 to 256.
 const WIDTH_LIMIT: u32 = 256;
 
-// A window has 32 × W words.
+// Window is the document's term: it has 32 × W words.
 const WORDS: usize = 32;
 
 // The number of the first instance.
 const FIRST_INSTANCE: u32 = 0;
 
+// Whether W is 1 to 256.
 pub fn width_fits(width: u32) -> bool
     ensures { λ r. ⌜ r ≡ widthFits width ⌝ }
 {
@@ -112,6 +113,7 @@ fn zero() -> State
     }
 }
 
+// A refusal hands back the state that is zero throughout.
 fn refuse(why: Refusal) -> Opened
     ensures { λ r. ⌜ r ≡ record { answer = OpenAnswer.Refused why; state = zeroState } ⌝ }
 {

@@ -1,4 +1,4 @@
-// Pulling: 12, 13, 14, then the verdict of the next instance or 'waiting'.
+// Pulling: 12, 13, 14, then the verdict of the next instance or 'waiting'. Pull is the document's term.
 use crate::PullAnswer;
 use crate::Pulled;
 use crate::State;

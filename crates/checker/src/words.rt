@@ -1,4 +1,4 @@
-// The window's words. Only here an occurrence number becomes an index.
+// The words of the window, the document's term. Only here an occurrence number becomes an index.
 use log::Notes;
 use verdict::Occurrence;
 ghost use mathlib.Core.Path.{_≡_};

@@ -35,7 +35,7 @@ abbrev pub foundAt : List (List ℤ) → ℕ → ℤ → Found
 foundAt lines note (negsuc k) = void
 foundAt lines note (pos k) = cond (ltb k (length lines)) (present (getD (getD lines k []) note (pos 0))) pending
 
--- a reference of instance i, over the accepted lines of every event
+-- "A reference of instance i", over the accepted lines of every event
 abbrev pub foundIn : (ℕ → List (List ℤ)) → ℕ → Reference → Found
 foundIn lines i r = foundAt (lines (r .event)) (r .note) (occurrence (r .factor) (r .offset) i)
 
@@ -58,7 +58,7 @@ isMissing (present z) = false
 isMissing pending = true
 isMissing void = true
 
--- one of the references is so
+-- one of the references is so, as in "if it names a void or pending reference" and "at least one is present"
 abbrev pub someOf : (Found → Bool) → (Reference → Found) → List Reference → Bool
 someOf is found [] = false
 someOf is found (r ∷ rs) = is (found r) || someOf is found rs

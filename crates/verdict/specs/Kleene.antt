@@ -10,7 +10,7 @@ notK True = False
 notK False = True
 notK Unknown = Unknown
 
--- and
+-- "Not, and, or follow Kleene's tables": and
 abbrev pub andK : Truth → Truth → Truth
 andK True True = True
 andK True False = False
@@ -22,7 +22,7 @@ andK Unknown True = Unknown
 andK Unknown False = False
 andK Unknown Unknown = Unknown
 
--- or
+-- "Not, and, or follow Kleene's tables": or
 abbrev pub orK : Truth → Truth → Truth
 orK True True = True
 orK True False = True
@@ -40,7 +40,7 @@ joined and p q = andK p q
 joined or p q = orK p q
 joined implies p q = orK (notK p) q
 
--- the truth value of a test
+-- "else true or false": the truth value of a test
 abbrev pub truth : Bool → Truth
 truth true = True
 truth false = False

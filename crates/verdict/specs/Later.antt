@@ -10,18 +10,18 @@ use Rattle.verdict.specs.Found.{Found, pending}
 use Rattle.verdict.specs.declared.Truth.{Truth}
 use Rattle.verdict.specs.declared.Truth.the-variants.{Unknown}
 
--- a reference stays as it is, or was pending
+-- "pending if not yet accepted": with later lines a reference stays as it is, or was pending
 abbrev pub Gains : Found → Found → Type 0
 Gains a b = (a ≡ b) ⊎ (a ≡ pending)
 
--- each reference of a rule does
+-- so each reference that a rule "names"
 abbrev pub GainsIn : Cond → (Reference → Found) → (Reference → Found) → Type 0
 GainsIn t found found′ = (r : Reference) → List·Memᴰ r (references t) → Gains (found r) (found′ r)
 
--- a truth value stays as it is, or was unknown
+-- a truth value stays as it is, or was "unknown"
 abbrev pub Sharpens : Truth → Truth → Type 0
 Sharpens a b = (a ≡ Unknown) ⊎ (a ≡ b)
 
--- of each event, the same accepted lines and perhaps more after them
+-- "per event the list of its accepted lines": the same and perhaps more after them
 abbrev pub MoreLines : (ℕ → List (List ℤ)) → (ℕ → List (List ℤ)) → Type 0
 MoreLines lines lines′ = (e : ℕ) → (more : List (List ℤ)) × (lines e ++ more ≡ lines′ e)

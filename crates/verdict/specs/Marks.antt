@@ -12,30 +12,31 @@ use Rattle.rule.specs.Check.{checkedOf}
 use Rattle.rule.specs.declared.Checked.the-variants.{Accepted}
 use Rattle.verdict.specs.Found.{instanceLimit, Found, present, pending, void}
 
--- "00 present, 01 pending, 02 void": 00
+-- "a mark (00 present, 01 pending, 02 void)": 00
 abbrev pub presentMark : ℕ
 presentMark = 0
 
--- 01
+-- "01 pending"
 abbrev pub pendingMark : ℕ
 pendingMark = 1
 
--- 02
+-- "02 void"
 abbrev pub voidMark : ℕ
 voidMark = 2
 
--- a mark and a number say what a reference is; the number counts only where it is present
+-- "a mark .. and the value" say what a reference is; the value counts only where it is present
 abbrev pub Tells : Found → ℕ → ℤ → Type 0
 Tells (present z) mark note = (mark ≡ presentMark) × (note ≡ z)
 Tells pending mark note = mark ≡ pendingMark
 Tells void mark note = mark ≡ voidMark
 
--- the arrays, with an entry for each frame, say it of the reference at each frame that is one
+-- "per reference in frame order a mark .. and the value": arrays with an entry for each frame say it of those that are references
 abbrev pub Told : List ℕ → (Reference → Found) → List ℕ → List ℤ → Type 0
 Told s found marks notes =
-    (k : ℕ) → k < frameCount s → frameAt s k .kind ≡ referenceByte → Tells (found (referenceOf (frameAt s k))) (getD marks k 0) (getD notes k (pos 0))
+    (k : ℕ) → k < frameCount s → frameAt s k .kind ≡ referenceByte
+    → Tells (found (referenceOf (frameAt s k))) (getD marks k 0) (getD notes k (pos 0))
 
--- what judge requires: accepted frames, an instance number that refusal 12 lets through, an entry for each frame
+-- what judge requires: frames that opening would not refuse, not "p over 1,009,999", an entry for each frame
 pub record Judgeable (s : List ℕ) (i : ℕ) (marks : List ℕ) (notes : List ℤ) : Type 0 where
   pub accepted : checkedOf s ≡ Accepted
   pub instance-in : i ≤ instanceLimit

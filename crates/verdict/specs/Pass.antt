@@ -6,7 +6,8 @@ use Prim.Native.Nat.{ℕ, zero, suc}
 use lib.Dec.{eqb}
 use lib.IntN.{ℤ, pos}
 use lib.ListN.{getD}
-use Rattle.rule.specs.Frames.{Source, literal, instance, reference, Relation, Kind, operand, arithmetic, absolute, relation, negation, connective, none, kindOf, frameAt, frameCount}
+use Rattle.rule.specs.Frames.{Source, literal, instance, reference, Relation, kindOf, frameAt, frameCount}
+use Rattle.rule.specs.Frames.{Kind, operand, arithmetic, absolute, relation, negation, connective, none}
 use Rattle.rule.specs.Build.{top1, top2}
 use Rattle.verdict.specs.Kleene.{notK, joined, truth}
 use Rattle.verdict.specs.Value.{computed, sizeOf, holds}
@@ -17,8 +18,8 @@ use Rattle.verdict.specs.declared.Truth.the-variants.{Unknown}
 use Rattle.verdict.specs.declared.Judgement.{Judgement}
 use Rattle.verdict.specs.declared.Judgement.the-variants.{Unsettled}
 
--- after some frames: the sums' values and the conditions' truth values, the last first; whether a reference since the last
--- relation is missing; whether a reference is pending, and whether one is present
+-- after some frames "in postfix order": the sums' values and the conditions' truth values, the last first; whether a reference
+-- since the last relation is missing; whether a reference is pending, and whether one is present
 pub record Pass : Type 0 where
   pub sums : List ℤ
   pub missing : Bool
@@ -26,19 +27,19 @@ pub record Pass : Type 0 where
   pub pending : Bool
   pub present : Bool
 
--- before the first frame
+-- before the first of the frames "in postfix order"
 abbrev pub atStart : Pass
 atStart = record { sums = []; missing = false; conds = []; pending = false; present = false }
 
--- with other sums
+-- with other sums, as kinds "01 literal" to "14 abs" leave them
 abbrev pub withSums : Pass → List ℤ → Pass
 withSums p vs = record { sums = vs; missing = p .missing; conds = p .conds; pending = p .pending; present = p .present }
 
--- with other conditions
+-- with other conditions, as kinds "31 not" to "34 implies" leave them
 abbrev pub withConds : Pass → List Truth → Pass
 withConds p cs = record { sums = p .sums; missing = p .missing; conds = cs; pending = p .pending; present = p .present }
 
--- a reference with its mark and its note
+-- "03 reference", with its mark and its note
 abbrev pub withReference : Pass → ℕ → ℤ → Pass
 withReference p mark note =
     record {
@@ -49,23 +50,30 @@ withReference p mark note =
       present = p .present || eqb mark presentMark;
     }
 
--- the truth value of a relation of the two sums that are there
+-- "A relation is unknown if it names a void or pending reference, else true or false": of the two sums that are there
 abbrev pub related : Relation → Bool → List ℤ → Truth
 related r missing [] = Unknown
 related r missing (y ∷ []) = Unknown
 related r missing (y ∷ (x ∷ vs)) = cond missing Unknown (truth (holds r x y))
 
--- with a relation, which takes the sums; the next one begins with no reference
+-- with one of "21 to 26 the relations", which takes the sums; the next one begins with no reference
 abbrev pub withRelation : Pass → Relation → Pass
-withRelation p r = record { sums = []; missing = false; conds = related r (p .missing) (p .sums) ∷ p .conds; pending = p .pending; present = p .present }
+withRelation p r =
+    record {
+      sums = [];
+      missing = false;
+      conds = related r (p .missing) (p .sums) ∷ p .conds;
+      pending = p .pending;
+      present = p .present;
+    }
 
--- with a literal, i or a reference
+-- "01 literal, 02 i, 03 reference"
 abbrev pub operandBy : Source → ℤ → ℕ → ℕ → ℤ → Pass → Pass
 operandBy literal v i mark note p = withSums p (v ∷ p .sums)
 operandBy instance v i mark note p = withSums p (pos i ∷ p .sums)
 operandBy reference v i mark note p = withReference p mark note
 
--- one frame more, by its kind: v is the frame's literal, i the instance number
+-- "Kinds are 01 literal, 02 i, ..": one frame more, by its kind; v is the frame's literal, i the instance number
 abbrev pub passBy : Kind → ℤ → ℕ → ℕ → ℤ → Pass → Pass
 passBy (operand s) v i mark note p = operandBy s v i mark note p
 passBy (arithmetic o) v i mark note p = withSums p (top2 (computed o) (p .sums))
@@ -75,22 +83,22 @@ passBy negation v i mark note p = withConds p (top1 notK (p .conds))
 passBy (connective j) v i mark note p = withConds p (top2 (joined j) (p .conds))
 passBy none v i mark note p = p
 
--- the rule's value: of a rule one condition is left
+-- "the rule's value": of a rule one condition is left
 abbrev pub firstT : List Truth → Truth
 firstT [] = Unknown
 firstT (t ∷ cs) = t
 
--- what is said of an instance: its verdict where it is settled
+-- "The verdict of a settled instance is the rule's value": of another that it is not settled
 abbrev pub judgedBy : Bool → Bool → Truth → Judgement
 judgedBy somePending somePresent t = cond (settledBy somePending somePresent t) (verdict t) Unsettled
 
 module _ (s : List ℕ) (i : ℕ) (marks : List ℕ) (notes : List ℤ) where
-  -- after the first k frames
+  -- after the first k frames "in postfix order"
   abbrev pub passAt : ℕ → Pass
   passAt zero = atStart
   passAt (suc k) = passBy (kindOf (frameAt s k .kind)) (frameAt s k .value) i (getD marks k 0) (getD notes k (pos 0)) (passAt k)
 
-  -- what judge answers
+  -- what judge answers: "The verdict of a settled instance is the rule's value"
   unfoldable pub judgementOf : Judgement
   judgementOf =
       judgedBy (passAt (frameCount s) .pending) (passAt (frameCount s) .present) (firstT (passAt (frameCount s) .conds))

@@ -21,10 +21,10 @@ verdict truths.False = False
 verdict truths.Unknown = Unknown
 
 module _ (i : ℕ) (found : Reference → Found) (t : Cond) where
-  -- of an instance of a rule
+  -- "An instance is settled": of a rule, where found says what each reference is
   abbrev pub settled : Bool
   settled = settledBy (someOf isPending found (references t)) (someOf isPresent found (references t)) (value i found t)
 
-  -- what is said of an instance: its verdict where it is settled
+  -- "The verdict of a settled instance is the rule's value": of another that it is not settled
   abbrev pub judgement : Judgement
   judgement = cond settled (verdict (value i found t)) Unsettled

@@ -18,7 +18,7 @@ use Rattle.verdict.specs.declared.Truth.the-variants.{True, False, Unkno
 use Rattle.verdict.specs.declared.evaluate.Top.{Top}
 
 -- ---- what a kind asks for; some value where it asks for nothing of the sort
--- of two sums
+-- "11 add, 12 subtract, 13 multiply" of two sums
 abbrev pub computedBy : Kind → ℤ → ℤ → ℤ
 computedBy (operand s) x y = x
 computedBy (arithmetic o) x y = computed o x y
@@ -28,7 +28,7 @@ computedBy negation x y = x
 computedBy (connective j) x y = x
 computedBy none x y = x
 
--- a relation of two sums
+-- "21 to 26 the relations as listed" of two sums
 abbrev pub holdsBy : Kind → ℤ → ℤ → Bool
 holdsBy (operand s) x y = false
 holdsBy (arithmetic o) x y = false
@@ -38,7 +38,7 @@ holdsBy negation x y = false
 holdsBy (connective j) x y = false
 holdsBy none x y = false
 
--- of two conditions
+-- "32 and, 33 or, 34 implies" of two conditions
 abbrev pub joinedBy : Kind → Truth → Truth → Truth
 joinedBy (operand s) p q = p
 joinedBy (arithmetic o) p q = p
@@ -48,15 +48,15 @@ joinedBy negation p q = p
 joinedBy (connective j) p q = joined j p q
 joinedBy none p q = p
 
--- ---- conditions as bytes: 0 false, 1 true, else unknown
+-- ---- conditions as bytes, of "three values": 0 false, 1 true, else unknown
 abbrev pub truthOf : ℕ → Truth
 truthOf b = cond (eqb b 0) False (cond (eqb b 1) True Unknown)
 
--- the c conditions that an array holds, the last first
+-- the c conditions that an array holds, the last first, as a pass over frames "in postfix order" takes them
 abbrev pub truthsOf : List ℕ → ℕ → List Truth
 truthsOf cells c = map truthOf (stackOf 0 cells c)
 
--- what two arrays hold
+-- what two arrays hold of a pass over frames "in postfix order"
 abbrev pub passOf : List ℤ → List ℕ → Top → Pass
 passOf sums conds t =
     record {
@@ -67,12 +67,12 @@ passOf sums conds t =
       present = t .present;
     }
 
--- every value is within the limit of magnitudes, so that it fits 64 bits
+-- "None exceeds 2^62, so arithmetic is exact": every value fits 64 bits
 abbrev pub Small : List ℤ → Type 0
 Small [] = Unit {0}
 Small (v ∷ vs) = (natAbs v ≤ magnitudeLimit) × Small vs
 
--- what a step requires: room, the sums and conditions that its kind needs, and small values after it
+-- what a step requires: room, for "at most 64 frames", the sums and conditions that its kind needs, and small values after it
 pub record Begun (o : Kind) (sums : List ℤ) (conds : List ℕ) (t : Top) (next : Pass) : Type 0 where
   pub long : length sums ≡ 64
   pub long-c : length conds ≡ 64

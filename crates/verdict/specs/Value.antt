@@ -13,31 +13,31 @@ use Rattle.verdict.specs.declared.Truth.{Truth}
 use Rattle.verdict.specs.declared.Truth.the-variants.{Unknown}
 
 -- ---- sums
--- kinds 11 to 13: add, subtract, multiply, exactly
+-- "11 add, 12 subtract, 13 multiply": "arithmetic is exact"
 abbrev pub computed : Arithmetic → ℤ → ℤ → ℤ
 computed add x y = x +ℤ y
 computed subtract x y = x -ℤ y
 computed multiply x y = x *ℤ y
 
--- kind 14: abs
+-- "14 abs"
 abbrev pub sizeOf : ℤ → ℤ
 sizeOf x = pos (natAbs x)
 
--- the note of a reference; 0 where it is absent, which no relation looks at
+-- "the value (4 bytes, 0 unless present)": a reference's note; no relation looks at that 0
 abbrev pub noteOf : Found → ℤ
 noteOf (present z) = z
 noteOf pending = pos 0
 noteOf void = pos 0
 
 -- ---- relations
--- the same number
+-- the relation "=": the same number
 abbrev pub eqZ : ℤ → ℤ → Bool
 eqZ (pos x) (pos y) = eqb x y
 eqZ (pos x) (negsuc y) = false
 eqZ (negsuc x) (pos y) = false
 eqZ (negsuc x) (negsuc y) = eqb x y
 
--- kinds 21 to 26: = != < <= > >=
+-- "21 to 26 the relations as listed": "= != < <= > >="
 abbrev pub holds : Relation → ℤ → ℤ → Bool
 holds equal x y = eqZ x y
 holds unequal x y = not (eqZ x y)
@@ -48,7 +48,7 @@ holds atLeast x y = leZ y x
 
 -- ---- i is the instance number, found says what each reference is at that instance
 module _ (i : ℕ) (found : Reference → Found) where
-  -- the value of a sum
+  -- the value of a sum, by its "01 literal, 02 i, 03 reference, 11 add, 12 subtract, 13 multiply, 14 abs"
   abbrev pub valueS : Sum → ℤ
   valueS (literal n) = pos n
   valueS instance = pos i
@@ -58,6 +58,7 @@ module _ (i : ℕ) (found : Reference → Found) where
 
   -- "A relation is unknown if it names a void or pending reference, else true or false"
   abbrev pub value : Cond → Truth
-  value (relation r a b) = cond (someOf isMissing found (referencesS a ++ referencesS b)) Unknown (truth (holds r (valueS a) (valueS b)))
+  value (relation r a b) =
+      cond (someOf isMissing found (referencesS a ++ referencesS b)) Unknown (truth (holds r (valueS a) (valueS b)))
   value (Cond.not p) = notK (value p)
   value (connective j p q) = joined j (value p) (value q)

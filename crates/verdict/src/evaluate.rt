@@ -22,8 +22,8 @@ const PRESENT: u8 = 0;
 
 const PENDING: u8 = 1;
 
-// What a step carries on beside the arrays: the numbers of sums and of conditions; whether a reference since the last relation is missing; whether a reference is
-// pending, and whether one is present.
+// What a step carries on beside the arrays: the numbers of sums and of conditions; whether a reference since the last relation is
+// missing; whether a reference is pending, and whether one is present.
 pub struct Top {
     pub sums: usize,
     pub conds: usize,

@@ -17,7 +17,7 @@ fn known(t: Truth) -> bool
     }
 }
 
-// No reference is pending, or one is present and the rule is true or false.
+// Settled is the document's term: no reference is pending, or one is present and the rule is true or false.
 fn settled(pending: bool, present: bool, t: Truth) -> bool
     ensures { λ r. ⌜ r ≡ settledBy pending present t ⌝ }
 {
