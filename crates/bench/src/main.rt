@@ -17,9 +17,10 @@ ghost use mathlib.Core.List.{_++_};
 ghost use Prim.Native.Nat.{_≤_};
 ghost use lib.ListN.{length, take};
 ghost use Rattle.checker.specs.Ready.{Ready};
-ghost use Rattle.bench.specs.Print.{outBytes, totalsLine};
+ghost use Rattle.bench.specs.Print.{totalsLine};
 ghost use Rattle.bench.specs.Kept.{keptLimit};
-ghost use Rattle.bench.specs.Progress.{afterLine, afterBytes, atEnd, progressOf, Ends, After, openOf, AfterOpen};
+ghost use Rattle.bench.specs.Progress.{afterLine, afterBytes, atEnd};
+ghost use Rattle.bench.specs.Carried.{outBytes, progressOf, Ends, After, openOf, AfterOpen};
 
 // How many lines were accepted, ignored and refused.
 pub struct Counts {
