@@ -239,8 +239,14 @@ fn run_text(text: &[u8]) {
     }
 }
 
-// Reads the rule's file as far as there is room, and answers how many bytes it has. A file that can't be read counts as an
-// empty text.
+// Whether a file has been read to its end. A read that fails, or that still gives a byte, tells that it hasn't.
+fn at_end(fd: i32) -> bool {
+    let mut more = [0u8; 1];
+    libc::read(fd, &mut more) == 0
+}
+
+// Reads the rule's file as far as there is room, and answers how many bytes were read. A file that can't be read counts as an
+// empty text, even where reading fails midway.
 fn read_rule(text: &mut [u8]) -> usize
     ensures { λ r. ⌜ (r ≤ length (now (text .exit))) × (r ≡ length (take r (now (text .exit)))) ⌝ }
 {
@@ -249,8 +255,9 @@ fn read_rule(text: &mut [u8]) -> usize
         return 0;
     }
     let n = io::read_full(fd, text);
+    let whole = n == text.len() || at_end(fd);
     libc::close(fd);
-    n
+    if whole { n } else { 0 }
 }
 
 // The rule from its file, and the whole run.
