@@ -1,10 +1,12 @@
 -- What the program does with a rule and a log, in document 01's words, "Bench program". Assumes nothing: definitions.
+use mathlib.Core.Path.{_≡_}
 use mathlib.Core.Bool.{Bool, true, false, cond}
 use mathlib.Core.List.{List, [], _∷_, _++_}
 use Prim.Native.Nat.{ℕ, zero, suc, _+_, _%_, _^_}
 use lib.Dec.{eqb}
 use lib.IntN.{ℤ}
 use lib.ListN.{replicate}
+use Rattle.verdict.specs.declared.Truth.{Truth}
 use Rattle.verdict.specs.declared.Truth.the-variants.{True, False, Unknown}
 use Rattle.checker.specs.Limits.{reportLeast}
 use Rattle.checker.specs.Answer.{Answer, opened, accepted, ignored, waiting, verdict, refused}
@@ -61,7 +63,12 @@ pulledOnce x =
       said = x .said ++ printed (pullOf x .answer) (pullOf x .report);
     }
 
--- "pulls until waiting", in at most so many pulls
+-- "pulls until waiting": each pull gives a verdict, but the last, which answers 'waiting'
+pub data UntilWaiting : Progress → Progress → Type 0 where
+  last : (x : Progress) → pullOf x .answer ≡ waiting → UntilWaiting x (pulledOnce x)
+  more : (x y : Progress) (v : Truth) → pullOf x .answer ≡ verdict v → UntilWaiting (pulledOnce x) y → UntilWaiting x y
+
+-- the same, in at most so many pulls; `pulls-wait` (proofs/Headlines) says that pullLimit of them are enough
 unfoldable pub pulls : ℕ → Progress → Progress
 pulls zero x = x
 pulls (suc k) x = cond (isVerdict (pullOf x .answer)) (pulls k (pulledOnce x)) (pulledOnce x)
