@@ -143,7 +143,8 @@ module _ (text b : List ℕ) (n : ℕ) (s : List ℕ) (r : readOf text b ≡ (Fr
   pub first-waits : UntilWaiting (atStart o) (begun o)
   first-waits = pulls-wait (atStart o) sound-read
 
-  pub line-waits : (ls : List (List ℕ)) (line : List ℕ) → UntilWaiting (fedLine (afterLines (begun o) ls) line) (afterLine (afterLines (begun o) ls) line)
+  pub line-waits : (ls : List (List ℕ)) (line : List ℕ)
+      → UntilWaiting (fedLine (afterLines (begun o) ls) line) (afterLine (afterLines (begun o) ls) line)
   line-waits ls line =
       let p = sound-lines (begun o) ls (sound-until (atStart o) (begun o) first-waits sound-read) in
       pulls-wait (fedLine (afterLines (begun o) ls) line) (sound-fed (afterLines (begun o) ls) p line)

@@ -15,7 +15,8 @@ outBytes = 65536
 
 -- a run's progress with the checker's frames, with what waits in its output buffer as all that was printed
 abbrev pub progressOf : List ℕ → Run → List ℤ → List ℕ → Progress
-progressOf frames r win out = record { state = stateOf frames (r .rest); words = win; counts = r .counts; said = take (r .full) out }
+progressOf frames r win out =
+    record { state = stateOf frames (r .rest); words = win; counts = r .counts; said = take (r .full) out }
 
 -- with at most so many bytes waiting there is room for every line, and nothing is written out
 abbrev pub roomy : ℕ
