@@ -19,8 +19,8 @@ use Rattle.checker.specs.Feed.{feedDef}
 use Rattle.checker.specs.Ready.{Ready}
 use Rattle.checker.specs.declared.State.{State}
 use Rattle.bench.specs.Kept.{keptLimit, kept}
-use Rattle.bench.specs.Print.{outBytes}
-use Rattle.bench.specs.Progress.{Progress, Open, fedLine, afterLine, afterBytes, lastLine, before, roomy, After, openOf, AfterOpen}
+use Rattle.bench.specs.Progress.{Progress, Open, fedLine, afterLine, afterBytes, lastLine}
+use Rattle.bench.specs.Carried.{outBytes, roomy, before, After, openOf, AfterOpen}
 use Rattle.bench.specs.declared.Run.{Run}
 use Rattle.bench.proofs.RunLaws.{after-refl, after-trans, line-grows, line-before}
 

@@ -1,10 +1,12 @@
 -- The headline statements of this crate, each proved where it is cited. Assumes nothing.
 use mathlib.Core.Path.{_≡_}
+use mathlib.Core.Bool.{true}
 use mathlib.Core.List.{List, [], _++_, map}
 use Prim.Native.Nat.{ℕ, _*_, _/_, _%_, _<_}
 use lib.IntN.{ℤ}
 use lib.ListN.{take, replicate}
 use Rattle.rule.specs.Limits.{frameLimit, frameBytes}
+use Rattle.rule.specs.Frames.{Bytes}
 use Rattle.rule.specs.Reading.{readOf}
 use Rattle.rule.specs.declared.Refusal.{Refusal}
 use Rattle.rule.specs.declared.Reading.the-variants.{Frames, Refused}
@@ -13,17 +15,35 @@ use Rattle.log.specs.Walk.{linesOf}
 use Rattle.log.specs.declared.digit.Pair.the-variants.{Byte}
 use Rattle.verdict.specs.declared.Truth.the-variants.{False}
 use Rattle.checker.specs.Answer.{verdict}
-use Rattle.checker.specs.State.{refsIn}
-use Rattle.checker.specs.Open.{OpenResult}
+use Rattle.checker.specs.State.{stateFrames, refsIn}
+use Rattle.checker.specs.Open.{windowFits, OpenResult}
+use Rattle.checker.specs.Good.{goodState}
 use Rattle.checker.specs.Report.{reportBytes}
 use Rattle.checker.specs.Pull.{foundHere, pullDef}
 use Rattle.checker.specs.declared.State.{State}
 use Rattle.bench.specs.Print.{hexDigit, refusedLine, reportPart}
 use Rattle.bench.specs.Kept.{keptLimit}
-use Rattle.bench.specs.Progress.{Progress, blank, pulls, pullLimit, Open, afterLine, afterLines, afterBytes, atEnd}
-use Rattle.bench.specs.Output.{atStart, withTotals, wholeRun, openedFor, outputOf}
+use Rattle.bench.specs.Progress.{Progress, blank, UntilWaiting, pulls, pullLimit, fedLine, afterLine, afterLines, Open, afterBytes, atEnd}
+use Rattle.bench.specs.Output.{atStart, withTotals, begun, wholeRun, openedFor, outputOf}
 use Rattle.bench.proofs.ChunkLaws
 use Rattle.bench.proofs.Whole
+use Rattle.bench.proofs.Waiting
+
+-- "pulls until waiting": for a state that 12 lets through, its frames bytes as an array of them is, and a window that 13 does,
+-- pullLimit pulls are enough
+pub pulls-wait : (x : Progress) → goodState (x .state) ≡ true → Bytes (stateFrames (x .state))
+    → windowFits (x .state .width) (x .words) ≡ true → UntilWaiting x (pulls pullLimit x)
+pulls-wait x g b f = Waiting.pulls-wait x (record { good = g; bytes = b; fits = f })
+
+-- ".. before the first line and after each": for every rule that is read, and after whatever lines
+module _ (text : List ℕ) (n : ℕ) (s : List ℕ) (r : readOf text (replicate (frameLimit * frameBytes) 0) ≡ (Frames n, s)) where
+  pub first-waits : UntilWaiting (atStart (openedFor (take (n * frameBytes) s))) (begun (openedFor (take (n * frameBytes) s)))
+  first-waits = Waiting.first-waits text _ n s r
+
+  pub line-waits : (ls : List (List ℕ)) (line : List ℕ)
+      → UntilWaiting (fedLine (afterLines (begun (openedFor (take (n * frameBytes) s))) ls) line)
+      (afterLine (afterLines (begun (openedFor (take (n * frameBytes) s))) ls) line)
+  line-waits = Waiting.line-waits text _ n s r
 
 -- "a line cut by the buffer's end is one line": chunks one after the other do what all their bytes at once do
 pub chunks-join : (o : Open) (s t : List ℕ) → afterBytes o (s ++ t) ≡ afterBytes (afterBytes o s) t
@@ -35,7 +55,7 @@ log-lines = Whole.log-whole
 
 -- so what the code's contracts give one after the other (pulls, chunks, what is held at the end, totals) is the whole run
 pub run-whole : (o : OpenResult) (log : List ℕ)
-    → withTotals (atEnd (afterBytes (record { progress = pulls pullLimit (atStart o); held = [] }) log)) ≡ wholeRun o log
+    → withTotals (atEnd (afterBytes (record { progress = begun o; held = [] }) log)) ≡ wholeRun o log
 run-whole = Whole.run-whole
 
 -- all that is printed where the rule is read, and where it is refused

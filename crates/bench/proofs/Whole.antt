@@ -32,8 +32,8 @@ use Rattle.checker.specs.Pull.{PullRead, short, waits, gave, pullRead, PullResu
 use Rattle.checker.specs.declared.State.{State}
 use Rattle.bench.specs.Print.{hexDigit, refusedLine, reportPart}
 use Rattle.bench.specs.Kept.{keptLimit, kept}
-use Rattle.bench.specs.Progress.{Progress, blank, pulls, pullLimit, Open, afterLine, afterLines, afterBytes, atEnd}
-use Rattle.bench.specs.Output.{atStart, withTotals, wholeRun, afterOpening, openedFor, afterReading, outputOf}
+use Rattle.bench.specs.Progress.{Progress, blank, Open, afterLine, afterLines, afterBytes, atEnd}
+use Rattle.bench.specs.Output.{withTotals, begun, wholeRun, afterOpening, openedFor, afterReading, outputOf}
 use Rattle.bench.proofs.ChunkLaws.{after-kept, kept-on}
 
 -- ---- chunks
@@ -88,8 +88,8 @@ log-whole x log = whole-from x [] log
 
 -- ---- all that is printed
 pub run-whole : (o : OpenResult) (log : List ℕ)
-    → withTotals (atEnd (afterBytes (record { progress = pulls pullLimit (atStart o); held = [] }) log)) ≡ wholeRun o log
-run-whole o log = ap withTotals (log-whole (pulls pullLimit (atStart o)) log)
+    → withTotals (atEnd (afterBytes (record { progress = begun o; held = [] }) log)) ≡ wholeRun o log
+run-whole o log = ap withTotals (log-whole (begun o) log)
 
 pub read-opened : (text b : List ℕ) (n : ℕ) (s : List ℕ) → readOf text b ≡ (Frames n, s) → openedFor (take (n * frameBytes) s) .answer ≡ opened
 unfolding openDef

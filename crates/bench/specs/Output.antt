@@ -27,9 +27,13 @@ atStart o = record { state = o .state; words = o .words; counts = record { accep
 abbrev pub withTotals : Progress → List ℕ
 withTotals x = x .said ++ totalsLine (x .state .totals) (x .counts)
 
--- "pulls until waiting before the first line and after each"
+-- "pulls until waiting before the first line"
+abbrev pub begun : OpenResult → Progress
+begun o = pulls pullLimit (atStart o)
+
+-- ".. and after each"
 abbrev pub wholeRun : OpenResult → List ℕ → List ℕ
-wholeRun o log = withTotals (afterLines (pulls pullLimit (atStart o)) (linesOf log))
+wholeRun o log = withTotals (afterLines (begun o) (linesOf log))
 
 -- opening is never refused here, since `read` gives only frames that it takes; it is said all the same
 abbrev pub afterOpening : List ℕ → OpenResult → Answer → List ℕ

@@ -9,10 +9,6 @@ use Rattle.rule.specs.declared.Refusal.{Refusal}
 use Rattle.checker.specs.declared.Totals.{Totals}
 use Rattle.bench.specs.declared.Counts.{Counts}
 
--- the bytes of the buffer that output waits in
-abbrev pub outBytes : ℕ
-outBytes = 65536
-
 -- the digit of a number below 16: 0-9 A-F
 abbrev pub hexDigit : ℕ → ℕ
 hexDigit d = cond (ltb d 10) (0x30 + d) (0x41 + (d - 10))

@@ -2,21 +2,20 @@
 use mathlib.Core.Path.{_≡_}
 use mathlib.Core.Bool.{Bool, true, false, cond}
 use mathlib.Core.List.{List, [], _∷_, _++_}
-use Prim.Native.Nat.{ℕ, zero, suc, _+_, _%_, _^_, _≤_}
+use Prim.Native.Nat.{ℕ, zero, suc, _+_, _%_, _^_}
 use lib.Dec.{eqb}
 use lib.IntN.{ℤ}
-use lib.ListN.{length, take, replicate}
+use lib.ListN.{replicate}
+use Rattle.verdict.specs.declared.Truth.{Truth}
 use Rattle.verdict.specs.declared.Truth.the-variants.{True, False, Unknown}
 use Rattle.checker.specs.Limits.{reportLeast}
 use Rattle.checker.specs.Answer.{Answer, opened, accepted, ignored, waiting, verdict, refused}
-use Rattle.checker.specs.Parts.{stateOf}
 use Rattle.checker.specs.Feed.{FeedResult, feedDef}
 use Rattle.checker.specs.Pull.{PullResult, pullDef}
 use Rattle.checker.specs.declared.State.{State}
 use Rattle.bench.specs.Print.{hexLine, reportPart}
 use Rattle.bench.specs.Kept.{kept}
 use Rattle.bench.specs.declared.Counts.{Counts}
-use Rattle.bench.specs.declared.Run.{Run}
 
 -- how far the program has come: the checker's state and window, the counts of lines, and all that it has printed
 pub record Progress : Type 0 where
@@ -64,12 +63,17 @@ pulledOnce x =
       said = x .said ++ printed (pullOf x .answer) (pullOf x .report);
     }
 
--- "pulls until waiting", in at most so many pulls
+-- "pulls until waiting": each pull gives a verdict, but the last, which answers 'waiting'
+pub data UntilWaiting : Progress → Progress → Type 0 where
+  last : (x : Progress) → pullOf x .answer ≡ waiting → UntilWaiting x (pulledOnce x)
+  more : (x y : Progress) (v : Truth) → pullOf x .answer ≡ verdict v → UntilWaiting (pulledOnce x) y → UntilWaiting x y
+
+-- the same, in at most so many pulls; `pulls-wait` (proofs/Headlines) says that pullLimit of them are enough
 unfoldable pub pulls : ℕ → Progress → Progress
 pulls zero x = x
 pulls (suc k) x = cond (isVerdict (pullOf x .answer)) (pulls k (pulledOnce x)) (pulledOnce x)
 
--- more than the verdicts that a checker gives in its life, p being at most 1,010,000
+-- more pulls than a checker can give verdicts: each raises p by 1, and 12 lets p be at most 1,009,999
 abbrev pub pullLimit : ℕ
 pullLimit = 1010001
 
@@ -132,37 +136,3 @@ lastLine x (b ∷ bs) = afterLine x (b ∷ bs)
 -- "the last may lack it": at the log's end, what is held is a line
 abbrev pub atEnd : Open → Progress
 atEnd o = lastLine (o .progress) (o .held)
-
--- ---- what the code carries
--- a run's progress with the checker's frames, with what waits in its output buffer as all that was printed
-abbrev pub progressOf : List ℕ → Run → List ℤ → List ℕ → Progress
-progressOf frames r win out = record { state = stateOf frames (r .rest); words = win; counts = r .counts; said = take (r .full) out }
-
--- with at most so many bytes waiting there is room for every line, and nothing is written out
-abbrev pub roomy : ℕ
-roomy = 65200
-
--- what waits is the end of what is to be printed: the rest was written out before, and nothing where all that has room
-pub record Ends (got want : List ℕ) : Type 0 where
-  pub written : List ℕ
-  pub same : want ≡ written ++ got
-  pub whole : length want ≤ roomy → written ≡ []
-
--- the same progress with more printed before
-abbrev pub before : List ℕ → Progress → Progress
-before w x = record { state = x .state; words = x .words; counts = x .counts; said = w ++ x .said }
-
--- what is got is what is wanted, but for what was written out before: nothing, where all that is to be printed has room
-pub record After (want got : Progress) : Type 0 where
-  pub written : List ℕ
-  pub same : want ≡ before written got
-  pub whole : length (want .said) ≤ roomy → written ≡ []
-
--- a run with the bytes of a cut line that it holds
-abbrev pub openOf : List ℕ → Run → List ℕ → List ℤ → List ℕ → Open
-openOf frames r carry win out = record { progress = progressOf frames r win out; held = take (r .held) carry }
-
--- the same with a cut line
-pub record AfterOpen (want got : Open) : Type 0 where
-  pub progress : After (want .progress) (got .progress)
-  pub held : got .held ≡ want .held

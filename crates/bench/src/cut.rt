@@ -5,7 +5,7 @@ ghost use lib.ListN.{length, take};
 ghost use Rattle.bench.specs.Kept.{keptLimit, kept};
 
 // One byte more than a log line has digits.
-pub const KEPT: usize = 35;
+const KEPT: usize = 35;
 
 // Puts as much of a part as there is room for behind the bytes that are held, and answers how many then are.
 pub fn keep(carry: &mut [u8], held: usize, part: &[u8]) -> usize

@@ -16,8 +16,9 @@ ghost use Rattle.checker.specs.Answer.{feedTold};
 ghost use Rattle.checker.specs.Parts.{stateOf};
 ghost use Rattle.checker.specs.Feed.{feedDef};
 ghost use Rattle.checker.specs.Ready.{Ready};
-ghost use Rattle.bench.specs.Print.{outBytes, hexLine, reportPart};
-ghost use Rattle.bench.specs.Progress.{blank, pullOf, isVerdict, pulledOnce, pulls, pullLimit, countedBy, afterLine, progressOf, roomy, Ends, After};
+ghost use Rattle.bench.specs.Print.{hexLine, reportPart};
+ghost use Rattle.bench.specs.Progress.{blank, pullOf, isVerdict, pulledOnce, pulls, pullLimit, countedBy, afterLine};
+ghost use Rattle.bench.specs.Carried.{outBytes, progressOf, roomy, Ends, After};
 
 // With so many bytes waiting there is room for every line.
 const ROOMY: usize = 65200;
@@ -25,7 +26,7 @@ const ROOMY: usize = 65200;
 // A report has at most so many bytes.
 const REPORT: usize = 166;
 
-// More than the verdicts that a checker gives in its life.
+// More pulls than a checker can give verdicts.
 const PULLS: u32 = 1010001;
 
 // Writes out what waits where a line may lack room, and answers how many bytes then wait. That they are written is not proved:

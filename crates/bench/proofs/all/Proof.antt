@@ -4,8 +4,8 @@ use Prim.Native.Nat.{_≤_}
 use lib.ListN.{length}
 use borrow.Author.Needs.{needs}
 use Rattle.checker.specs.Ready.{Ready}
-use Rattle.bench.specs.Print.{outBytes}
 use Rattle.bench.specs.Kept.{keptLimit}
+use Rattle.bench.specs.Carried.{outBytes}
 use Rattle.bench.proofs.all.Statement.{statement}
 use Rattle.bench.proofs.all.Tie as tie
 

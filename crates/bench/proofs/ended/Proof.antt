@@ -5,7 +5,7 @@ use Prim.Native.Nat.{ℕ}
 use lib.Seq.{length-take-le}
 use lib.ListN.{take}
 use borrow.Author.Needs.{needs}
-use Rattle.bench.specs.Progress.{progressOf}
+use Rattle.bench.specs.Carried.{progressOf}
 use Rattle.bench.proofs.ChunkLaws.{after-kept}
 use Rattle.bench.proofs.ended.Statement.{statement}
 use Rattle.bench.proofs.ended.Tie as tie

@@ -6,8 +6,8 @@ use native.Mathlib.Omega.{arith}
 use lib.ListN.{length}
 use borrow.Author.Needs.{needs}
 use Rattle.checker.specs.Ready.{Ready}
-use Rattle.bench.specs.Print.{outBytes}
-use Rattle.bench.specs.Progress.{pulls, pullLimit, progressOf, After}
+use Rattle.bench.specs.Progress.{pulls, pullLimit}
+use Rattle.bench.specs.Carried.{outBytes, progressOf, After}
 use Rattle.bench.proofs.RunLaws.{after-refl, pull-next, pull-end}
 use Rattle.bench.proofs.step.pull_all.Statement.{statement}
 use Rattle.bench.proofs.step.pull_all.Tie as tie
