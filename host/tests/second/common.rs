@@ -1,4 +1,4 @@
-//! Short calls of the plain machine.
+//! Reading, and short calls of the plain machine.
 
 use crate::shared::log::line;
 use dillplatter_host::second::{open, read, Fed, Machine, Pulled};

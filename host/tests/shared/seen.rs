@@ -8,10 +8,12 @@ use std::collections::BTreeMap;
 pub struct Seen(BTreeMap<String, usize>);
 
 impl Seen {
+    /// Counts an answer of feeding.
     pub fn fed(&mut self, answer: Fed) {
         self.count(format!("feed {answer:?}"));
     }
 
+    /// Counts an answer of pulling.
     pub fn pulled(&mut self, answer: Pulled) {
         self.count(format!("pull {answer:?}"));
     }
