@@ -126,58 +126,84 @@ fn tree(
     operands: &mut Vec<Tree>,
     references: &mut Vec<Reference>,
 ) -> Option<Tree> {
-    let [kind, event, note, factor, a, b, c, d] = *frame;
-    let word = i32::from_be_bytes([a, b, c, d]);
-    let unused = match kind {
-        0x01 => [event, note, factor] == [0; 3],
-        0x03 => true,
-        _ => frame[1..] == [0; 7],
-    };
-    if !unused {
-        return None;
-    }
-    let relation = |relation, operands: &mut Vec<Tree>| {
-        let (left, right) = two_sums(operands)?;
-        Some(Tree::Condition(Condition::Relation(
-            relation, *left, *right,
-        )))
-    };
+    let [kind, fields @ ..] = *frame;
     match kind {
-        0x01 if word >= 0 => Some(Tree::Sum(Sum::Literal(word))),
-        0x02 => Some(Tree::Sum(Sum::Instance)),
+        0x01..=0x03 => operand(frame, references).map(Tree::Sum),
+        _ if fields != [0; 7] => None,
+        0x11..=0x14 => arithmetic(kind, operands).map(Tree::Sum),
+        0x21..=0x26 => comparison(kind, operands).map(Tree::Condition),
+        0x31..=0x34 => connective(kind, operands).map(Tree::Condition),
+        _ => None,
+    }
+}
+
+/// A literal, the instance, or a reference, which is added to the list.
+fn operand(frame: &[u8; 8], references: &mut Vec<Reference>) -> Option<Sum> {
+    let [kind, event, note, factor, a, b, c, d] = *frame;
+    let fields = [event, note, factor];
+    let word = i32::from_be_bytes([a, b, c, d]);
+    match kind {
+        0x01 if fields == [0; 3] && word >= 0 => Some(Sum::Literal(word)),
+        0x02 if fields == [0; 3] && word == 0 => Some(Sum::Instance),
         0x03 => {
-            let fits = event <= 7
-                && note <= 3
-                && (1..=9).contains(&factor)
-                && (-9_999..=9_999).contains(&word);
-            if !fits {
-                return None;
-            }
-            references.push(Reference {
-                event: usize::from(event),
-                note: usize::from(note),
-                factor: i64::from(factor),
-                offset: i64::from(word),
-            });
-            Some(Tree::Sum(Sum::Reference(references.len() - 1)))
+            references.push(reference(fields, word)?);
+            Some(Sum::Reference(references.len() - 1))
         }
-        0x11 => two_sums(operands).map(|(left, right)| Tree::Sum(Sum::Add(left, right))),
-        0x12 => two_sums(operands).map(|(left, right)| Tree::Sum(Sum::Subtract(left, right))),
-        0x13 => two_sums(operands).map(|(left, right)| Tree::Sum(Sum::Multiply(left, right))),
-        0x14 => sum(operands).map(|inner| Tree::Sum(Sum::Abs(inner))),
-        0x21 => relation(Relation::Equal, operands),
-        0x22 => relation(Relation::Unequal, operands),
-        0x23 => relation(Relation::Less, operands),
-        0x24 => relation(Relation::AtMost, operands),
-        0x25 => relation(Relation::Greater, operands),
-        0x26 => relation(Relation::AtLeast, operands),
-        0x31 => condition(operands).map(|inner| Tree::Condition(Condition::Not(inner))),
-        0x32 => two_conditions(operands)
-            .map(|(left, right)| Tree::Condition(Condition::And(left, right))),
-        0x33 => two_conditions(operands)
-            .map(|(left, right)| Tree::Condition(Condition::Or(left, right))),
-        0x34 => two_conditions(operands)
-            .map(|(left, right)| Tree::Condition(Condition::Implies(left, right))),
+        _ => None,
+    }
+}
+
+/// The reference of a frame's fields, unless one is beyond its limits.
+fn reference([event, note, factor]: [u8; 3], offset: i32) -> Option<Reference> {
+    let fits =
+        event <= 7 && note <= 3 && (1..=9).contains(&factor) && (-9_999..=9_999).contains(&offset);
+    fits.then(|| Reference {
+        event: usize::from(event),
+        note: usize::from(note),
+        factor: i64::from(factor),
+        offset: i64::from(offset),
+    })
+}
+
+/// An operator between sums, or `abs`.
+fn arithmetic(kind: u8, operands: &mut Vec<Tree>) -> Option<Sum> {
+    if kind == 0x14 {
+        return sum(operands).map(Sum::Abs);
+    }
+    let (left, right) = two_sums(operands)?;
+    match kind {
+        0x11 => Some(Sum::Add(left, right)),
+        0x12 => Some(Sum::Subtract(left, right)),
+        0x13 => Some(Sum::Multiply(left, right)),
+        _ => None,
+    }
+}
+
+/// A relation of two sums.
+fn comparison(kind: u8, operands: &mut Vec<Tree>) -> Option<Condition> {
+    let relation = match kind {
+        0x21 => Relation::Equal,
+        0x22 => Relation::Unequal,
+        0x23 => Relation::Less,
+        0x24 => Relation::AtMost,
+        0x25 => Relation::Greater,
+        0x26 => Relation::AtLeast,
+        _ => return None,
+    };
+    let (left, right) = two_sums(operands)?;
+    Some(Condition::Relation(relation, *left, *right))
+}
+
+/// 'Not', or an operator between conditions.
+fn connective(kind: u8, operands: &mut Vec<Tree>) -> Option<Condition> {
+    if kind == 0x31 {
+        return condition(operands).map(Condition::Not);
+    }
+    let (left, right) = two_conditions(operands)?;
+    match kind {
+        0x32 => Some(Condition::And(left, right)),
+        0x33 => Some(Condition::Or(left, right)),
+        0x34 => Some(Condition::Implies(left, right)),
         _ => None,
     }
 }

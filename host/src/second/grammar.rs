@@ -69,121 +69,120 @@ struct Item {
 /// The first token that with those before it begins no rule, as its number in the list; the list's length if the
 /// list only ends early; nothing if it is a rule.
 pub fn misfit(tokens: &[Token]) -> Option<usize> {
-    let table = table();
-    let mut sets = Sets::new(table.slots.len(), tokens.len());
-    for slot in &table.starts[0] {
-        sets.add(*slot, 0);
-    }
+    let mut sets = Sets::new(table(), tokens.len());
+    sets.begin(0);
     for (at, token) in tokens.iter().enumerate() {
-        sets.close(table);
-        sets.next_place();
-        for k in 0..sets.done[at].len() {
-            let item = sets.done[at][k];
-            if table.slots[item.slot] == Next::Token(token.symbol) {
-                sets.add(item.slot + 1, item.origin);
-            }
-        }
+        sets.close();
+        sets.take(token.symbol);
         if sets.current.is_empty() {
             return Some(at);
         }
     }
-    sets.close(table);
-    let whole = |item: &Item| table.slots[item.slot] == Next::End(0);
-    if sets.current.iter().any(whole) {
-        None
-    } else {
-        Some(tokens.len())
-    }
+    sets.close();
+    (!sets.whole()).then_some(tokens.len())
 }
 
 /// The items of each place so far, and those of the place at hand.
 struct Sets {
+    table: &'static Table,
     done: Vec<Vec<Item>>,
     current: Vec<Item>,
     /// Per origin and slot, 1 plus the last place where that item was added.
     added: Vec<u32>,
-    width: usize,
 }
 
 impl Sets {
-    fn new(slots: usize, tokens: usize) -> Sets {
+    fn new(table: &'static Table, tokens: usize) -> Sets {
         Sets {
+            table,
             done: Vec::new(),
             current: Vec::new(),
-            added: vec![0; slots * (tokens + 1)],
-            width: slots,
+            added: vec![0; table.slots.len() * (tokens + 1)],
         }
     }
 
     /// Adds an item to the place at hand, once.
     fn add(&mut self, slot: usize, origin: usize) {
         let mark = self.done.len() as u32 + 1;
-        let last = &mut self.added[origin * self.width + slot];
+        let last = &mut self.added[origin * self.table.slots.len() + slot];
         if *last != mark {
             *last = mark;
             self.current.push(Item { slot, origin });
         }
     }
 
-    /// Adds what follows without a token: parts that begin here, and productions whose last part ended here.
-    fn close(&mut self, table: &Table) {
+    /// Adds the productions of a part that begins at the place at hand.
+    fn begin(&mut self, part: usize) {
         let here = self.done.len();
+        for slot in &self.table.starts[part] {
+            self.add(*slot, here);
+        }
+    }
+
+    /// Adds the items of an earlier place that waited for what has now ended, one slot further.
+    fn go_on(&mut self, place: usize, ended: Next) {
+        for k in 0..self.done[place].len() {
+            let item = self.done[place][k];
+            if self.table.slots[item.slot] == ended {
+                self.add(item.slot + 1, item.origin);
+            }
+        }
+    }
+
+    /// Adds what follows without a token: parts that begin here, and productions whose last part ended here.
+    fn close(&mut self) {
         let mut k = 0;
-        while k < self.current.len() {
-            let item = self.current[k];
-            match table.slots[item.slot] {
+        while let Some(item) = self.current.get(k).copied() {
+            match self.table.slots[item.slot] {
                 Next::Token(_) => {}
-                Next::Part(part) => {
-                    for slot in &table.starts[part] {
-                        self.add(*slot, here);
-                    }
-                }
+                Next::Part(part) => self.begin(part),
                 // No production is empty, so this one began at an earlier place.
-                Next::End(part) => {
-                    for j in 0..self.done.get(item.origin).map_or(0, Vec::len) {
-                        let waiting = self.done[item.origin][j];
-                        if table.slots[waiting.slot] == Next::Part(part) {
-                            self.add(waiting.slot + 1, waiting.origin);
-                        }
-                    }
-                }
+                Next::End(part) => self.go_on(item.origin, Next::Part(part)),
             }
             k += 1;
         }
     }
 
-    fn next_place(&mut self) {
+    /// Goes to the next place, behind a token.
+    fn take(&mut self, symbol: &'static str) {
+        let place = self.done.len();
         self.done.push(std::mem::take(&mut self.current));
+        self.go_on(place, Next::Token(symbol));
     }
+
+    /// Whether a rule ends at the place at hand.
+    fn whole(&self) -> bool {
+        let ends = |item: &Item| self.table.slots[item.slot] == Next::End(0);
+        self.current.iter().any(ends)
+    }
+}
+
+/// The left and the right side of each production.
+fn productions() -> impl Iterator<Item = (&'static str, &'static str)> {
+    let lines = PRODUCTIONS.lines();
+    lines.filter_map(|line| line.trim().split_once(" : "))
+}
+
+/// The parts, by their numbers: the productions of each stand together.
+fn parts() -> Vec<&'static str> {
+    let mut parts: Vec<&str> = productions().map(|(left, _)| left).collect();
+    parts.dedup();
+    parts
 }
 
 /// The table of `PRODUCTIONS`, made once.
 fn table() -> &'static Table {
     static TABLE: OnceLock<Table> = OnceLock::new();
     TABLE.get_or_init(|| {
-        let lines: Vec<(&str, Vec<&'static str>)> = PRODUCTIONS
-            .lines()
-            .filter_map(|line| line.trim().split_once(" : "))
-            .map(|(left, right)| (left, right.split(' ').collect()))
-            .collect();
-        let mut parts: Vec<&str> = Vec::new();
-        for (left, _) in &lines {
-            if !parts.contains(left) {
-                parts.push(left);
-            }
-        }
+        let parts = parts();
         let number = |symbol: &str| parts.iter().position(|part| *part == symbol);
+        let next = |symbol| number(symbol).map_or(Next::Token(symbol), Next::Part);
         let mut slots = Vec::new();
         let mut starts = vec![Vec::new(); parts.len()];
-        for (left, right) in &lines {
+        for (left, right) in productions() {
             let part = number(left).expect("each left side is a part");
             starts[part].push(slots.len());
-            for symbol in right {
-                slots.push(match number(symbol) {
-                    Some(inner) => Next::Part(inner),
-                    None => Next::Token(symbol),
-                });
-            }
+            slots.extend(right.split(' ').map(next));
             slots.push(Next::End(part));
         }
         Table { slots, starts }

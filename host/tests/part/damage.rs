@@ -1,7 +1,6 @@
-//! Lines, texts and lists that are almost right.
+//! Texts and frames that are almost right.
 
-use crate::common::line;
-use crate::random::Random;
+use crate::shared::random::Random;
 
 /// One spelling of each token, and of tokens that no rule has.
 const TOKENS: [&str; 33] = [
@@ -129,32 +128,4 @@ fn edge_word(random: &mut Random) -> i32 {
         i32::MAX,
         i32::MIN,
     ])
-}
-
-/// A random note, small or at an end.
-pub fn note(random: &mut Random) -> i32 {
-    let small = random.below(40) as i32 - 20;
-    random.pick(&[small, small, small, small, i32::MIN, i32::MAX])
-}
-
-/// A random line, mostly of one of some events, sometimes damaged.
-pub fn random_line(random: &mut Random, events: &[usize]) -> Vec<u8> {
-    let event = match random.below(12) {
-        0 => random.below(256),
-        1 => random.below(10),
-        _ => random.pick(events),
-    };
-    let notes = [0; 4].map(|_: i32| note(random));
-    let mut bytes = line(event as u8, notes);
-    if random.once_in(15) {
-        let place = random.below(34);
-        match random.below(5) {
-            0 => bytes.truncate(place),
-            1 => bytes[place] = random.pick(b"gGaf\r\n /:@\0\x80\xff"),
-            2 => bytes.extend(vec![b'0'; 1 + random.below(40)]),
-            3 => bytes[place] = random.below(256) as u8,
-            _ => bytes.insert(place, b' '),
-        }
-    }
-    bytes
 }

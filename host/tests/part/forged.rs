@@ -1,12 +1,13 @@
 //! States and windows that no opening gave: each field changed, random bytes, random words.
 
-use crate::damage::{damage_frames, random_line};
-use crate::lists::{events, frames};
+use crate::damage::damage_frames;
 use crate::pair::Pair;
 use crate::quota::Quota;
-use crate::random::Random;
+use crate::shared::driven::Driven;
+use crate::shared::log::{events, random_line};
+use crate::shared::random::{frames, Random};
+use crate::shared::seen::Seen;
 use dillplatter_host::second::{Fed, Pulled, State, Totals};
-use std::collections::BTreeMap;
 
 fn word(random: &mut Random) -> u32 {
     let any = (random.below(1 << 32)) as u32;
@@ -46,7 +47,7 @@ fn honest(random: &mut Random) -> (State, Vec<usize>) {
     let frames = frames(random);
     let w = random.pick(&[1, 2, 3, 5, 16, 64]);
     let mut pair = Pair::open(&frames, w, &vec![0; 32 * w as usize]).unwrap();
-    let events = events(&pair);
+    let events = events(pair.machine());
     for _ in 0..random.below(30) {
         if random.once_in(3) {
             pair.pull(&mut [0; 166]);
@@ -54,7 +55,7 @@ fn honest(random: &mut Random) -> (State, Vec<usize>) {
             pair.feed(&random_line(random, &events));
         }
     }
-    (pair.model().clone(), events)
+    (pair.state().clone(), events)
 }
 
 /// Moves p, and the totals and counts with it, so that the state may still pass.
@@ -132,25 +133,23 @@ fn window(random: &mut Random, w: u32) -> Vec<i32> {
 }
 
 /// Some calls on a state; each answer is counted.
-fn calls(random: &mut Random, state: State, events: &[usize], seen: &mut BTreeMap<String, usize>) {
+fn calls(random: &mut Random, state: State, events: &[usize], seen: &mut Seen) {
     let window = window(random, state.w);
     let mut pair = Pair::forged(state, window);
     for _ in 0..4 {
-        let words = if random.once_in(2) {
-            format!("feed {:?}", pair.feed(&random_line(random, events)))
+        if random.once_in(2) {
+            seen.fed(pair.feed(&random_line(random, events)));
         } else {
             let length = random.pick(&[166, 166, 166, 300, 165]);
-            format!("pull {:?}", pair.pull(&mut vec![0xA5; length]))
-        };
-        let words = words.split("place").next().unwrap().to_string();
-        *seen.entry(words).or_default() += 1;
+            seen.pulled(pair.pull(&mut vec![0xA5; length]));
+        }
     }
 }
 
 #[test]
 fn forged_states_and_windows() {
     let quota = Quota::begin("forged states");
-    let mut seen: BTreeMap<String, usize> = BTreeMap::new();
+    let mut seen = Seen::default();
     for seed in 0..15_000 {
         let random = &mut Random::new(seed + 70_000_000);
         let (mut state, events) = honest(random);
@@ -169,10 +168,7 @@ fn forged_states_and_windows() {
         calls(random, state, &events, &mut seen);
     }
     // Accepted, ignored, 12, 13, 15, 16, 17; three verdicts, waiting, 12, 13, 14.
-    assert_eq!(seen.len(), 14, "{seen:?}");
-    for (answer, times) in &seen {
-        assert!(*times > 100, "{answer} came {times} times");
-    }
+    seen.more_than(14, 100);
     quota.end();
 }
 
@@ -180,7 +176,7 @@ const RULE: &str = "events a b c; notes t; t(a[2*i+1]) > 0 || t(c[i-3]) > 0";
 
 /// An honest state of the rule at some p, with counts of a, b and c.
 fn state(p: u32, counts: [u32; 3]) -> State {
-    let mut state = Pair::of_text(RULE, 4).model().clone();
+    let mut state = Pair::of_text(RULE, 4).state().clone();
     state.counts[..3].copy_from_slice(&counts);
     state.p = p;
     state.totals.held = p;

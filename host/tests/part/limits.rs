@@ -1,13 +1,14 @@
 //! Texts on both sides of every limit of reading.
 
-use crate::pair::frames_of;
+use crate::pair::Pair;
+use crate::shared::driven::Driven;
 use dillplatter_host::second::Refusal;
 
 const HEAD: &str = "events a b; notes t u;";
 
 /// The number of frames of a text, or number and place of its refusal.
 fn answer(text: &str) -> Result<usize, (u8, usize)> {
-    frames_of(text.as_bytes())
+    Pair::frames_of(text.as_bytes())
         .map(|frames| frames.len() / 8)
         .map_err(|Refusal { number, place }| (number, place))
 }

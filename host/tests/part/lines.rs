@@ -1,15 +1,16 @@
 //! Single log lines: every value of every byte, every length; arguments that are far too long.
 
-use crate::common::line;
-use crate::pair::{frames_of, Pair};
+use crate::pair::Pair;
 use crate::quota::Quota;
+use crate::shared::driven::Driven;
+use crate::shared::log::line;
 use dillplatter_host::second::{Fed, Pulled, Refusal};
 
 const RULE: &str = "events a b; notes t; t(a[i]) > 0";
 
 /// A fresh checker with W 1, as a caller may hand it in.
 fn fresh() -> Pair {
-    let state = Pair::of_text(RULE, 1).model().clone();
+    let state = Pair::of_text(RULE, 1).state().clone();
     Pair::forged(state, vec![9; 32])
 }
 
@@ -58,10 +59,14 @@ fn every_length() {
 #[test]
 fn arguments_far_too_long() {
     const LONG: usize = 1 << 20;
-    assert_eq!(frames_of(&vec![b'a'; LONG]), Err(Refusal::of(2)));
+    assert_eq!(Pair::frames_of(&vec![b'a'; LONG]), Err(Refusal::of(2)));
     let opened = Pair::open(&vec![3; LONG], 1, &[0; 32]);
     assert_eq!(opened.err(), Some(Refusal::of(9)));
-    let opened = Pair::open(&frames_of(RULE.as_bytes()).unwrap(), 1, &vec![4; LONG]);
+    let opened = Pair::open(
+        &Pair::frames_of(RULE.as_bytes()).unwrap(),
+        1,
+        &vec![4; LONG],
+    );
     assert_eq!(opened.err(), Some(Refusal::of(11)));
     let mut pair = fresh();
     let refused = pair.feed(&vec![b'0'; LONG]);

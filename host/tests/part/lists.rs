@@ -1,28 +1,12 @@
 //! Random lists of calls on one checker, refused ones in between.
 
-use crate::damage::random_line;
 use crate::pair::Pair;
 use crate::quota::Quota;
-use crate::random::{rule, Random};
-use dillplatter_host::second::{open, Fed, Pulled, Truth};
-use std::collections::BTreeMap;
-
-/// Frames of a random rule that opens.
-pub fn frames(random: &mut Random) -> Vec<u8> {
-    loop {
-        let size = random.pick(&[1, 1, 4, 10, 30]);
-        let frames = rule(random, size).frames.concat();
-        if open(&frames, 1, 32).is_ok() {
-            return frames;
-        }
-    }
-}
-
-/// The events that a checker's rule references.
-pub fn events(pair: &Pair) -> Vec<usize> {
-    let references = &pair.machine().rule().references;
-    references.iter().map(|reference| reference.event).collect()
-}
+use crate::shared::driven::Driven;
+use crate::shared::log::{events, random_line};
+use crate::shared::random::{frames, Random};
+use crate::shared::seen::Seen;
+use dillplatter_host::second::{Fed, Pulled, Truth};
 
 /// A window of another length, with whatever in it.
 fn wrong_window(random: &mut Random, w: u32) -> Vec<i32> {
@@ -31,59 +15,54 @@ fn wrong_window(random: &mut Random, w: u32) -> Vec<i32> {
     vec![random.below(1_000) as i32; length]
 }
 
-/// One random call; its answer in words.
-fn call(random: &mut Random, pair: &mut Pair, events: &[usize]) -> String {
+/// One random call; its answer is counted.
+fn call(random: &mut Random, pair: &mut Pair, events: &[usize], seen: &mut Seen) {
     if random.once_in(40) {
         // The state goes on from where it was.
-        let window = wrong_window(random, pair.model().w);
+        let window = wrong_window(random, pair.state().w);
         let mut other = pair.with_window(window);
-        return if random.once_in(2) {
-            format!("feed {:?}", other.feed(&random_line(random, events)))
+        if random.once_in(2) {
+            seen.fed(other.feed(&random_line(random, events)));
         } else {
-            format!("pull {:?}", other.pull(&mut [random.below(256) as u8; 166]))
-        };
+            seen.pulled(other.pull(&mut [random.below(256) as u8; 166]));
+        }
+    } else if random.once_in(2) {
+        seen.fed(pair.feed(&random_line(random, events)));
+    } else {
+        let length = random.pick(&[166, 166, 166, 166, 200, 167, 165, 0]);
+        let mut report: Vec<u8> = (0..length).map(|_| random.below(256) as u8).collect();
+        seen.pulled(pair.pull(&mut report));
     }
-    if random.once_in(2) {
-        return format!("feed {:?}", pair.feed(&random_line(random, events)));
-    }
-    let length = random.pick(&[166, 166, 166, 166, 200, 167, 165, 0]);
-    let mut report: Vec<u8> = (0..length).map(|_| random.below(256) as u8).collect();
-    format!("pull {:?}", pair.pull(&mut report))
 }
 
 #[test]
 fn random_lists_of_calls() {
     let quota = Quota::begin("random lists of calls");
-    let mut seen: BTreeMap<String, usize> = BTreeMap::new();
+    let mut seen = Seen::default();
     for seed in 0..1_000 {
         let random = &mut Random::new(seed + 50_000_000);
         let frames = frames(random);
         let w = random.pick(&[1, 1, 2, 3, 5, 16, 64, 256]);
         let mut pair = Pair::open(&frames, w, &vec![-1; 32 * w as usize]).unwrap();
-        let events = events(&pair);
+        let events = events(pair.machine());
         for _ in 0..220 {
-            let words = call(random, &mut pair, &events);
-            let words = words.split("place").next().unwrap().to_string();
-            *seen.entry(words).or_default() += 1;
+            call(random, &mut pair, &events, &mut seen);
         }
         stays_settled(&pair);
     }
     // Accepted, ignored, 13, 15, 17; three verdicts, waiting, 13, 14.
-    assert_eq!(seen.len(), 11, "{seen:?}");
-    for (answer, times) in &seen {
-        assert!(*times > 500, "{answer} came {times} times");
-    }
+    seen.more_than(11, 500);
     quota.end();
 }
 
 /// The totals are the sums over the verdicts by the lists after the last call.
 fn stays_settled(pair: &Pair) {
-    let model = pair.model();
-    let verdicts: Vec<Truth> = (0..model.p)
+    let state = pair.state();
+    let verdicts: Vec<Truth> = (0..state.p)
         .map(|i| pair.machine().verdict_of(i).expect("it stays settled"))
         .collect();
     let count = |value| verdicts.iter().filter(|verdict| **verdict == value).count() as u32;
-    let totals = [model.totals.held, model.totals.failed, model.totals.unknown];
+    let totals = [state.totals.held, state.totals.failed, state.totals.unknown];
     assert_eq!(
         totals,
         [Truth::True, Truth::False, Truth::Unknown].map(count)

@@ -1,11 +1,7 @@
 //! Tests of the proved part: each call beside the same call of the second checker.
 
-#[path = "../second/common.rs"]
-#[allow(dead_code)]
-mod common;
-#[path = "../second/random.rs"]
-#[allow(dead_code)]
-mod random;
+#[path = "../shared/mod.rs"]
+mod shared;
 
 mod damage;
 mod examples;

@@ -3,7 +3,8 @@
 use crate::damage::damage_frames;
 use crate::pair::Pair;
 use crate::quota::Quota;
-use crate::random::{rule, Random};
+use crate::shared::driven::Driven;
+use crate::shared::random::{rule, Random};
 use std::collections::BTreeMap;
 
 const REFERENCE: [u8; 8] = [3, 0, 0, 1, 0, 0, 0, 0];

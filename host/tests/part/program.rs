@@ -1,8 +1,8 @@
 //! The bench program beside what the second checker prints.
 
-use crate::common::{line, vector};
-use crate::damage::random_line;
-use crate::random::{rule, text, Random};
+use crate::shared::log::{line, random_line};
+use crate::shared::random::{rule, text, Random};
+use crate::shared::vectors::vector;
 use dillplatter_host::second::{bench, read};
 use std::fs::File;
 use std::io::{Seek, Write};

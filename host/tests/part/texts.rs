@@ -1,9 +1,10 @@
 //! Random and damaged texts.
 
 use crate::damage::{damage_bytes, damage_tokens};
-use crate::pair::{frames_of, read, Pair};
+use crate::pair::Pair;
 use crate::quota::Quota;
-use crate::random::{rule, text, Random};
+use crate::shared::driven::Driven;
+use crate::shared::random::{rule, text, Random};
 use dillplatter_host::second::Refusal;
 use std::collections::BTreeMap;
 
@@ -35,7 +36,7 @@ fn random_texts() {
         let size = random.pick(&[1, 4, 10, 30, 60, 120]);
         let made = rule(random, size);
         let (text, _) = text(random, &made.tokens);
-        let answer = frames_of(text.as_bytes());
+        let answer = Pair::frames_of(text.as_bytes());
         seen.count(&answer);
         let Ok(frames) = answer else {
             continue;
@@ -69,7 +70,7 @@ fn damaged_texts() {
                 damage_bytes(random, &mut bytes);
             }
         }
-        seen.count(&frames_of(&bytes));
+        seen.count(&Pair::frames_of(&bytes));
     }
     seen.least(&[0, 3, 4], 500);
     seen.least(&[2, 5, 6, 7, 8], 20);
@@ -80,13 +81,13 @@ fn damaged_texts() {
 fn every_value_of_every_byte() {
     let quota = Quota::begin("bytes of a text");
     let text = b"events a b; notes t; t(a[2*i+1]) <= 7 || !i > t(b[i])";
-    assert!(frames_of(text).is_ok());
+    assert!(Pair::frames_of(text).is_ok());
     let mut seen = Seen::default();
     for place in 0..text.len() {
         for value in 0..=255 {
             let mut changed = text.to_vec();
             changed[place] = value;
-            seen.count(&frames_of(&changed));
+            seen.count(&Pair::frames_of(&changed));
         }
     }
     seen.least(&[0, 4], 100);
@@ -97,12 +98,12 @@ fn every_value_of_every_byte() {
 #[test]
 fn every_beginning_and_every_ending() {
     let text = b"events in out x; notes t u;\n{{t(in[3*i-10]) != abs((i - 4) * u(x[i])) -> !{1=1||2>=i}} && i<=9}";
-    assert!(frames_of(text).is_ok());
+    assert!(Pair::frames_of(text).is_ok());
     for place in 0..text.len() {
-        let answer = frames_of(&text[..place]);
+        let answer = Pair::frames_of(&text[..place]);
         let number = answer.expect_err("the text ends early").number;
         assert!(number == 3 || number == 2 && place == 0);
-        assert!(place == 0 || frames_of(&text[place..]).is_err());
+        assert!(place == 0 || Pair::frames_of(&text[place..]).is_err());
     }
 }
 
@@ -113,7 +114,7 @@ fn bytes_that_are_no_text() {
         let length = random.pick(&[0, 1, 2, 9, 100, 1_023, 1_024, 1_025, 3_000]);
         let bytes: Vec<u8> = (0..length).map(|_| random.below(256) as u8).collect();
         let head: &[u8] = random.pick(&[b"", b"events a; notes t; ".as_slice()]);
-        let number = frames_of(&[head, &bytes].concat()).map_err(|refusal| refusal.number);
+        let number = Pair::frames_of(&[head, &bytes].concat()).map_err(|refusal| refusal.number);
         assert!(matches!(number, Err(2 | 3)));
     }
 }
@@ -124,7 +125,7 @@ fn buffers_of_another_length() {
     for length in [0, 1, 8, 24, 504, 511, 513, 520, 1_024, 4_096] {
         let mut buffer: Vec<u8> = (0..length).map(|k| k as u8).collect();
         for text in [text.as_slice(), b"", b"?", &[b' '; 1_025]] {
-            assert_eq!(read(text, &mut buffer), Err(Refusal::of(1)));
+            assert_eq!(Pair::read(text, &mut buffer), Err(Refusal::of(1)));
         }
         assert!(buffer.iter().enumerate().all(|(k, byte)| *byte == k as u8));
     }

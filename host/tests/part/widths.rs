@@ -1,11 +1,10 @@
 //! One rule and one log for several W, in several orders between events: where two give a verdict, it is the same.
 
-use crate::common::line;
-use crate::damage::note;
-use crate::lists::{events, frames};
 use crate::pair::Pair;
 use crate::quota::Quota;
-use crate::random::Random;
+use crate::shared::driven::Driven;
+use crate::shared::log::{events, line, note};
+use crate::shared::random::{frames, Random};
 use dillplatter_host::second::{Fed, Pulled, Truth};
 
 /// The lines of each event.
@@ -23,7 +22,7 @@ fn random_log(random: &mut Random) -> Log {
 /// Feeds the lines of a log in some order, with pulls in between, until nothing moves; the verdicts in order.
 fn run(random: &mut Random, frames: &[u8], w: u32, log: &Log) -> Vec<Truth> {
     let mut pair = Pair::open(frames, w, &vec![5; 32 * w as usize]).unwrap();
-    let events = events(&pair);
+    let events = events(pair.machine());
     let mut next = [0; 8];
     let mut verdicts = Vec::new();
     for _ in 0..40 + 20 * events.len() {

@@ -1,6 +1,6 @@
 //! What the bench program prints.
 
-use crate::common::line;
+use crate::shared::log::line;
 use dillplatter_host::second::bench;
 use std::io::Write;
 use std::path::PathBuf;

@@ -1,45 +1,11 @@
 //! Random lists of calls: whole lists against state and window, and what document 01 says of such a list.
 
-use crate::common::line;
-use crate::random::{rule, Random};
+use crate::shared::driven::{Driven, Twin};
+use crate::shared::log::{events, line, random_line};
+use crate::shared::random::{frames, Random};
+use crate::shared::seen::Seen;
 use dillplatter_host::second::line::read_line;
-use dillplatter_host::second::{open, Fed, Machine, Pulled, State, Truth};
-use std::collections::BTreeMap;
-
-/// Frames of a random rule that opens.
-fn frames(random: &mut Random) -> Vec<u8> {
-    loop {
-        let size = random.pick(&[1, 4, 10, 30]);
-        let frames = rule(random, size).frames.concat();
-        if open(&frames, 1, 32).is_ok() {
-            return frames;
-        }
-    }
-}
-
-/// A random line, mostly of a referenced event, sometimes damaged.
-fn random_line(random: &mut Random, machine: &Machine) -> Vec<u8> {
-    let references = &machine.rule().references;
-    let event = match random.below(12) {
-        0 => random.below(256),
-        _ => references[random.below(references.len())].event,
-    };
-    let notes = [0; 4].map(|_: i32| {
-        let small = random.below(40) as i32 - 20;
-        random.pick(&[small, small, small, i32::MIN, i32::MAX])
-    });
-    let mut bytes = line(event as u8, notes);
-    if random.once_in(15) {
-        let place = random.below(34);
-        match random.below(4) {
-            0 => bytes.truncate(place),
-            1 => bytes[place] = random.pick(b"gGa\r\n /:@\0"),
-            2 => bytes.extend(vec![b'0'; 1 + random.below(40)]),
-            _ => bytes.insert(place, b' '),
-        }
-    }
-    bytes
-}
+use dillplatter_host::second::{open, Fed, Machine, Pulled, Truth};
 
 /// Each accepted occurrence from base on is in its words.
 fn window_holds_the_lists(machine: &Machine, window: &[i32]) {
@@ -56,57 +22,51 @@ fn window_holds_the_lists(machine: &Machine, window: &[i32]) {
     }
 }
 
+/// One random call; its answer is counted, and a verdict is added to a list.
+fn call(random: &mut Random, twin: &mut Twin, seen: &mut Seen, verdicts: &mut Vec<Truth>) {
+    if random.once_in(2) {
+        let line = random_line(random, &events(twin.machine()));
+        let answer = twin.feed(&line);
+        if answer == Fed::Accepted {
+            let (event, notes) = read_line(&line).unwrap();
+            assert_eq!(twin.machine().list(event).last(), Some(&notes));
+        }
+        seen.fed(answer);
+    } else {
+        let length = random.pick(&[166, 166, 166, 166, 200, 165, 0]);
+        let answer = twin.pull(&mut vec![0xA5; length]);
+        if let Pulled::Verdict(verdict) = answer {
+            verdicts.push(verdict);
+        }
+        seen.pulled(answer);
+    }
+}
+
 #[test]
 fn whole_lists_and_window_agree() {
-    let mut seen: BTreeMap<String, usize> = BTreeMap::new();
-    for seed in 0..1_000 {
+    let mut seen = Seen::default();
+    for seed in 0..1_250 {
         let random = &mut Random::new(seed + 2_000_000);
         let frames = frames(random);
         let w = random.pick(&[1, 1, 2, 3, 5, 16, 64, 256]);
-        let mut machine = open(&frames, w, 32 * w as usize).unwrap();
-        let mut window = vec![-1; 32 * w as usize];
-        let mut state = State::open(&frames, w, &mut window).unwrap();
+        let mut twin = Twin::open(&frames, w, &vec![-1; 32 * w as usize]).unwrap();
         let mut verdicts = Vec::new();
-        for call in 0..200 {
-            let words = if random.once_in(2) {
-                let line = random_line(random, &machine);
-                let answer = machine.feed(&line);
-                assert_eq!(state.feed(&mut window, &line), answer, "{seed} {call}");
-                if answer == Fed::Accepted {
-                    let (event, notes) = read_line(&line).unwrap();
-                    assert_eq!(machine.list(event).last(), Some(&notes));
-                }
-                format!("{answer:?}")
-            } else {
-                let length = random.pick(&[166, 166, 166, 166, 200, 165, 0]);
-                let mut one = vec![0xA5; length];
-                let mut two = one.clone();
-                let answer = machine.pull(&mut one);
-                assert_eq!(state.pull(&window, &mut two), answer, "{seed} {call}");
-                assert_eq!(one, two, "{seed} {call}");
-                if let Pulled::Verdict(verdict) = answer {
-                    verdicts.push(verdict);
-                }
-                format!("{answer:?}")
-            };
-            let words = words.split("place").next().unwrap().to_string();
-            *seen.entry(words).or_default() += 1;
-            assert_eq!(machine.state(), state, "{seed} {call}");
-            assert_eq!(state.refusal(window.len()), None, "{seed} {call}");
+        for turn in 0..200 {
+            call(random, &mut twin, &mut seen, &mut verdicts);
+            let refusal = twin.state().refusal(twin.window().len());
+            assert_eq!(refusal, None, "{seed} {turn}");
         }
-        window_holds_the_lists(&machine, &window);
+        let machine = twin.machine();
+        window_holds_the_lists(machine, twin.window());
         // The verdicts handed out are those by the lists after the last call.
         let last: Vec<Truth> = (0..machine.p())
             .map(|i| machine.verdict_of(i).expect("it stays settled"))
             .collect();
         assert_eq!(verdicts, last, "{seed}");
-        other_orders_agree(random, &frames, &machine, &verdicts);
+        other_orders_agree(random, &frames, machine, &verdicts);
     }
     // Accepted, ignored, 15, 17; three verdicts, waiting, 14.
-    assert_eq!(seen.len(), 9, "{seen:?}");
-    for (answer, times) in &seen {
-        assert!(*times > 500, "{answer} came {times} times");
-    }
+    seen.more_than(9, 500);
 }
 
 /// The same lines in another order between events, with other pulls and a wider window, give the same verdicts

@@ -1,16 +1,11 @@
 //! Edge cases of feeding and pulling.
 
-use crate::common::{feed, feed_all, hex, line, machine, pull};
+use crate::common::{feed, feed_all, machine, pull};
+use crate::shared::driven::{FALSE, FULL, TRUE, UNKNOWN};
+use crate::shared::log::line;
+use crate::shared::vectors::hex;
 use dillplatter_host::second::line::{lines, read_line};
 use dillplatter_host::second::{Fed, Pulled, Refusal, Totals, Truth};
-
-const TRUE: Pulled = Pulled::Verdict(Truth::True);
-const FALSE: Pulled = Pulled::Verdict(Truth::False);
-const UNKNOWN: Pulled = Pulled::Verdict(Truth::Unknown);
-const FULL: Fed = Fed::Refused(Refusal {
-    number: 17,
-    place: 0,
-});
 
 #[test]
 fn a_line_has_its_event_and_notes() {

@@ -1,5 +1,8 @@
 //! Tests of the second checker.
 
+#[path = "../shared/mod.rs"]
+mod shared;
+
 mod bench;
 mod calls;
 mod common;
@@ -7,7 +10,6 @@ mod examples;
 mod logs;
 mod opening;
 mod places;
-mod random;
 mod refusals;
 mod states;
 mod texts;

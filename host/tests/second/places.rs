@@ -1,6 +1,6 @@
 //! The place of refusal 3, against a hand-written automaton over tokens.
 
-use crate::random::{rule, text, Random};
+use crate::shared::random::{rule, text, Random};
 use dillplatter_host::second::read;
 
 /// One spelling of each token, and of tokens that no rule has.
@@ -42,69 +42,107 @@ struct Automaton {
     related: bool,
 }
 
+/// The sort of a token: itself, or that it is a name or a number.
+fn sort(token: &str) -> &str {
+    let first = token.as_bytes()[0];
+    match token {
+        "events" | "notes" | "i" | "abs" => token,
+        _ if first.is_ascii_lowercase() => "name",
+        _ if first.is_ascii_digit() => "number",
+        _ => token,
+    }
+}
+
+/// The next stage in the two declared lists.
+fn declared(stage: Stage, sort: &str) -> Option<Stage> {
+    use Stage::*;
+    match (stage, sort) {
+        (Events, "events") => Some(FirstEvent),
+        (FirstEvent | MoreEvents, "name") => Some(MoreEvents),
+        (MoreEvents, ";") => Some(Notes),
+        (Notes, "notes") => Some(FirstNote),
+        (FirstNote | MoreNotes, "name") => Some(MoreNotes),
+        (MoreNotes, ";") => Some(Unit),
+        _ => None,
+    }
+}
+
+/// The next stage in a reference.
+fn referenced(stage: Stage, sort: &str) -> Option<Stage> {
+    use Stage::*;
+    match (stage, sort) {
+        (RefGroup, "(") => Some(RefEvent),
+        (RefEvent, "name") => Some(RefBracket),
+        (RefBracket, "[") => Some(Index),
+        (Index, "number") => Some(IndexTimes),
+        (IndexTimes, "*") => Some(IndexI),
+        (Index | IndexI, "i") => Some(IndexSign),
+        (IndexSign, "+" | "-") => Some(IndexNumber),
+        (IndexNumber, "number") => Some(IndexEnd),
+        (IndexSign | IndexEnd, "]") => Some(RefEnd),
+        (RefEnd, ")") => Some(AfterOperand),
+        _ => None,
+    }
+}
+
 impl Automaton {
     /// Takes one token; false if the list then begins no rule.
     fn take(&mut self, token: &str) -> bool {
+        let sort = sort(token);
+        let next = declared(self.stage, sort)
+            .or_else(|| referenced(self.stage, sort))
+            .or_else(|| self.before_operand(sort))
+            .or_else(|| self.after_operand(sort));
+        self.stage = next.unwrap_or(self.stage);
+        next.is_some()
+    }
+
+    /// The next stage where a unit or an operand may begin.
+    fn before_operand(&mut self, sort: &str) -> Option<Stage> {
         use Stage::*;
-        let first = token.as_bytes()[0];
-        let sort = match token {
-            "events" | "notes" | "i" | "abs" => token,
-            _ if first.is_ascii_lowercase() => "name",
-            _ if first.is_ascii_digit() => "number",
-            _ => token,
-        };
-        let relation = ["=", "!=", "<", "<=", ">", ">="].contains(&sort);
-        let group = self.groups.last().copied();
         if self.stage == Unit && !matches!(sort, "!" | "{") {
             self.related = false;
             self.stage = Operand;
         }
-        self.stage = match (self.stage, sort) {
-            (Events, "events") => FirstEvent,
-            (FirstEvent | MoreEvents, "name") => MoreEvents,
-            (MoreEvents, ";") => Notes,
-            (Notes, "notes") => FirstNote,
-            (FirstNote | MoreNotes, "name") => MoreNotes,
-            (MoreNotes, ";") => Unit,
-            (Unit, "!") => Unit,
+        match (self.stage, sort) {
+            (Unit, "!") => Some(Unit),
             (Unit, "{") => {
                 self.groups.push("{");
-                Unit
+                Some(Unit)
             }
-            (Operand, "number" | "i") => AfterOperand,
+            (Operand, "number" | "i") => Some(AfterOperand),
             (Operand | AbsGroup, "(") => {
                 self.groups.push("(");
-                Operand
+                Some(Operand)
             }
-            (Operand, "abs") => AbsGroup,
-            (Operand, "name") => RefGroup,
-            (RefGroup, "(") => RefEvent,
-            (RefEvent, "name") => RefBracket,
-            (RefBracket, "[") => Index,
-            (Index, "number") => IndexTimes,
-            (IndexTimes, "*") => IndexI,
-            (Index | IndexI, "i") => IndexSign,
-            (IndexSign, "+" | "-") => IndexNumber,
-            (IndexNumber, "number") => IndexEnd,
-            (IndexSign | IndexEnd, "]") => RefEnd,
-            (RefEnd, ")") => AfterOperand,
-            (AfterOperand, "+" | "-" | "*") => Operand,
+            (Operand, "abs") => Some(AbsGroup),
+            (Operand, "name") => Some(RefGroup),
+            _ => None,
+        }
+    }
+
+    /// The next stage behind an operand or a unit.
+    fn after_operand(&mut self, sort: &str) -> Option<Stage> {
+        use Stage::*;
+        let relation = ["=", "!=", "<", "<=", ">", ">="].contains(&sort);
+        let group = self.groups.last().copied();
+        match (self.stage, sort) {
+            (AfterOperand, "+" | "-" | "*") => Some(Operand),
             (AfterOperand, ")") if group == Some("(") => {
                 self.groups.pop();
-                AfterOperand
+                Some(AfterOperand)
             }
             (AfterOperand, _) if relation && !self.related && group != Some("(") => {
                 self.related = true;
-                Operand
+                Some(Operand)
             }
-            (AfterOperand | AfterUnit, "&&" | "||" | "->") if self.unit_may_end() => Unit,
+            (AfterOperand | AfterUnit, "&&" | "||" | "->") if self.unit_may_end() => Some(Unit),
             (AfterOperand | AfterUnit, "}") if self.unit_may_end() && group == Some("{") => {
                 self.groups.pop();
-                AfterUnit
+                Some(AfterUnit)
             }
-            _ => return false,
-        };
-        true
+            _ => None,
+        }
     }
 
     fn unit_may_end(&self) -> bool {

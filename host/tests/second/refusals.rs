@@ -1,75 +1,15 @@
 //! Every refusal, 1 to 17, by the call that has it.
 
 use crate::common::{feed, machine, pull, reads};
-use dillplatter_host::second::{open, read, Fed, Pulled, Refusal, State};
-use std::collections::BTreeSet;
+use crate::shared::driven::Twin;
+use crate::shared::refusals;
+use dillplatter_host::second::{open, Fed, Pulled, Refusal, State};
 
 const RULE: &str = "events a b; notes t; t(a[i]) > 0";
 
-fn reading(text: &str) -> Refusal {
-    read(text.as_bytes(), 512).unwrap_err()
-}
-
-fn feeding(answer: Fed) -> Refusal {
-    match answer {
-        Fed::Refused(refusal) => refusal,
-        other => panic!("{other:?}"),
-    }
-}
-
-fn pulling(answer: Pulled) -> Refusal {
-    match answer {
-        Pulled::Refused(refusal) => refusal,
-        other => panic!("{other:?}"),
-    }
-}
-
 #[test]
 fn each_number_is_seen() {
-    let frames = reads(RULE).unwrap();
-    let window = &mut [0; 32];
-    let state = State::open(&frames, 1, window).unwrap();
-    let counted = State {
-        counts: [1_000_000, 0, 0, 0, 0, 0, 0, 0],
-        p: 1_000_000,
-        totals: dillplatter_host::second::Totals {
-            held: 1_000_000,
-            failed: 0,
-            unknown: 0,
-        },
-        ..state.clone()
-    };
-    let line = crate::common::line(0, [1, 2, 3, 4]);
-    let mut full = machine(RULE, 1);
-    assert_eq!(feed(&mut full, 0, 1), Fed::Accepted);
-
-    let seen = [
-        (1, 0, read(RULE.as_bytes(), 64).unwrap_err()),
-        (2, 0, reading("")),
-        (3, 0, reading("event a; notes t; t(a[i]) > 0")),
-        (4, 21, reading("events a b; notes t; u(a[i]) > 0")),
-        (5, 31, reading("events a b; notes t; t(a[i]) > 2147483648")),
-        (6, 0, reading(&RULE.replace("t(a", "!!!!!!!!!!!!!!!!!t(a"))),
-        (7, 0, reading("events a b; notes t; i > 0")),
-        (8, 0, reading("events a b; notes t; t(a[i]) * i * i > 0")),
-        (9, 0, open(&frames[..7], 1, 32).unwrap_err()),
-        (10, 2, open(&frames[..16], 1, 32).unwrap_err()),
-        (11, 0, open(&frames, 1, 31).unwrap_err()),
-        (12, 0, feeding(State::zero().feed(window, &line))),
-        (12, 0, pulling(State::zero().pull(window, &mut [0; 166]))),
-        (13, 0, feeding(state.clone().feed(&mut [0; 64], &line))),
-        (13, 0, pulling(state.clone().pull(&[0; 31], &mut [0; 166]))),
-        (14, 0, pulling(full.pull(&mut [0; 165]))),
-        (15, 33, feeding(full.feed(&line[..33]))),
-        (16, 0, feeding(counted.clone().feed(window, &line))),
-        (17, 0, feeding(full.feed(&line))),
-    ];
-    let mut numbers = BTreeSet::new();
-    for (number, place, refusal) in seen {
-        assert_eq!(refusal, Refusal { number, place });
-        numbers.insert(number);
-    }
-    assert_eq!(numbers, (1..=17).collect());
+    refusals::each_number_is_seen::<Twin>();
 }
 
 #[test]

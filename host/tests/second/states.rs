@@ -1,6 +1,7 @@
 //! States that a caller hands in: 12, 13, and calls on them.
 
-use crate::common::{feed_all, line, machine, pull, reads};
+use crate::common::{feed_all, machine, pull, reads};
+use crate::shared::log::line;
 use dillplatter_host::second::{Fed, Pulled, Refusal, State, Totals, Truth};
 
 const RULE: &str = "events a b c; notes t; t(a[2*i+1]) > 0 || t(c[i-3]) > 0";
@@ -118,31 +119,19 @@ fn window_of_a_state() {
 #[test]
 fn totals_of_a_state() {
     let good = state(RULE, 4, [0, 0, 0], 7);
+    let number = |totals| {
+        let forged = State {
+            totals,
+            ..good.clone()
+        };
+        number(&forged, 128)
+    };
     for (held, failed, unknown) in [(7, 0, 0), (0, 7, 0), (0, 0, 7), (1, 2, 4)] {
-        let totals = totals(held, failed, unknown);
-        assert_eq!(
-            number(
-                &State {
-                    totals,
-                    ..good.clone()
-                },
-                128
-            ),
-            None
-        );
+        assert_eq!(number(totals(held, failed, unknown)), None);
     }
     let wrapping = totals(u32::MAX, 7, 1);
     for totals in [totals(0, 0, 0), totals(7, 1, 0), totals(3, 3, 0), wrapping] {
-        assert_eq!(
-            number(
-                &State {
-                    totals,
-                    ..good.clone()
-                },
-                128
-            ),
-            Some(12)
-        );
+        assert_eq!(number(totals), Some(12));
     }
 }
 

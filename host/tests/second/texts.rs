@@ -1,6 +1,7 @@
 //! Edge cases of reading.
 
-use crate::common::{hex, reads, refused};
+use crate::common::{reads, refused};
+use crate::shared::vectors::hex;
 use dillplatter_host::second::text::tokens;
 use dillplatter_host::second::{read, read_into, Refusal};
 
@@ -298,23 +299,15 @@ fn refusals_of_reading_come_in_order() {
 
 #[test]
 fn depth_16_is_the_last() {
-    let deep = |before: &str, times: usize, inner: &str, after: &str| {
-        rule(&format!(
-            "{}{inner}{}",
-            before.repeat(times),
-            after.repeat(times)
-        ))
-    };
     let relation = "t(a[i]) = 1";
     let cases = [
-        ("!", relation, ""),
-        ("{", relation, "}"),
-        ("(", "t(a[i])", ")"),
-        ("abs(", "t(a[i])", ")"),
+        ("!", relation, "", ""),
+        ("{", relation, "}", ""),
+        ("(", "t(a[i])", ")", " = 1"),
+        ("abs(", "t(a[i])", ")", " = 1"),
     ];
-    for (before, inner, after) in cases {
-        let ending = if inner == relation { "" } else { " = 1" };
-        let text = |times| deep(before, times, inner, after) + ending;
+    for (before, inner, after, end) in cases {
+        let text = |n| rule(&[&before.repeat(n), inner, &after.repeat(n), end].concat());
         assert!(reads(&text(16)).is_ok(), "{before}");
         assert_eq!(refused(&text(17)), (6, 0), "{before}");
     }
@@ -327,15 +320,9 @@ fn depth_16_is_the_last() {
     assert_eq!(refused(&arrows("!!!")), (6, 0));
     // All kinds together: 3 of each, and one more "!".
     let mixed = |nots: &str| {
-        rule(&format!(
-            "{}{}{nots}{{{{{{{}{}t(a[i]){}{} = 1}}}}}}",
-            "1 = 1 -> ".repeat(3),
-            "!!!",
-            "(((",
-            "abs(abs(abs(",
-            ")))",
-            ")))"
-        ))
+        let arrows = "1 = 1 -> ".repeat(3);
+        let groups = "{{{(((abs(abs(abs(t(a[i]))))))) = 1}}}";
+        rule(&[&arrows, "!!!", nots, groups].concat())
     };
     assert!(reads(&mixed("!")).is_ok());
     assert_eq!(refused(&mixed("!!")), (6, 0));

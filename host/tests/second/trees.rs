@@ -1,7 +1,7 @@
 //! Random rules: the reader gives the frames that were made with the text.
 
 use crate::common::reads;
-use crate::random::{rule, text, Random};
+use crate::shared::random::{rule, text, Random};
 use dillplatter_host::second::open;
 use std::collections::BTreeMap;
 

@@ -4,7 +4,7 @@
 use crate::clock;
 use crate::rules::Kind;
 use dillplatter_host::part::{self, Checker};
-use dillplatter_host::second::{self, Fed, Machine, Pulled};
+use dillplatter_host::second::{self, Fed, Pulled};
 use std::fs::File;
 use std::hint::black_box;
 use std::io::Write;
@@ -26,38 +26,50 @@ fn lines(log: &[u8]) -> impl Iterator<Item = &[u8]> {
         .take_while(|line| !line.is_empty())
 }
 
-/// The library, fed line by line.
-pub fn library(frames: &[u8], log: &[u8]) -> Found {
-    let mut checker = Checker::open(frames, W).expect("the frames open");
+/// Feeds a checker line by line, and pulls until it waits, before the first line and after each. The closures say
+/// whether a feed accepted and whether a pull waits; the answer is how many lines were accepted.
+fn drive<C>(
+    checker: &mut C,
+    log: &[u8],
+    accepts: impl Fn(&mut C, &[u8]) -> bool,
+    waits: impl Fn(&mut C, &mut [u8]) -> bool,
+) -> u32 {
     let mut report = [0; part::REPORT_BYTES];
     let mut accepted = 0;
-    let mut pull_all = |checker: &mut Checker| {
-        while !matches!(checker.pull(&mut report), part::Pulled::Waiting) {}
+    let mut pull_all = |checker: &mut C| {
+        while !waits(checker, &mut report) {}
         black_box(&report);
     };
-    pull_all(&mut checker);
+    pull_all(checker);
     for line in lines(log) {
-        accepted += u32::from(checker.feed(line) == part::Fed::Accepted);
-        pull_all(&mut checker);
+        accepted += u32::from(accepts(checker, line));
+        pull_all(checker);
     }
+    accepted
+}
+
+/// The library.
+pub fn library(frames: &[u8], log: &[u8]) -> Found {
+    let mut checker = Checker::open(frames, W).expect("the frames open");
+    let accepted = drive(
+        &mut checker,
+        log,
+        |checker, line| checker.feed(line) == part::Fed::Accepted,
+        |checker, report| checker.pull(report) == part::Pulled::Waiting,
+    );
     let totals = checker.state().totals;
     [totals.held, totals.failed, totals.unknown, accepted]
 }
 
-/// The second checker, line by line.
+/// The second checker.
 pub fn second(frames: &[u8], log: &[u8]) -> Found {
     let mut machine = second::open(frames, W, 32 * W as usize).expect("the frames open");
-    let mut report = [0; part::REPORT_BYTES];
-    let mut accepted = 0;
-    let mut pull_all = |machine: &mut Machine| {
-        while machine.pull(&mut report) != Pulled::Waiting {}
-        black_box(&report);
-    };
-    pull_all(&mut machine);
-    for line in lines(log) {
-        accepted += u32::from(machine.feed(line) == Fed::Accepted);
-        pull_all(&mut machine);
-    }
+    let accepted = drive(
+        &mut machine,
+        log,
+        |machine, line| machine.feed(line) == Fed::Accepted,
+        |machine, report| machine.pull(report) == Pulled::Waiting,
+    );
     let totals = machine.totals();
     [totals.held, totals.failed, totals.unknown, accepted]
 }
@@ -65,19 +77,15 @@ pub fn second(frames: &[u8], log: &[u8]) -> Found {
 /// The second checker with a state and a window handed in at each call.
 pub fn states(frames: &[u8], log: &[u8]) -> Found {
     let mut window = vec![0; 32 * W as usize];
-    let mut state = second::State::open(frames, W, &mut window).expect("the frames open");
-    let mut report = [0; part::REPORT_BYTES];
-    let mut accepted = 0;
-    let mut pull_all = |state: &mut second::State, window: &[i32]| {
-        while state.pull(window, &mut report) != Pulled::Waiting {}
-        black_box(&report);
-    };
-    pull_all(&mut state, &window);
-    for line in lines(log) {
-        accepted += u32::from(state.feed(&mut window, line) == Fed::Accepted);
-        pull_all(&mut state, &window);
-    }
-    let totals = state.totals;
+    let state = second::State::open(frames, W, &mut window).expect("the frames open");
+    let mut held = (state, window);
+    let accepted = drive(
+        &mut held,
+        log,
+        |(state, window), line| state.feed(window, line) == Fed::Accepted,
+        |(state, window), report| state.pull(window, report) == Pulled::Waiting,
+    );
+    let totals = held.0.totals;
     [totals.held, totals.failed, totals.unknown, accepted]
 }
 

@@ -1,5 +1,7 @@
 //! Random rules with fixed seeds. A rule is made as the grammar has it, with its frames made along the way.
 
+use dillplatter_host::second::open;
+
 /// A generator of numbers (xorshift).
 pub struct Random(u64);
 
@@ -61,6 +63,17 @@ pub fn rule(random: &mut Random, size: usize) -> Made {
     maker.list("notes", notes, note_name);
     maker.cond(0);
     maker.made
+}
+
+/// Frames of a random rule that opens.
+pub fn frames(random: &mut Random) -> Vec<u8> {
+    loop {
+        let size = random.pick(&[1, 1, 4, 10, 30]);
+        let frames = rule(random, size).frames.concat();
+        if open(&frames, 1, 32).is_ok() {
+            return frames;
+        }
+    }
 }
 
 fn event_name(number: usize) -> String {

@@ -1,0 +1,9 @@
+//! What the tests of the part and of the second checker share.
+
+pub mod driven;
+pub mod examples;
+pub mod log;
+pub mod random;
+pub mod refusals;
+pub mod seen;
+pub mod vectors;
