@@ -23,7 +23,7 @@ use Rattle.verdict.specs.declared.Judgement.{Judgement}
 use Rattle.verdict.specs.declared.Judgement.the-variants.{Unsettled, True, False, Unknown}
 use Rattle.checker.specs.Limits.{windowWords}
 use Rattle.checker.specs.Answer.{waiting, verdict}
-use Rattle.checker.specs.State.{sumOf, tallyIn, stateFrames, ruleIn, refsIn, withPulled}
+use Rattle.checker.specs.State.{sumOf, tallyIn, stateFrames, ruleIn, refsIn, withPulled, SameRule}
 use Rattle.checker.specs.Open.{windowFits, OpenResult, openDef}
 use Rattle.checker.specs.Good.{allTo, goodCount, goodRule, goodTally, goodState}
 use Rattle.checker.specs.Demand.{Unrefused}
@@ -31,7 +31,7 @@ use Rattle.checker.specs.Feed.{feedDef}
 use Rattle.checker.specs.Pull.{offered, pullRead, PullResult, foundHere, pulledBy, pullDef}
 use Rattle.checker.specs.declared.State.{State}
 use Rattle.checker.proofs.Fresh.{both-opened}
-use Rattle.checker.proofs.GoodStays.{good-open, good-feed, good-pull, SameRule, feed-rule, pull-rule, feed-long}
+use Rattle.checker.proofs.GoodStays.{good-open, good-feed, good-pull, feed-rule, pull-rule, feed-long}
 use Rattle.bench.specs.Progress.{Progress, blank, pullOf, isVerdict, pulledOnce, UntilWaiting, last, more, pulls, pullLimit, fedLine, afterLine, afterLines}
 use Rattle.bench.specs.Output.{benchWidth, atStart, begun, openedFor}
 use Rattle.bench.proofs.Whole.{read-opened}
