@@ -1,16 +1,16 @@
 // Rules: text, tokens, frames and their checks. Nothing here knows of logs.
-pub mod classes;
-pub mod conditions;
-pub mod emit;
-pub mod header;
-pub mod lookup;
-pub mod memory;
-pub mod names;
-pub mod numerals;
-pub mod parts;
-pub mod reader;
-pub mod sums;
-pub mod tokens;
+mod classes; // classes.rt: the class of a byte
+mod tokens; // tokens.rt: the next token of a text
+mod parts; // parts.rt: what the grammar's readers hand on
+mod names; // names.rt: names as numbers
+mod numerals; // numerals.rt: the value of a run of digits
+mod memory; // memory.rt: what the reader remembers; refusals 5 and 6
+mod lookup; // lookup.rt: declared names; refusal 4
+mod emit; // emit.rt: a frame is put into the buffer
+mod sums; // sums.rt: readers of sums and references
+mod conditions; // conditions.rt: readers of conditions
+mod header; // header.rt: readers of the declarations
+mod reader; // reader.rt: the reader of a whole rule; refusals 1 to 8
 mod frames; // frames.rt: a frame's fields
 mod order; // order.rt: refusal 10, and how many references there are
 mod sizes; // sizes.rt: refusal 8
