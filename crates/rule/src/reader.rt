@@ -4,6 +4,7 @@ use crate::Reading;
 use crate::Refusal;
 use crate::check;
 use crate::conditions::condition;
+use crate::frames::FRAME_BYTES;
 use crate::header::declarations;
 use crate::memory::Step;
 use crate::memory::Tally;
@@ -99,7 +100,7 @@ fn settle(buf: &[u8], frames: &mut [u8], m: Tally) -> Reading
         return refuse(6, 0);
     }
     let n = m.count;
-    let e = n * 8;
+    let e = n * FRAME_BYTES;
     let answer = check(&buf[..e]);
     match answer {
         Checked::Refused(r) => Reading::Refused(r),

@@ -1,4 +1,4 @@
-// Readers of sums: sum, prod, factor, reference and index. Each takes its part off the machine's stack.
+// Readers of sums: sum, prod, factor, reference and index. Each takes its part off the stack of specs/Machine.
 use crate::emit::emit_instance;
 use crate::emit::emit_kind;
 use crate::emit::emit_literal;
