@@ -15,12 +15,11 @@ use Rattle.rule.specs.Limits.{eventLimit}
 use Rattle.rule.specs.Frames.{Bytes, frameAt, frameCount}
 use Rattle.rule.specs.Tree.{Reference, Cond, LimitsR, IsRule, references}
 use Rattle.rule.specs.Build.{treeOf}
-use Rattle.rule.specs.References.{overReferences}
 use Rattle.rule.specs.Check.{checkedOf}
 use Rattle.rule.specs.declared.Checked.the-variants.{Accepted}
 use Rattle.rule.specs.declared.Frame.{Frame}
 use Rattle.rule.proofs.Facts.{AllWithin, references-within, reference-at, passed}
-use Rattle.rule.proofs.Count.{over-references}
+use Rattle.rule.proofs.Count.{over-references, overReferences}
 use Rattle.rule.proofs.Accept.{tree-of}
 use Rattle.rule.proofs.Exactly.{accepted-iff}
 use Rattle.rule.proofs.Fold.{bytes-by}

@@ -14,10 +14,10 @@ use lib.Seq.{sets, sets-eq, length-sets, take-at, length-take-le, take-append-se
 use Rattle.rule.specs.Frames.{frameAt, frameCount, Bytes}
 use Rattle.rule.specs.Tree.{Reference, Cond, IsRule, references}
 use Rattle.rule.specs.Build.{treeOf}
-use Rattle.rule.specs.References.{referenceByte, referenceOf, overReferences, referencesTo, oneMore, referenceCount}
+use Rattle.rule.specs.References.{referenceByte, referenceOf, referencesTo, oneMore, referenceCount}
 use Rattle.rule.specs.Check.{checkedOf}
 use Rattle.rule.specs.declared.Checked.the-variants.{Accepted}
-use Rattle.rule.proofs.Count.{over-references, count-of}
+use Rattle.rule.proofs.Count.{over-references, count-of, overReferences}
 use Rattle.rule.proofs.Accept.{tree-of}
 use Rattle.rule.proofs.Exactly.{accepted-iff}
 use Rattle.verdict.specs.Found.{Found}

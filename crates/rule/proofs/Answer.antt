@@ -8,9 +8,10 @@ use Rattle.rule.specs.declared.Token.{Token}
 use Rattle.rule.specs.declared.parts.Place.{Place}
 use Rattle.rule.specs.declared.parts.Role.the-variants.{Event, Note}
 use Rattle.rule.specs.Grammar.{Rule, yield, words, Wrong-at}
-use Rattle.rule.specs.Measure.{frames, names}
+use Rattle.rule.specs.Measure.{names}
+use Rattle.rule.specs.Draft.{frames}
 use Rattle.rule.specs.Machine.{start, Answer, accepted, refused, run}
-use Rattle.rule.specs.Judge.{telling, verdict, codes, first-name}
+use Rattle.rule.proofs.Judge.{telling, outcome, codes, first-name}
 use Rattle.rule.specs.Memory.{Mem, fresh, remember, told, fields}
 use Rattle.rule.proofs.Walk.{readRule}
 use Rattle.rule.proofs.Rules.{taken, sound, refused-at}
@@ -26,7 +27,7 @@ module _ (code value : Place → ℕ) (n : ℕ) (b₀ : List ℕ) (ts : List Tok
   judged = run Mem (remember code value) n start (fresh b₀) ts
 
   -- tokens in the grammar are answered as their tree is judged
-  pub in-grammar : (x : Rule) → yield x ≡ words ts → answered judged ≡ telling (verdict code value x)
+  pub in-grammar : (x : Rule) → yield x ≡ words ts → answered judged ≡ telling (outcome code value x)
   in-grammar x e = ap (λ a. answered a) (taken Mem (remember code value) n (fresh b₀) x ts e) ∙ told-right code value b₀ x
 
   -- tokens outside it are refused with 3, at their place

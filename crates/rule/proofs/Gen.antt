@@ -19,7 +19,7 @@ use Rattle.rule.specs.declared.parts.Scale.the-variants.{Once, Times}
 use Rattle.rule.specs.declared.parts.Shift.{Shift}
 use Rattle.rule.specs.declared.parts.Shift.the-variants.{Unshifted, By}
 use Rattle.rule.specs.Grammar.{Word, mark, name, number, Rel, equal, unequal, less, at-most, more, at-least, relMark, signMark, place, wordOf, words}
-use Rattle.rule.specs.Measure.{Draft, lit, index-var, ref, plain, signKind, relKind}
+use Rattle.rule.specs.Draft.{Draft, lit, index-var, ref, plain, signKind, relKind}
 use Rattle.rule.specs.Machine.{Act, declare, uses, sized, enter, out, deeper, Sym, unit, ands, ors, arrow, factor, muls, adds, rel, want, name-of, names-of, ref-event, ref-index, ref-shift, ref-by, doing, prod, sum, conj, condition, start, Next, stuck, on, Answer, accepted, refused, resume, startFactor, step, finish, run}
 
 abbrev pub isLeaf : ℕ → Bool

@@ -6,7 +6,7 @@ use Prim.Native.Nat.{ℕ}
 use native.Mathlib.Omega.{arith}
 use lib.Dec.{eqb}
 use Rattle.rule.specs.declared.parts.Place.{Place}
-use Rattle.rule.specs.Measure.{plain}
+use Rattle.rule.specs.Draft.{plain}
 use Rattle.rule.specs.Machine.{Act, out, Sym, adds, rel, doing, prod, sum, Next, stuck, on, step}
 use Rattle.rule.specs.Does.{signByte, relByte}
 

@@ -17,7 +17,8 @@ use Rattle.rule.specs.declared.parts.Scale.the-variants.{Once, Times}
 use Rattle.rule.specs.declared.parts.Shift.{Shift}
 use Rattle.rule.specs.declared.parts.Shift.the-variants.{Unshifted, By}
 use Rattle.rule.specs.Grammar.{Index, index, Cond, a-disj, implies, Disj, a-conj, or, Conj, a-unit, and, CUnit, not, group, relation, Sum, a-prod, add, Prod, a-factor, multiply, Factor, literal, var, parens, absolute, reference, Rule, rule}
-use Rattle.rule.specs.Measure.{Draft, lit, index-var, ref, plain, signKind, relKind, Named, declared, used, Sized, sized-by, scaleNumbers, shiftNumbers, declares, framesCond, framesDisj, framesConj, framesUnit, framesSum, framesProd, framesFactor, frames, depthCond, depthDisj, depthConj, depthUnit, depthSum, depthProd, depthFactor, depth, namesCond, namesDisj, namesConj, namesUnit, namesSum, namesProd, namesFactor, names, numbersCond, numbersDisj, numbersConj, numbersUnit, numbersSum, numbersProd, numbersFactor, numbers}
+use Rattle.rule.specs.Measure.{Named, declared, used, Sized, sized-by, scaleNumbers, shiftNumbers, declares, depthCond, depthDisj, depthConj, depthUnit, depthSum, depthProd, depthFactor, depth, namesCond, namesDisj, namesConj, namesUnit, namesSum, namesProd, namesFactor, names, numbersCond, numbersDisj, numbersConj, numbersUnit, numbersSum, numbersProd, numbersFactor, numbers}
+use Rattle.rule.specs.Draft.{Draft, lit, index-var, ref, plain, signKind, relKind, framesCond, framesDisj, framesConj, framesUnit, framesSum, framesProd, framesFactor, frames}
 use Rattle.rule.specs.Machine.{Act, declare, uses, sized, enter, out, deeper}
 use Rattle.rule.proofs.Walk.{readCond, readDisj, readConj, readUnit, readSum, readProd, readFactor, readNames, readRule}
 

@@ -6,7 +6,7 @@ use mathlib.Core.List.{List, [], _++_}
 use mathlib.Core.Option.{none, some}
 use Prim.Native.Nat.{ℕ, _-_, _*_, _≤_, _<_}
 use lib.ListN.{length, replicate}
-use Rattle.rule.specs.Limits.{frameLimit, frameBytes}
+use Rattle.rule.specs.Limits.{frameLimit, frameBytes, bufferBytes}
 use Rattle.rule.specs.ReadLimits.{textLimit, depthLimit}
 use Rattle.rule.specs.Token.{tokens}
 use Rattle.rule.specs.Grammar.{Rule, yield, words, Wrong-at}
@@ -14,10 +14,13 @@ use Rattle.rule.specs.Tree.{postfix, bytesOf, references, parts, NoneExc
 use Rattle.rule.specs.Measure.{depth, names, numbers}
 use Rattle.rule.specs.Spelling.{firstName, firstNumber}
 use Rattle.rule.specs.Meaning.{meaning}
-use Rattle.rule.specs.Reading.{bufferBytes, refusedAs}
 use Rattle.rule.specs.declared.Reading.{Reading}
 use Rattle.rule.specs.declared.Reading.the-variants as reading
 use Rattle.rule.specs.declared.parts.Place.{Place}
+
+-- "A refusal returns its number and place (0 if none is named)"
+abbrev pub refusedAs : ℕ → ℕ → Reading
+refusedAs k p = reading.Refused (record { number = k; place = p })
 
 -- "The text has 1 to 1,024 bytes"
 pub record Sized (n : ℕ) : Type 0 where

@@ -1,8 +1,6 @@
 -- What a buyer reads, in the document's order: text and its tokens, the grammar, frames and trees, what a text means, the answers.
 pub mod Class
 pub mod Token
-pub mod Name
-pub mod Number
 pub mod Limits
 pub mod ReadLimits
 pub mod Grammar
@@ -14,8 +12,10 @@ pub mod Meaning
 pub mod Opening
 pub mod Answers
 -- What the contracts of the code are said by; the theorems in proofs/Main tie it to the definitions above.
+pub mod Draft
+pub mod Name
+pub mod Number
 pub mod Machine
-pub mod Judge
 pub mod Memory
 pub mod Does
 pub mod References

@@ -20,7 +20,7 @@ use Rattle.rule.specs.declared.parts.Scale.{Scale}
 use Rattle.rule.specs.declared.parts.Scale.the-variants.{Once, Times}
 use Rattle.rule.specs.declared.parts.Shift.{Shift}
 use Rattle.rule.specs.declared.parts.Shift.the-variants.{Unshifted, By}
-use Rattle.rule.specs.Measure.{Draft, lit, index-var, ref, alone}
+use Rattle.rule.specs.Draft.{Draft, lit, index-var, ref, alone}
 
 -- what reading does, in the order of the text
 pub data Act : Type 0 where

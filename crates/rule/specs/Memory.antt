@@ -2,15 +2,16 @@
 use Prim.Native.Nat.{ℕ, zero, suc, _+_, _-_, _*_, _/_, _%_, min}
 use mathlib.Core.Bool.{Bool, true, false, cond}
 use mathlib.Core.List.{List, [], _∷_, _++_}
-use lib.ListN.{length, take, drop, getD, set}
+use lib.ListN.{length, getD, set}
 use lib.Dec.{ltb, leb, eqb}
 use Rattle.rule.specs.Limits.{eventLimit, noteLimit, frameLimit, frameBytes}
 use Rattle.rule.specs.ReadLimits.{depthLimit}
 use Rattle.rule.specs.Frames.{Source, Kind, kindByte}
 use Rattle.rule.specs.Name.{longName, nameCode}
 use Rattle.rule.specs.Number.{numberValue}
-use Rattle.rule.specs.Measure.{Draft, lit, index-var, ref, plain, sized-by}
-use Rattle.rule.specs.Judge.{among, room, bad-number}
+use Rattle.rule.specs.Measure.{Sized, sized-by}
+use Rattle.rule.specs.Draft.{Draft, lit, index-var, ref, plain}
+use Rattle.rule.specs.Spelling.{letters, room, beyond}
 use Rattle.rule.specs.Machine.{Act, declare, uses, sized, enter, out}
 use Rattle.rule.specs.declared.parts.Place.{Place}
 use Rattle.rule.specs.declared.parts.Role.{Role}
@@ -49,6 +50,11 @@ first z p = cond (eqb z 0) (p .start + 1) z
 abbrev pub blame : Place → Mem → Mem
 blame p m = record { count = m .count; deep = m .deep; number = m .number; name = first (m .name) p; events = m .events; notes = m .notes; bytes = m .bytes }
 
+-- c is one of the list
+abbrev pub among : ℕ → List ℕ → Bool
+among c [] = false
+among c (x ∷ xs) = cond (eqb c x) true (among c xs)
+
 -- ---- a frame's bytes
 -- the number of the first name that has the number c, counted from 0; how many there are if none has
 unfoldable pub position : ℕ → List ℕ → ℕ
@@ -74,15 +80,6 @@ put b k f =
     (k * frameBytes + 7) (f .word % 256))
     b
 
--- frames put one after the other, from place k on
-abbrev pub fill : ℕ → List Fields → List ℕ → List ℕ
-fill k [] b = b
-fill k (f ∷ fs) b = fill (k + 1) fs (put b k f)
-
-abbrev pub each : {A B : Type 0} → (A → B) → List A → List B
-each g [] = []
-each g (x ∷ xs) = g x ∷ each g xs
-
 -- a frame is counted, up to 65, and put
 abbrev pub written : Fields → Mem → Mem
 written f m =
@@ -105,13 +102,18 @@ module _ (code value : Place → ℕ) where
   fields E N (ref n e f o) = record { kind = kindByte (Kind.operand Source.reference); event = position (code e) E; note = position (code n) N; factor = factorOf f; word = offsetOf o }
   fields E N (plain k) = record { kind = k; event = 0; note = 0; factor = 0; word = 0 }
 
+  -- 5: "a number beyond its limit"
+  abbrev pub bad-number : Sized → Bool
+  bad-number (sized-by l p) = beyond l (value p)
+
+  -- 4, of a name that is declared: "over 12 letters, twice in its list, a 9th event, a 5th note"
   abbrev pub misnamed : Role → Place → Mem → Bool
   misnamed r p m = cond (leb longName (code p)) true (cond (among (code p) (table r m)) true (leb (room r) (length (table r m))))
 
   abbrev pub remember : Act → Mem → Mem
   remember (declare r p) m = cond (misnamed r p m) (blame p m) (enlist r (code p) m)
   remember (uses r p) m = cond (among (code p) (table r m)) m (blame p m)
-  remember (sized b p) m = record { count = m .count; deep = m .deep; number = cond (bad-number code value (sized-by b p)) (first (m .number) p) (m .number); name = m .name; events = m .events; notes = m .notes; bytes = m .bytes }
+  remember (sized b p) m = record { count = m .count; deep = m .deep; number = cond (bad-number (sized-by b p)) (first (m .number) p) (m .number); name = m .name; events = m .events; notes = m .notes; bytes = m .bytes }
   remember (enter d) m = record { count = m .count; deep = cond (ltb depthLimit d) true (m .deep); number = m .number; name = m .name; events = m .events; notes = m .notes; bytes = m .bytes }
   remember (out f) m = written (fields (m .events) (m .notes) f) m
 
@@ -125,9 +127,6 @@ told m =
     (4, m .name - 1)
 
 -- ---- over a text
-abbrev pub letters : List ℕ → Place → List ℕ
-letters text p = take (p .end - p .start) (drop (p .start) text)
-
 abbrev pub codeAt : List ℕ → Place → ℕ
 codeAt text p = nameCode (letters text p)
 

@@ -6,9 +6,12 @@ use Prim.Native.Nat.{ℕ, suc, _*_, _%_, _≤_, _<_}
 use lib.ListN.{length, take}
 use Rattle.rule.specs.Limits.{frameLimit, frameBytes}
 use Rattle.rule.specs.Tree.{Cond, Limits, postfix, bytesOf, IsRule, references, parts, NoneExceeds}
-use Rattle.rule.specs.Check.{refused}
 use Rattle.rule.specs.declared.Checked.{Checked}
-use Rattle.rule.specs.declared.Checked.the-variants.{Accepted}
+use Rattle.rule.specs.declared.Checked.the-variants.{Accepted, Refused}
+
+-- "A refusal returns its number and place (0 if none is named)"
+abbrev pub refused : ℕ → ℕ → Checked
+refused n p = Refused (record { number = n; place = p })
 
 -- "8 to 512 in steps of 8"
 pub record Whole (n : ℕ) : Type 0 where

@@ -16,7 +16,7 @@ ghost use mathlib.Core.Path.{_≡_};
 ghost use mathlib.Core.List.{List};
 ghost use Prim.Native.Nat.{ℕ};
 ghost use lib.ListN.{length};
-ghost use Rattle.rule.specs.Measure.{lit, index-var, ref, plain};
+ghost use Rattle.rule.specs.Draft.{lit, index-var, ref, plain};
 ghost use Rattle.rule.specs.Machine.{out, sized};
 ghost use Rattle.rule.specs.Memory.{codeAt, valueAt, factorOf, offsetOf, negated, written, acts, mem};
 ghost use Rattle.rule.specs.Does.{Inside, InsideScale, InsideShift};

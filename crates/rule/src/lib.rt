@@ -21,7 +21,8 @@ use order::Ordered;
 pub use order::reference_count;
 pub use reader::read;
 ghost use mathlib.Core.Path.{_≡_};
-ghost use Rattle.rule.specs.Check.{wholeFrames, refused, checkedOf};
+ghost use Rattle.rule.specs.Check.{wholeFrames, checkedOf};
+ghost use Rattle.rule.specs.Opening.{refused};
 
 // A refusal: document 01's number, and its place, 0 where none is named.
 pub struct Refusal {

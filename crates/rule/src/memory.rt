@@ -7,7 +7,7 @@ ghost use mathlib.Core.Path.{_≡_};
 ghost use mathlib.Core.List.{List};
 ghost use Prim.Native.Nat.{ℕ, _+_, _<_};
 ghost use lib.ListN.{length};
-ghost use Rattle.rule.specs.Judge.{beyond};
+ghost use Rattle.rule.specs.Spelling.{beyond};
 ghost use Rattle.rule.specs.Machine.{deeper, enter, sized};
 ghost use Rattle.rule.specs.Memory.{first, blame, codeAt, valueAt, acts, mem};
 ghost use Rattle.rule.specs.Does.{Inside};

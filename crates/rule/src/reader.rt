@@ -20,7 +20,8 @@ ghost use lib.ListN.{length};
 ghost use Rattle.rule.specs.Machine.{start};
 ghost use Rattle.rule.specs.Memory.{mem};
 ghost use Rattle.rule.specs.Does.{runFrom};
-ghost use Rattle.rule.specs.Reading.{refusedAs, settled, readOf, unread, answerOf};
+ghost use Rattle.rule.specs.Reading.{concluded, readOf, unread, answerOf};
+ghost use Rattle.rule.specs.Answers.{refusedAs};
 
 const BUFFER: usize = 512;
 
@@ -83,9 +84,9 @@ fn whole(text: &[u8], names: &mut [u64; 12], buf: &mut [u8; 512]) -> Step
 }
 
 // Refusals 4 to 8 of what was read; else the frames are handed over.
-fn settle(buf: &[u8], frames: &mut [u8], m: Tally) -> Reading
+fn conclude(buf: &[u8], frames: &mut [u8], m: Tally) -> Reading
     requires { ⌜ (length (now buf) ≡ 512) × (length (now frames) ≡ 512) × (m .name ≤ 1025) × (m .number ≤ 1025) ⌝ }
-    ensures { λ r. ⌜ ((tb : List ℕ) → (r ≡ settled (now (frames .entry)) (mem m tb (now (buf .entry))) .0) × (now (frames .exit) ≡ settled (now (frames .entry)) (mem m tb (now (buf .entry))) .1)) ⌝ }
+    ensures { λ r. ⌜ ((tb : List ℕ) → (r ≡ concluded (now (frames .entry)) (mem m tb (now (buf .entry))) .0) × (now (frames .exit) ≡ concluded (now (frames .entry)) (mem m tb (now (buf .entry))) .1)) ⌝ }
 {
     if m.name != 0 {
         return refuse(4, (m.name - 1) as u32);
@@ -129,6 +130,6 @@ pub fn read(text: &[u8], frames: &mut [u8]) -> Reading
     let mut buf = [0u8; 512];
     match whole(text, &mut names, &mut buf) {
         Step::No(p) => refuse(3, p as u32),
-        Step::Go(_, m) => settle(&buf, frames, m),
+        Step::Go(_, m) => conclude(&buf, frames, m),
     }
 }

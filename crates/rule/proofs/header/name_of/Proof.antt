@@ -7,8 +7,8 @@ use lib.ListN.{length}
 use denote.Ref.{now}
 use Rattle.rule.specs.Machine.{step, finish, startFactor, out, want, doing}
 use Rattle.rule.specs.Machine as machine
-use Rattle.rule.specs.Measure.{plain}
-use Rattle.rule.proofs.Laws.{then, stop, then-does, idle, as-is, least, same, fail, take, beyond, inside}
+use Rattle.rule.specs.Draft.{plain}
+use Rattle.rule.proofs.Does.{then, stop, then-does, idle, as-is, least, same, fail, take, beyond, inside}
 use Rattle.rule.specs.Does.{relByte}
 use Rattle.rule.proofs.Marked.{rel-some, rel-stuck, rel-step}
 use borrow.Author.Needs.{needs}

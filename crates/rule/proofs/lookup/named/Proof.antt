@@ -1,7 +1,7 @@
 use denote.Ref.{now}
-use Rattle.rule.specs.Memory.{mem, acts, table, codeAt}
+use Rattle.rule.specs.Memory.{mem, acts, table, codeAt, among}
 use mathlib.Core.Path.{_≡_, refl, sym, ap, subst, _∙_}
-use Rattle.rule.specs.Judge.{among, room}
+use Rattle.rule.specs.Spelling.{room}
 use Rattle.rule.specs.Name.{longName}
 use mathlib.Core.Bool.{true, cond}
 use lib.Dec.{leb}

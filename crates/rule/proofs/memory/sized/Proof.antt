@@ -1,7 +1,7 @@
 use borrow.Author.Tests.{lt-ltb, le-ltb, le-leb, lt-leb, eq-eqb, ne-eqb}
 use Rattle.rule.specs.Memory.{mem, acts, put, codeAt, valueAt, negated}
 use mathlib.Core.Path.{_≡_, refl, sym, ap, _∙_}
-use Rattle.rule.specs.Judge.{beyond}
+use Rattle.rule.specs.Spelling.{beyond}
 use native.Mathlib.Omega.{arith}
 use borrow.Author.Needs.{needs}
 use Rattle.rule.proofs.memory.sized.Statement.{statement}

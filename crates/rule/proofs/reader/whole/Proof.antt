@@ -6,7 +6,7 @@ use Rattle.rule.specs.Machine.{want}
 use Rattle.rule.specs.Machine as machine
 use Rattle.rule.specs.Does.{onward}
 use Rattle.rule.specs.declared.parts.Role.the-variants.{Event, Note}
-use Rattle.rule.proofs.Laws.{then, stop, as-is}
+use Rattle.rule.proofs.Does.{then, stop, as-is}
 use Rattle.rule.proofs.Close.{nothing-left, something-left}
 use borrow.Author.Needs.{needs}
 use Rattle.rule.proofs.reader.whole.Statement.{statement}

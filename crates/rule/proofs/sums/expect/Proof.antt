@@ -4,10 +4,10 @@ use mathlib.Core.List.{[], _∷_}
 use denote.Ref.{now}
 use Rattle.rule.specs.Machine.{step, finish, out, want}
 use Rattle.rule.specs.Machine as machine
-use Rattle.rule.specs.Measure.{ref}
+use Rattle.rule.specs.Draft.{ref}
 use Rattle.rule.specs.declared.parts.Scale.the-variants.{Once, Times}
 use Rattle.rule.specs.declared.parts.Shift.the-variants.{Unshifted, By}
-use Rattle.rule.proofs.Laws.{then, stop, then-does, idle, as-is, least, same, fail, take, beyond, inside}
+use Rattle.rule.proofs.Does.{then, stop, then-does, idle, as-is, least, same, fail, take, beyond, inside}
 use native.Mathlib.Omega.{arith}
 use borrow.Author.Needs.{needs}
 use Rattle.rule.proofs.sums.expect.Statement.{statement}
