@@ -10,7 +10,7 @@ use lib.Dec.{eqb}
 use lib.ListN.{length, take, drop, getD, length-drop}
 use lib.Seq.{getD-drop}
 use Rattle.rule.specs.Class.{letter, digit, blank, mark, classOf, span}
-use Rattle.rule.specs.Token.{endKind, nameKind, numberKind, eventsKind, notesKind, indexKind, absKind, eventsWord, notesWord, indexWord, absWord, same, wordKind, markOf, markWidth, kindOf, widthOf, past, tokenHere, tokenAt, tokensIn, tokensFrom, IsWord, Rising}
+use Rattle.rule.specs.Token.{endKind, nameKind, eventsKind, notesKind, indexKind, absKind, eventsWord, notesWord, indexWord, absWord, same, wordKind, markOf, markWidth, kindOf, widthOf, past, tokenHere, tokenAt, tokensIn, tokensFrom, IsWord, Rising}
 use Rattle.rule.specs.declared.Token.{Token}
 use Rattle.rule.proofs.Span.{span-le, span-class}
 use Rattle.rule.proofs.Marks.{mark-high, width-some, width-alone}

@@ -9,6 +9,7 @@ pub mod Spelling
 pub mod Frames
 pub mod Tree
 pub mod Meaning
+pub mod Told
 pub mod Opening
 pub mod Answers
 -- What the contracts of the code are said by; the theorems in proofs/Main tie it to the definitions above.

@@ -22,6 +22,7 @@ pub use order::reference_count;
 pub use reader::read;
 ghost use mathlib.Core.Path.{_≡_};
 ghost use Rattle.rule.specs.Check.{wholeFrames, checkedOf};
+ghost use Rattle.rule.specs.Told.{checkTold};
 ghost use Rattle.rule.specs.Opening.{refused};
 
 // A refusal: document 01's number, and its place, 0 where none is named.
@@ -77,6 +78,7 @@ fn refuse(number: u8, place: u32) -> Checked
 // What opening checks of frames, whatever the bytes are: 9, 10, 7 and 8, in this order.
 pub fn check(frames: &[u8]) -> Checked
     ensures { λ r. ⌜ r ≡ checkedOf (now (frames .entry)) ⌝ }
+    ensures { λ r. ⌜ checkTold r ≡ checkTold (checkedOf (now (frames .entry))) ⌝ }
 {
     if whole_frames(frames.len()) {
         let found = order::order(frames);

@@ -17,6 +17,7 @@ ghost use mathlib.Core.Path.{_≡_};
 ghost use mathlib.Core.List.{List, []};
 ghost use Prim.Native.Nat.{ℕ, _≤_};
 ghost use lib.ListN.{length};
+ghost use Rattle.rule.specs.Told.{readTold};
 ghost use Rattle.rule.specs.Machine.{start};
 ghost use Rattle.rule.specs.Memory.{mem};
 ghost use Rattle.rule.specs.Does.{runFrom};
@@ -116,6 +117,7 @@ fn conclude(buf: &[u8], frames: &mut [u8], m: Tally) -> Reading
 // as it was; else it holds the frames, and zero after the last.
 pub fn read(text: &[u8], frames: &mut [u8]) -> Reading
     ensures { λ r. ⌜ (r ≡ readOf (now (text .entry)) (now (frames .entry)) .0) × (now (frames .exit) ≡ readOf (now (text .entry)) (now (frames .entry)) .1) ⌝ }
+    ensures { λ r. ⌜ readTold r ≡ readTold (readOf (now (text .entry)) (now (frames .entry)) .0) ⌝ }
 {
     if frames.len() != BUFFER {
         return refuse(1, 0);

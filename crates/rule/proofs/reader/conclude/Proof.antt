@@ -80,14 +80,14 @@ cast-t19 : tie.Need-cast-t19
 cast-t19 c = omega arith
 
 returns-5 : tie.Need-returns-5
-returns-5 c = λ tb. let e = seven-eight (now (c .before .before .before .before .before .before .before .before .before .before .before .before .before .before .args .frames)) (c .before .before .before .before .before .before .before .before .before .before .before .before .before .before .args .m) tb (now (c .before .before .before .before .before .before .before .before .before .before .before .before .before .before .args .buf)) (c .before .before .before .before .before .before .before .before .before .before .if1 .left) (c .before .before .before .before .before .before .before .before .if2 .left) (c .before .before .before .before .before .before .before .if3 .left) (c .before .before .before .before .before .if4 .left) in let q = e ∙ ap (λ (a : Checked). afterCheck (now (c .before .before .before .before .before .before .before .before .before .before .before .before .before .before .args .frames)) (mem (c .before .before .before .before .before .before .before .before .before .before .before .before .before .before .args .m) tb (now (c .before .before .before .before .before .before .before .before .before .before .before .before .before .before .args .buf))) a) (sym (c .before .before .before .check .ensures) ∙ c .before .answer .given .1) in (sym (ap (λ (x : Reading × List ℕ). x .0) q), sym (ap (λ (x : Reading × List ℕ). x .1) q))
+returns-5 c = λ tb. let e = seven-eight (now (c .before .before .before .before .before .before .before .before .before .before .before .before .before .before .args .frames)) (c .before .before .before .before .before .before .before .before .before .before .before .before .before .before .args .m) tb (now (c .before .before .before .before .before .before .before .before .before .before .before .before .before .before .args .buf)) (c .before .before .before .before .before .before .before .before .before .before .if1 .left) (c .before .before .before .before .before .before .before .before .if2 .left) (c .before .before .before .before .before .before .before .if3 .left) (c .before .before .before .before .before .if4 .left) in let q = e ∙ ap (λ (a : Checked). afterCheck (now (c .before .before .before .before .before .before .before .before .before .before .before .before .before .before .args .frames)) (mem (c .before .before .before .before .before .before .before .before .before .before .before .before .before .before .args .m) tb (now (c .before .before .before .before .before .before .before .before .before .before .before .before .before .before .args .buf))) a) (sym (c .before .before .before .check .ensures .0) ∙ c .before .answer .given .1) in (sym (ap (λ (x : Reading × List ℕ). x .0) q), sym (ap (λ (x : Reading × List ℕ). x .1) q))
 
 same-length : tie.Need-same-length
 same-length c = search needs
 
 returns-6 : tie.Need-returns-6
 unfolding mem
-returns-6 c = λ tb. let e = seven-eight (now (c .before .before .before .before .before .before .before .before .before .before .before .before .before .before .before .before .before .args .frames)) (c .before .before .before .before .before .before .before .before .before .before .before .before .before .before .before .before .before .args .m) tb (now (c .before .before .before .before .before .before .before .before .before .before .before .before .before .before .before .before .before .args .buf)) (c .before .before .before .before .before .before .before .before .before .before .before .before .before .if1 .left) (c .before .before .before .before .before .before .before .before .before .before .before .if2 .left) (c .before .before .before .before .before .before .before .before .before .before .if3 .left) (c .before .before .before .before .before .before .before .before .if4 .left) in let q = e ∙ ap (λ (a : Checked). afterCheck (now (c .before .before .before .before .before .before .before .before .before .before .before .before .before .before .before .before .before .args .frames)) (mem (c .before .before .before .before .before .before .before .before .before .before .before .before .before .before .before .before .before .args .m) tb (now (c .before .before .before .before .before .before .before .before .before .before .before .before .before .before .before .before .before .args .buf))) a) (sym (c .before .before .before .before .before .before .check .ensures) ∙ c .before .before .before .before .enum-told .given .1) in (sym (ap (λ (x : Reading × List ℕ). x .0) q), c .before .before .copy .ensures ∙ sym (ap (λ (x : Reading × List ℕ). x .1) q))
+returns-6 c = λ tb. let e = seven-eight (now (c .before .before .before .before .before .before .before .before .before .before .before .before .before .before .before .before .before .args .frames)) (c .before .before .before .before .before .before .before .before .before .before .before .before .before .before .before .before .before .args .m) tb (now (c .before .before .before .before .before .before .before .before .before .before .before .before .before .before .before .before .before .args .buf)) (c .before .before .before .before .before .before .before .before .before .before .before .before .before .if1 .left) (c .before .before .before .before .before .before .before .before .before .before .before .if2 .left) (c .before .before .before .before .before .before .before .before .before .before .if3 .left) (c .before .before .before .before .before .before .before .before .if4 .left) in let q = e ∙ ap (λ (a : Checked). afterCheck (now (c .before .before .before .before .before .before .before .before .before .before .before .before .before .before .before .before .before .args .frames)) (mem (c .before .before .before .before .before .before .before .before .before .before .before .before .before .before .before .before .before .args .m) tb (now (c .before .before .before .before .before .before .before .before .before .before .before .before .before .before .before .before .before .args .buf))) a) (sym (c .before .before .before .before .before .before .check .ensures .0) ∙ c .before .before .before .before .enum-told .given .1) in (sym (ap (λ (x : Reading × List ℕ). x .0) q), c .before .before .copy .ensures ∙ sym (ap (λ (x : Reading × List ℕ). x .1) q))
 
 pub conclude-spec : {M : Type 1} → statement M
 conclude-spec = tie.close (tie.spec
