@@ -9,7 +9,7 @@ use lib.ListN.{length, replicate}
 use Rattle.numbers.proofs.Bools.{and-true}
 use Rattle.rule.specs.Check.{checkedOf}
 use Rattle.rule.specs.declared.Checked.the-variants.{Accepted, Refused}
-use Rattle.rule.proofs.Facts.{passed}
+use Rattle.rule.proofs.Laws.{passed}
 use Rattle.checker.specs.Limits.{windowWords}
 use Rattle.checker.specs.Answer.{openTold}
 use Rattle.checker.specs.Open.{widthFits, openDef}
