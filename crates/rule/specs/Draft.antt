@@ -21,11 +21,12 @@ pub data Draft : Type 0 where
 abbrev pub alone : Kind → Draft
 alone k = plain (kindByte k)
 
--- the kinds of "+" and "-", and of the relations
+-- the kinds of "+" and "-"
 abbrev pub signKind : Sign → ℕ
 signKind Plus = kindByte (Kind.arithmetic Arithmetic.add)
 signKind Minus = kindByte (Kind.arithmetic Arithmetic.subtract)
 
+-- and of the relations
 abbrev pub relKind : Rel → ℕ
 relKind equal = kindByte (Kind.relation Relation.equal)
 relKind unequal = kindByte (Kind.relation Relation.unequal)

@@ -14,7 +14,8 @@ use Rattle.rule.specs.declared.parts.Shift.{Shift}
 use Rattle.rule.specs.declared.parts.Shift.the-variants.{Unshifted, By}
 
 -- ---- depth
--- "counts the "!", "{", "(" that groups a sum, "abs" (once, with its parenthesis) and "->" (for its right side)": the greatest at a point
+-- "counts the "!", "{", "(" that groups a sum, "abs" (once, with its parenthesis) and "->" (for its right side)": the greatest at
+-- a point
 abbrev mutual
   pub depthCond : Cond → ℕ
   depthCond (a-disj x) = depthDisj x
@@ -48,6 +49,7 @@ abbrev mutual
   depthFactor (absolute x) = 1 + depthSum x
   depthFactor (reference n e x) = 0
 
+-- of a rule
 abbrev pub depth : Rule → ℕ
 depth (rule e es n ns c) = depthCond c
 
@@ -60,14 +62,17 @@ pub data Named : Type 0 where
 pub data Sized : Type 0 where
   sized-by : Limit → Place → Sized
 
+-- [number "*"]: the factor of i
 abbrev pub scaleNumbers : Scale → List Sized
 scaleNumbers Once = []
 scaleNumbers (Times p) = sized-by OfFactor p ∷ []
 
+-- [("+" or "-") number]: the offset
 abbrev pub shiftNumbers : Shift → List Sized
 shiftNumbers Unshifted = []
 shiftNumbers (By g p) = sized-by OfOffset p ∷ []
 
+-- the names in a condition: of each reference "the note first, then the event"
 abbrev mutual
   pub namesCond : Cond → List Named
   namesCond (a-disj x) = namesDisj x
@@ -101,13 +106,16 @@ abbrev mutual
   namesFactor (absolute x) = namesSum x
   namesFactor (reference n e x) = used Note n ∷ used Event e ∷ []
 
+-- names declared in a role
 abbrev pub declares : Role → List Place → List Named
 declares r [] = []
 declares r (p ∷ ps) = declared r p ∷ declares r ps
 
+-- of a rule: events, then notes, then those of the condition
 abbrev pub names : Rule → List Named
 names (rule e es n ns c) = declares Event (e ∷ es) ++ declares Note (n ∷ ns) ++ namesCond c
 
+-- the numbers in a condition, each with its limit
 abbrev mutual
   pub numbersCond : Cond → List Sized
   numbersCond (a-disj x) = numbersDisj x
@@ -141,5 +149,6 @@ abbrev mutual
   numbersFactor (absolute x) = numbersSum x
   numbersFactor (reference n e (index f o)) = scaleNumbers f ++ shiftNumbers o
 
+-- of a rule
 abbrev pub numbers : Rule → List Sized
 numbers (rule e es n ns c) = numbersCond c

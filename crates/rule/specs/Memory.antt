@@ -24,6 +24,7 @@ use Rattle.rule.specs.declared.parts.Shift.the-variants.{Unshifted, By}
 use Rattle.rule.specs.declared.memory.Tally.{Tally}
 use Rattle.rule.specs.declared.memory.Fields.{Fields}
 
+-- frames so far, at most 65; whether a depth was over 16; the first bad number and the first bad name; the names declared; the bytes
 pub record Mem : Type 0 where
   pub count : ℕ
   pub deep : Bool
@@ -33,20 +34,25 @@ pub record Mem : Type 0 where
   pub notes : List ℕ
   pub bytes : List ℕ
 
+-- before the text, with the bytes b
 abbrev pub fresh : List ℕ → Mem
 fresh b = record { count = 0; deep = false; number = 0; name = 0; events = []; notes = []; bytes = b }
 
+-- the names declared in a role
 abbrev pub table : Role → Mem → List ℕ
 table Event m = m .events
 table Note m = m .notes
 
+-- one name more, "numbered from 0 as declared"
 abbrev pub enlist : Role → ℕ → Mem → Mem
 enlist Event c m = record { count = m .count; deep = m .deep; number = m .number; name = m .name; events = m .events ++ c ∷ []; notes = m .notes; bytes = m .bytes }
 enlist Note c m = record { count = m .count; deep = m .deep; number = m .number; name = m .name; events = m .events; notes = m .notes ++ c ∷ []; bytes = m .bytes }
 
+-- "place the first": a place is kept if there was none
 abbrev pub first : ℕ → Place → ℕ
 first z p = cond (eqb z 0) (p .start + 1) z
 
+-- a bad name at p
 abbrev pub blame : Place → Mem → Mem
 blame p m = record { count = m .count; deep = m .deep; number = m .number; name = first (m .name) p; events = m .events; notes = m .notes; bytes = m .bytes }
 
@@ -86,10 +92,12 @@ written f m =
     record { count = cond (ltb (m .count) frameLimit) (m .count + 1) (suc frameLimit); deep = m .deep; number = m .number; name = m .name; events = m .events; notes = m .notes; bytes = put (m .bytes) (m .count) f }
 
 module _ (code value : Place → ℕ) where
+  -- the factor of i, "1 if absent"; a frame has a byte for it
   abbrev pub factorOf : Scale → ℕ
   factorOf Once = 1
   factorOf (Times p) = value p % 256
 
+  -- the offset, as a word of 32 bits
   abbrev pub offsetOf : Shift → ℕ
   offsetOf Unshifted = 0
   offsetOf (By Plus p) = value p
@@ -110,6 +118,7 @@ module _ (code value : Place → ℕ) where
   abbrev pub misnamed : Role → Place → Mem → Bool
   misnamed r p m = cond (leb longName (code p)) true (cond (among (code p) (table r m)) true (leb (room r) (length (table r m))))
 
+  -- what each act does
   abbrev pub remember : Act → Mem → Mem
   remember (declare r p) m = cond (misnamed r p m) (blame p m) (enlist r (code p) m)
   remember (uses r p) m = cond (among (code p) (table r m)) m (blame p m)
@@ -127,12 +136,15 @@ told m =
     (4, m .name - 1)
 
 -- ---- over a text
+-- the number of the name at p
 abbrev pub codeAt : List ℕ → Place → ℕ
 codeAt text p = nameCode (letters text p)
 
+-- the value of the number at p
 abbrev pub valueAt : List ℕ → Place → ℕ
 valueAt text p = numberValue (letters text p)
 
+-- what each act does, by the text's letters and digits
 unfoldable pub acts : List ℕ → Act → Mem → Mem
 acts text = remember (codeAt text) (valueAt text)
 
@@ -141,6 +153,7 @@ unfoldable pub listed : List ℕ → ℕ → ℕ → List ℕ
 listed tb from zero = []
 listed tb from (suc n) = getD tb from 0 ∷ listed tb (suc from) n
 
+-- the memory that the registers t, the table tb and the buffer b are
 unfoldable pub mem : Tally → List ℕ → List ℕ → Mem
 mem t tb b =
     record { count = t .count; deep = t .deep; number = t .number; name = t .name; events = listed tb 0 (min eventLimit (t .events)); notes = listed tb eventLimit (min noteLimit (t .notes)); bytes = b }
