@@ -1,19 +1,14 @@
 -- From tokens to refusals 3 to 6: the machine with the reader's memory, and the grammar. Assumes nothing.
 use mathlib.Core.Path.{_≡_, refl, ap, _∙_}
-use mathlib.Core.Logic.{_↔_, _⊎_, inl, inr}
+use mathlib.Core.Logic.{_⊎_, inl, inr}
 use mathlib.Core.List.{List}
-use mathlib.Core.Option.{none}
 use Prim.Native.Nat.{ℕ}
 use Rattle.rule.specs.declared.Token.{Token}
 use Rattle.rule.specs.declared.parts.Place.{Place}
-use Rattle.rule.specs.declared.parts.Role.the-variants.{Event, Note}
 use Rattle.rule.specs.Grammar.{Rule, yield, words, Wrong-at}
-use Rattle.rule.specs.Measure.{names}
-use Rattle.rule.specs.Draft.{frames}
 use Rattle.rule.specs.Machine.{start, Answer, accepted, refused, run}
-use Rattle.rule.proofs.Judge.{telling, outcome, codes, first-name}
-use Rattle.rule.specs.Memory.{Mem, fresh, remember, told, fields}
-use Rattle.rule.proofs.Walk.{readRule}
+use Rattle.rule.proofs.Judge.{telling, outcome}
+use Rattle.rule.specs.Memory.{Mem, fresh, remember, told}
 use Rattle.rule.proofs.Rules.{taken, sound, refused-at}
 use Rattle.rule.proofs.Registers.{told-right}
 

@@ -17,11 +17,11 @@ use Rattle.rule.specs.Measure.{names}
 use Rattle.rule.specs.Draft.{Draft, frames, framesCond}
 use Rattle.rule.specs.Machine.{Act, declare, uses, sized, enter, out}
 use Rattle.rule.proofs.Judge.{codes, first-name}
-use Rattle.rule.specs.Memory.{Mem, fresh, table, put, fields, misnamed, remember, blame, enlist, among}
+use Rattle.rule.specs.Memory.{Mem, fresh, table, put, fields, misnamed, remember, enlist, among}
 use Rattle.rule.proofs.Put.{fill, each}
 use Rattle.rule.proofs.Walk.{readCond, readNames, readRule}
 use Rattle.rule.proofs.Measures.{note-frame, frames-cond}
-use Rattle.rule.proofs.Registers.{Body, sim-cond, length-snoc, unblamed, untouched, count-kept, names-listed}
+use Rattle.rule.proofs.Registers.{Body, sim-cond, unblamed, untouched, count-kept, names-listed}
 
 each-snoc : {A B : Type 0} (g : A → B) (l : List A) (x : A) → each g (l ++ x ∷ []) ≡ each g l ++ g x ∷ []
 each-snoc g [] x = refl

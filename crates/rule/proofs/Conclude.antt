@@ -1,14 +1,13 @@
 -- The answer of `read`, case by case. Assumes nothing.
-use mathlib.Core.Path.{_≡_, refl, ap, sym, subst, _∙_}
+use mathlib.Core.Path.{_≡_, refl}
 use mathlib.Core.Bool.{true, false}
 use mathlib.Core.List.{List}
 use Prim.Native.Nat.{ℕ, _-_, _*_, _≤_, _<_, zero-le}
-use native.Mathlib.Omega.{arith}
-use borrow.Author.Tests.{eq-eqb, ne-eqb, lt-ltb, le-ltb}
+use borrow.Author.Tests.{ne-eqb, lt-ltb, le-ltb}
 use lib.ListN.{length, take, replicate}
 use Rattle.rule.specs.Token.{tokens}
-use Rattle.rule.specs.Machine.{start, Answer, run}
-use Rattle.rule.specs.Memory.{Mem, fresh, acts, listed, mem}
+use Rattle.rule.specs.Machine.{start, Answer}
+use Rattle.rule.specs.Memory.{Mem, fresh, listed, mem}
 use Rattle.rule.specs.Does.{runFrom}
 use Rattle.rule.specs.Check.{checkedOf}
 use Rattle.rule.specs.Reading.{judged, afterCheck, concluded, afterGrammar, readOf, unread}

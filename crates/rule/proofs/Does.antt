@@ -1,15 +1,15 @@
 -- Laws of `Does`: how readers of parts are put together. Assumes nothing.
-use mathlib.Core.Path.{_≡_, refl, ap, sym, _∙_, subst}
+use mathlib.Core.Path.{_≡_, refl, ap, _∙_, subst}
 use mathlib.Core.Bool.{Bool, true, false}
 use mathlib.Core.List.{List, [], _∷_}
-use Prim.Native.Nat.{ℕ, _+_, _≤_, _<_}
+use Prim.Native.Nat.{ℕ, _≤_, _<_}
 use native.Mathlib.Omega.{arith}
 use borrow.Author.Tests.{eqb-true, eqb-false}
 use lib.Dec.{eqb}
 use lib.ListN.{length}
 use Rattle.rule.specs.Token.{tokenAt, tokensFrom}
 use Rattle.rule.specs.Grammar.{place}
-use Rattle.rule.specs.Machine.{Act, Sym, doing, Next, stuck, on, Answer, refused, step, finish, run}
+use Rattle.rule.specs.Machine.{Act, Sym, doing, stuck, on, refused, step, finish, run}
 use Rattle.rule.specs.Memory.{Mem, acts, mem}
 use Rattle.rule.specs.Does.{runFrom, onward, Within, Does, Inside}
 use Rattle.rule.specs.declared.Token.{Token}

@@ -1,30 +1,24 @@
 -- What `read` answers, in the words of the grammar: `readOf`, which its contract cites, and trees. Assumes nothing.
 use mathlib.Core.Path.{_≡_, refl, ap, sym, subst, _∙_}
-use mathlib.Core.Logic.{_↔_, _⊎_, inl, inr}
+use mathlib.Core.Logic.{_⊎_, inl, inr}
 use mathlib.Core.Bool.{Bool, true, false, cond}
 use mathlib.Core.List.{List}
-use mathlib.Core.Option.{none}
-use Prim.Native.Nat.{ℕ, _*_, _-_, _≤_, _<_}
-use native.Mathlib.Omega.{arith}
+use Prim.Native.Nat.{ℕ, _*_, _-_, _≤_}
 use lib.Dec.{ltb, eqb}
 use lib.ListN.{length, take, replicate}
 use borrow.Author.Tests.{ne-eqb}
 use Rattle.rule.specs.Token.{tokens}
 use Rattle.rule.specs.Grammar.{Rule, yield, words, Wrong-at}
-use Rattle.rule.specs.Machine.{start, Answer, accepted, refused, run}
+use Rattle.rule.specs.Machine.{Answer, accepted, refused}
 use Rattle.rule.proofs.Judge.{Outcome, refused-by, telling, outcome}
-use Rattle.rule.specs.Memory.{Mem, fresh, told, codeAt, valueAt, remember, acts}
-use Rattle.rule.specs.Order.{orderOf}
-use Rattle.rule.specs.Sizes.{sizesFit}
-use Rattle.rule.specs.Check.{wholeFrames, afterOrder, checkedOf}
+use Rattle.rule.specs.Memory.{Mem, fresh, told, codeAt, valueAt, acts}
+use Rattle.rule.specs.Check.{checkedOf}
 use Rattle.rule.specs.Reading.{judged, afterCheck, concluded, afterGrammar, readOf}
 use Rattle.rule.specs.Answers.{refusedAs}
 use Rattle.rule.specs.declared.Checked.{Checked}
 use Rattle.rule.specs.declared.Checked.the-variants.{Accepted, Refused}
 use Rattle.rule.specs.declared.Reading.{Reading}
 use Rattle.rule.specs.declared.Reading.the-variants as reading
-use Rattle.rule.specs.declared.order.Ordered.{Ordered}
-use Rattle.rule.specs.declared.order.Ordered.the-variants.{Fine, At}
 use Rattle.rule.proofs.Walk.{readRule}
 use Rattle.rule.proofs.Rules.{taken, sound, refused-at}
 use Rattle.rule.proofs.Registers.{told-right}

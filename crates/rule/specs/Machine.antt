@@ -18,7 +18,6 @@ use Rattle.rule.specs.declared.parts.Sign.{Sign}
 use Rattle.rule.specs.declared.parts.Sign.the-variants.{Plus, Minus}
 use Rattle.rule.specs.declared.parts.Scale.{Scale}
 use Rattle.rule.specs.declared.parts.Scale.the-variants.{Once, Times}
-use Rattle.rule.specs.declared.parts.Shift.{Shift}
 use Rattle.rule.specs.declared.parts.Shift.the-variants.{Unshifted, By}
 use Rattle.rule.specs.Draft.{Draft, lit, index-var, ref, alone}
 

@@ -1,26 +1,18 @@
-use mathlib.Core.Path.{_≡_, refl, sym, ap, subst, _∙_}
+use mathlib.Core.Path.{sym, ap, _∙_}
 use native.Mathlib.Omega.{arith}
-use mathlib.Core.List.{List, []}
+use mathlib.Core.List.{List}
 use Prim.Native.Nat.{ℕ}
 use denote.Ref.{now}
-use lib.ListN.{length, replicate}
+use lib.ListN.{length}
 use lib.Seq.{length-take-le}
-use Rattle.rule.specs.Machine.{Answer}
-use Rattle.rule.specs.Memory.{Mem, mem}
-use Rattle.rule.specs.Reading.{afterCheck, answerOf}
+use Rattle.rule.specs.Memory.{mem}
+use Rattle.rule.specs.Reading.{afterCheck}
 use Rattle.rule.specs.declared.Reading.{Reading}
 use Rattle.rule.specs.declared.Checked.{Checked}
-use Rattle.rule.specs.declared.memory.Step.{Step}
-use Rattle.rule.proofs.Close.{OkA}
-use Rattle.rule.proofs.Conclude.{four, five, six-deep, six-frames, seven-eight, one, two-none, two-many, three, starts, judged-ok, kept-name, kept-number, kept-long}
+use Rattle.rule.proofs.Conclude.{four, five, six-deep, six-frames, seven-eight}
 use borrow.Author.Needs.{needs}
 use Rattle.rule.proofs.reader.conclude.Statement.{statement}
 use Rattle.rule.proofs.reader.conclude.Tie as tie
-use Rattle.rule.proofs.reader.refuse.Reads as refuse-reads
-use Rattle.rule.proofs.check.Reads as check-reads
-use Rattle.rule.proofs.reader.copy.Reads as copy-reads
-use Rattle.rule.proofs.reader.conclude.Reads as reads
-use Rattle.rule.proofs.reader.conclude.Lts as lts
 
 sub-refuse : tie.Need-sub-refuse
 sub-refuse c = search needs

@@ -1,27 +1,20 @@
 use mathlib.Core.Path.{_≡_, refl, sym, ap, subst, _∙_}
 use native.Mathlib.Omega.{arith}
-use mathlib.Core.List.{List, []}
+use mathlib.Core.List.{List}
 use Prim.Native.Nat.{ℕ}
 use denote.Ref.{now}
 use lib.ListN.{length, replicate}
-use lib.Seq.{length-take-le}
 use Rattle.rule.specs.Told.{readTold}
 use Rattle.rule.specs.Machine.{Answer}
-use Rattle.rule.specs.Memory.{Mem, mem}
-use Rattle.rule.specs.Reading.{afterCheck, answerOf}
+use Rattle.rule.specs.Memory.{Mem}
+use Rattle.rule.specs.Reading.{answerOf}
 use Rattle.rule.specs.declared.Reading.{Reading}
-use Rattle.rule.specs.declared.Checked.{Checked}
 use Rattle.rule.specs.declared.memory.Step.{Step}
 use Rattle.rule.proofs.Close.{OkA}
-use Rattle.rule.proofs.Conclude.{four, five, six-deep, six-frames, seven-eight, one, two-none, two-many, three, starts, judged-ok, kept-name, kept-number, kept-long}
+use Rattle.rule.proofs.Conclude.{one, two-none, two-many, three, starts, judged-ok, kept-name, kept-number, kept-long}
 use borrow.Author.Needs.{needs}
 use Rattle.rule.proofs.reader.read.Statement.{statement}
 use Rattle.rule.proofs.reader.read.Tie as tie
-use Rattle.rule.proofs.reader.refuse.Reads as refuse-reads
-use Rattle.rule.proofs.reader.whole.Reads as whole-reads
-use Rattle.rule.proofs.reader.conclude.Reads as conclude-reads
-use Rattle.rule.proofs.reader.read.Reads as reads
-use Rattle.rule.proofs.reader.read.Lts as lts
 
 -- the answer and the buffer, and what the answer tells
 with-told : {a b : Reading} {s t : List ℕ} → a ≡ b → s ≡ t → ((a ≡ b) × (s ≡ t)) × (readTold a ≡ readTold b)
