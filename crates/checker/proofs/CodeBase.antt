@@ -15,15 +15,11 @@ use Rattle.rule.specs.Limits.{eventLimit}
 use Rattle.rule.specs.Frames.{Bytes, frameAt, frameCount}
 use Rattle.rule.specs.Tree.{Reference, Cond, LimitsR, IsRule, references}
 use Rattle.rule.specs.Build.{treeOf}
-use Rattle.rule.specs.References.{overReferences}
 use Rattle.rule.specs.Check.{checkedOf}
 use Rattle.rule.specs.declared.Checked.the-variants.{Accepted}
 use Rattle.rule.specs.declared.Frame.{Frame}
-use Rattle.rule.proofs.Facts.{AllWithin, references-within, reference-at, passed}
-use Rattle.rule.proofs.Count.{over-references}
-use Rattle.rule.proofs.Accept.{tree-of}
-use Rattle.rule.proofs.Exactly.{accepted-iff}
-use Rattle.rule.proofs.Fold.{bytes-by}
+use Rattle.rule.proofs.Main.{tree-of, frames-exactly}
+use Rattle.rule.proofs.Laws.{AllWithin, references-within, reference-at, passed, over-references, overReferences, bytes-by}
 use Rattle.verdict.specs.Found.{instanceLimit, meantBy}
 use Rattle.verdict.specs.declared.Occurrence.{Occurrence}
 use Rattle.verdict.specs.declared.Meant.the-variants.{Void, At}
@@ -46,7 +42,7 @@ bytes-take n s h = bytes-by (take n s) (λ i l. at n s i (h i))
     at (suc n) (x ∷ xs) (suc i) h = at n xs i h
 
 pub rule-in : {s : List ℕ} → Bytes s → checkedOf s ≡ Accepted → IsRule s
-rule-in b e = let p = accepted-iff b .0 e in record { tree = p .tree; limits = p .limits; bytes = p .bytes }
+rule-in b e = let p = frames-exactly b .0 e in record { tree = p .tree; limits = p .limits; bytes = p .bytes }
 
 pub within-in : {s : List ℕ} → Bytes s → checkedOf s ≡ Accepted → AllWithin (references (treeOf s))
 within-in {s} b e =

@@ -18,8 +18,7 @@ use Rattle.rule.specs.Opening.{Proper}
 use Rattle.rule.specs.declared.Checked.{Checked}
 use Rattle.rule.specs.declared.Checked.the-variants.{Accepted, Refused}
 use Rattle.rule.proofs.Main.{frames-exactly, tree-of}
-use Rattle.rule.proofs.Count.{rule-length}
-use Rattle.rule.proofs.Facts.{AllWithin, references-within}
+use Rattle.rule.proofs.Laws.{rule-length, AllWithin, references-within}
 use Rattle.numbers.proofs.Bools.{true-false, and-true}
 use Rattle.checker.specs.Limits.{windowWords}
 use Rattle.checker.specs.Answer.{Answer, opened, accepted, ignored, waiting, verdict, refused}

@@ -15,7 +15,7 @@ use Rattle.rule.specs.References.{referenceByte, referenceOf}
 use Rattle.rule.specs.Check.{checkedOf}
 use Rattle.rule.specs.declared.Frame.{Frame}
 use Rattle.rule.specs.declared.Checked.the-variants.{Accepted}
-use Rattle.rule.proofs.Facts.{passed, reference-at}
+use Rattle.rule.proofs.Laws.{passed, reference-at}
 use Rattle.verdict.specs.Found.{meantBy, Found, present, pending, void}
 use Rattle.verdict.specs.declared.Occurrence.{Occurrence}
 use Rattle.verdict.specs.declared.Meant.the-variants.{Void, At}

@@ -11,7 +11,7 @@ use Rattle.rule.specs.Frames.{frameCount, Bytes}
 use Rattle.rule.specs.Tree.{Reference, references}
 use Rattle.rule.specs.Build.{treeOf}
 use Rattle.rule.specs.References.{referenceCount}
-use Rattle.rule.proofs.Facts.{passed}
+use Rattle.rule.proofs.Laws.{passed}
 use Rattle.verdict.specs.Found.{Found}
 use Rattle.verdict.specs.Settled.{judgement}
 use Rattle.verdict.specs.Marks.{Judgeable}

@@ -14,12 +14,11 @@ use lib.Seq.{sets, sets-eq, length-sets, take-at, length-take-le, take-append-se
 use Rattle.rule.specs.Frames.{frameAt, frameCount, Bytes}
 use Rattle.rule.specs.Tree.{Reference, Cond, IsRule, references}
 use Rattle.rule.specs.Build.{treeOf}
-use Rattle.rule.specs.References.{referenceByte, referenceOf, overReferences, referencesTo, oneMore, referenceCount}
+use Rattle.rule.specs.References.{referenceByte, referenceOf, referencesTo, oneMore, referenceCount}
 use Rattle.rule.specs.Check.{checkedOf}
 use Rattle.rule.specs.declared.Checked.the-variants.{Accepted}
-use Rattle.rule.proofs.Count.{over-references, count-of}
-use Rattle.rule.proofs.Accept.{tree-of}
-use Rattle.rule.proofs.Exactly.{accepted-iff}
+use Rattle.rule.proofs.Main.{count-references, tree-of, frames-exactly}
+use Rattle.rule.proofs.Laws.{over-references, overReferences}
 use Rattle.verdict.specs.Found.{Found}
 use Rattle.verdict.specs.Value.{noteOf}
 use Rattle.checker.specs.Report.{markOf, entries, reportBytes, written}
@@ -135,10 +134,10 @@ module _ (found : Reference → Found) where
       → reportTo s marks notes (headerOf p (referenceCount s)) (frameCount s) ≡ reportBytes p (map found (references (treeOf s)))
   unfolding reportBytes
   report-is {s} b e marks notes p w =
-      let q = accepted-iff b .0 e in
+      let q = frames-exactly b .0 e in
       let r : IsRule s = record { tree = q .tree; limits = q .limits; bytes = q .bytes } in
       let rs : List Reference = references (r .tree) in
-      let n : referenceCount s ≡ length (map found rs) = count-of r ∙ sym (length-map rs found) in
+      let n : referenceCount s ≡ length (map found rs) = count-references r ∙ sym (length-map rs found) in
       adds-to s marks notes (headerOf p (referenceCount s)) (frameCount s) w (frameCount s) (omega arith)
       ∙ over-references adds r (headerOf p (referenceCount s))
       ∙ over-adds rs (headerOf p (referenceCount s))

@@ -1,18 +1,17 @@
 -- The end of a rule's reading: what is left once the stack is empty, the buffer's length, and the bounds of places. Assumes nothing.
-use mathlib.Core.Path.{_≡_, refl, ap, sym, subst, _∙_}
+use mathlib.Core.Path.{_≡_, refl, ap, sym, _∙_}
 use mathlib.Core.Bool.{Bool, true, false, cond}
 use mathlib.Core.List.{List, [], _∷_}
 use Prim.Native.Nat.{ℕ, _+_, _*_, _/_, _%_, _≤_, _<_}
 use native.Mathlib.Omega.{arith}
-use borrow.Author.Tests.{ne-eqb, le-ltb, ltb-true, eqb-true}
 use lib.Dec.{ltb, eqb}
 use lib.ListN.{length, set, length-set}
-use Rattle.rule.specs.Token.{tokenAt, tokensFrom}
+use Rattle.rule.specs.Token.{tokenAt, Rising}
 use Rattle.rule.specs.Grammar.{place}
-use Rattle.rule.specs.Measure.{lit, index-var, ref, plain, sized-by}
-use Rattle.rule.specs.Judge.{among, bad-number}
+use Rattle.rule.specs.Measure.{sized-by}
+use Rattle.rule.specs.Draft.{lit, index-var, ref}
 use Rattle.rule.specs.Machine.{Act, declare, uses, sized, enter, out, Sym, unit, ands, ors, arrow, factor, muls, adds, rel, want, name-of, names-of, ref-event, ref-index, ref-shift, ref-by, doing, deeper, Next, stuck, on, Answer, accepted, refused, resume, startFactor, step, finish, run}
-use Rattle.rule.specs.Memory.{Mem, table, first, blame, enlist, put, misnamed, codeAt, valueAt, acts}
+use Rattle.rule.specs.Memory.{Mem, table, first, blame, enlist, put, misnamed, codeAt, valueAt, acts, among, bad-number}
 use Rattle.rule.specs.Does.{runFrom}
 use Rattle.rule.specs.declared.Token.{Token}
 use Rattle.rule.specs.declared.parts.Place.{Place}
@@ -21,7 +20,7 @@ use Rattle.rule.specs.declared.parts.Role.the-variants.{Event, Note}
 use Rattle.rule.specs.declared.parts.Limit.the-variants.{OfLiteral, OfFactor, OfOffset}
 use Rattle.rule.specs.declared.parts.Shift.the-variants.{Unshifted, By}
 use Rattle.rule.specs.declared.memory.Fields.{Fields}
-use Rattle.rule.proofs.Lexing.{none-left, one-more, Rising}
+use Rattle.rule.proofs.Lexing.{none-left, one-more}
 
 module _ (text : List ℕ) (at : ℕ) (m : Mem) {t : Token} (is : t ≡ tokenAt text at) where
   pub nothing-left : t .kind ≡ 0 → runFrom text [] m at ≡ accepted m

@@ -1,5 +1,5 @@
--- Laws of `code` and `nameCode`: two names are equal exactly if their numbers are, and a word is too long exactly if its
--- number is `longName`. Assumes nothing.
+-- Laws of `code` and `nameCode`: two names of at most 12 letters are equal exactly if their numbers are, and a word is too long
+-- exactly if its number is `longName`. Assumes nothing.
 use mathlib.Core.Path.{_≡_, refl, sym, ap, ap₂, _∙_}
 use mathlib.Core.Logic.{_↔_}
 use mathlib.Core.Bool.{Bool, true, false}
@@ -11,12 +11,8 @@ use borrow.Author.Tests.{le-leb, lt-leb, leb-true, leb-false}
 use lib.Dec.{leb}
 use lib.ListN.{length, drop, getD}
 use lib.Seq.{drop-cons, drop-length}
+use Rattle.rule.specs.Class.{Letters}
 use Rattle.rule.specs.Name.{code, longName, nameCode}
-
--- every byte is a lower-case letter
-abbrev pub Letters : List ℕ → Type 0
-Letters [] = Unit
-Letters (b ∷ bs) = (97 ≤ b) × (b ≤ 122) × Letters bs
 
 -- 27 to the n
 unfoldable pub top : ℕ → ℕ

@@ -10,10 +10,16 @@ use borrow.Author.Tests.{eqb-true, eq-eqb, ne-eqb}
 use Rattle.rule.specs.Limits.{frameLimit, frameBytes}
 use Rattle.rule.specs.Frames.{Relation, equal, unequal, less, atMost, more, atLeast, Arithmetic, add, subtract, multiply, Connective, and, or, implies, Kind, kindByte, bare, frameCount}
 use Rattle.rule.specs.Tree.{Reference, Sum, literal, instance, reference, arithmetic, abs, Cond, relation, not, connective, postfixS, postfix, IsRule, referencesS, references}
-use Rattle.rule.specs.References.{referenceByte, referenceOf, overReferences, referencesTo, oneMore, referenceCount}
+use Rattle.rule.specs.References.{referenceByte, referenceOf, referencesTo, oneMore, referenceCount}
 use Rattle.rule.specs.declared.Frame.{Frame}
 use Rattle.rule.proofs.Fold.{framesOf, runs, runs-all, bytes-length}
 use Rattle.rule.proofs.Accept.{frames-are}
+
+-- over a rule's references, in frame order
+module _ {S : Type 0} (f : Reference → S → S) where
+  abbrev pub overReferences : List Reference → S → S
+  overReferences [] z = z
+  overReferences (r ∷ rs) z = overReferences rs (f r z)
 
 -- ---- how many
 two : (xs ys : List Reference) (fs gs : List Frame) (x : Frame) → length xs * 2 ≤ suc (length fs) → length ys * 2 ≤ suc (length gs) → length (xs ++ ys) * 2 ≤ suc (length ((fs ++ gs) ++ (x ∷ [])))

@@ -7,7 +7,8 @@ use native.Mathlib.Numerals.{add-one}
 use native.Mathlib.Omega.{arith}
 use lib.ListN.{length, drop, getD, drop-of-length-le}
 use lib.Seq.{drop-cons}
-use Rattle.rule.specs.Number.{decimalFrom, decimal, most, numberValue}
+use Rattle.rule.specs.Number.{most, numberValue}
+use Rattle.rule.specs.Spelling.{decimalFrom, decimal}
 
 cap-from : (w : ℕ) (bs : List ℕ) → min most (decimalFrom (min most w) bs) ≡ min most (decimalFrom w bs)
 unfolding decimalFrom

@@ -1,6 +1,6 @@
 -- The depth register, which stops at 17, and the depth of a tree. Assumes nothing.
-use mathlib.Core.Path.{_≡_, refl, ap, sym, _∙_, subst}
-use mathlib.Core.List.{List, [], _∷_, _++_}
+use mathlib.Core.Path.{_≡_, refl, ap, sym, _∙_}
+use mathlib.Core.List.{List, [], _∷_}
 use Prim.Native.Nat.{ℕ, _+_, max, min, _≤_, _<_}
 use mathlib.Core.Bool.{Bool, true, false, cond}
 use native.Mathlib.Omega.{arith}
@@ -9,14 +9,12 @@ use borrow.Author.Tests.{leb-true, leb-false}
 use Rattle.rule.specs.declared.parts.Place.{Place}
 use Rattle.rule.specs.declared.parts.Role.{Role}
 use Rattle.rule.specs.declared.parts.Role.the-variants.{Event, Note}
-use Rattle.rule.specs.declared.parts.Scale.{Scale}
 use Rattle.rule.specs.declared.parts.Scale.the-variants.{Once, Times}
-use Rattle.rule.specs.declared.parts.Shift.{Shift}
 use Rattle.rule.specs.declared.parts.Shift.the-variants.{Unshifted, By}
-use Rattle.rule.specs.Grammar.{Index, index, Cond, a-disj, implies, Disj, a-conj, or, Conj, a-unit, and, CUnit, not, group, relation, Sum, a-prod, add, Prod, a-factor, multiply, Factor, literal, var, parens, absolute, reference, Rule, rule}
+use Rattle.rule.specs.Grammar.{index, Cond, a-disj, implies, Disj, a-conj, or, Conj, a-unit, and, CUnit, not, group, relation, Sum, a-prod, add, Prod, a-factor, multiply, Factor, literal, var, parens, absolute, reference, Rule, rule}
 use Rattle.rule.specs.Measure.{depthCond, depthDisj, depthConj, depthUnit, depthSum, depthProd, depthFactor, depth}
 use Rattle.rule.specs.ReadLimits.{depthLimit}
-use Rattle.rule.specs.Machine.{Act, deeper}
+use Rattle.rule.specs.Machine.{deeper}
 use Rattle.rule.proofs.Walk.{readCond, readDisj, readConj, readUnit, readSum, readProd, readFactor, readNames, readRule}
 use Rattle.rule.proofs.Measures.{note-depth}
 

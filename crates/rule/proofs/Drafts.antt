@@ -9,8 +9,8 @@ use Rattle.rule.specs.Limits.{literalLimit}
 use Rattle.rule.specs.Frames.{Source, Kind, kindByte, frame, bare}
 use Rattle.rule.specs.Grammar
 use Rattle.rule.specs.Tree.{LimitsR, LimitsS, Limits, postfixS, postfix}
-use Rattle.rule.specs.Measure.{Draft, lit, index-var, ref, plain, signKind, relKind, frames, framesCond, framesDisj, framesConj, framesUnit, framesSum, framesProd, framesFactor}
-use Rattle.rule.specs.Memory.{each}
+use Rattle.rule.specs.Draft.{Draft, lit, index-var, ref, plain, signKind, relKind, frames, framesCond, framesDisj, framesConj, framesUnit, framesSum, framesProd, framesFactor}
+use Rattle.rule.proofs.Put.{each}
 use Rattle.rule.specs.declared.Frame.{Frame}
 use Rattle.rule.specs.declared.parts.Place.{Place}
 use Rattle.rule.specs.declared.parts.Sign.{Sign}

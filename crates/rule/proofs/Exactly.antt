@@ -9,8 +9,9 @@ use Rattle.rule.specs.Limits.{frameLimit}
 use Rattle.rule.specs.Frames.{Kind, bare, Bytes}
 use Rattle.rule.specs.Tree.{Cond, relation, not, connective, postfixS, postfix, IsRule}
 use Rattle.rule.specs.References.{referenceCount}
-use Rattle.rule.specs.Check.{refused, numberOf, placeOf, checkedOf}
-use Rattle.rule.specs.Opening.{Whole, Place, Opening, refused-9, refused-10, refused-7, refused-8, accepted, Proper}
+use Rattle.rule.specs.Check.{checkedOf}
+use Rattle.rule.proofs.Numbers.{numberOf, placeOf}
+use Rattle.rule.specs.Opening.{Whole, Place, Opening, refused-9, refused-10, refused-7, refused-8, accepted, Proper, refused}
 use Rattle.rule.specs.declared.Checked.{Checked}
 use Rattle.rule.specs.declared.Checked.the-variants.{Accepted}
 use Rattle.rule.specs.declared.Frame.{Frame}

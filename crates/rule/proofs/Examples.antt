@@ -4,7 +4,8 @@ use mathlib.Core.List.{[], _∷_}
 use Rattle.rule.specs.Class.{classOf, span}
 use Rattle.rule.specs.Token.{same, wordKind, markOf, markWidth, kindOf, widthOf, tokenHere, tokenAt, tokensIn, tokensFrom, tokens}
 use Rattle.rule.specs.Name.{code, longName, nameCode}
-use Rattle.rule.specs.Number.{most, decimalFrom, decimal, numberValue}
+use Rattle.rule.specs.Number.{most, numberValue}
+use Rattle.rule.specs.Spelling.{decimalFrom, decimal}
 use Rattle.rule.proofs.Here.{tok}
 
 -- a rule's condition: a reference, a mark of two bytes, a number

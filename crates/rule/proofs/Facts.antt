@@ -12,8 +12,9 @@ use Rattle.rule.specs.Tree.{Reference, Sum, literal, instance, reference
 use Rattle.rule.specs.References.{referenceByte, referenceOf}
 use Rattle.rule.specs.Order.{orderOf, InOrder}
 use Rattle.rule.specs.Sizes.{sizesFit}
-use Rattle.rule.specs.Check.{refused, numberOf, wholeFrames, afterOrder, checkedOf}
-use Rattle.rule.specs.Opening.{Whole}
+use Rattle.rule.specs.Check.{wholeFrames, afterOrder, checkedOf}
+use Rattle.rule.proofs.Numbers.{numberOf}
+use Rattle.rule.specs.Opening.{Whole, refused}
 use Rattle.rule.specs.declared.Checked.the-variants.{Accepted}
 use Rattle.rule.specs.declared.order.Ordered.{Ordered}
 use Rattle.rule.specs.declared.order.Ordered.the-variants.{Fine, At}

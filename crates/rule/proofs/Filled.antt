@@ -7,7 +7,8 @@ use lib.ListN.{length, drop, replicate, length-append, length-replicate}
 use lib.Seq.{sets-eq, take-at, drop-append-add}
 use borrow.Author.Tests.{lt-ltb}
 use Rattle.rule.specs.Tree.{wordBytes}
-use Rattle.rule.specs.Memory.{put, fill}
+use Rattle.rule.specs.Memory.{put}
+use Rattle.rule.proofs.Put.{fill}
 use Rattle.rule.specs.declared.memory.Fields.{Fields}
 
 -- a frame's bytes

@@ -10,7 +10,8 @@ use Rattle.rule.specs.References.{referenceCount}
 use Rattle.rule.specs.Order.{orderOf}
 use Rattle.rule.specs.Sizes.{sizesFit}
 use Rattle.rule.specs.Build.{treeOf}
-use Rattle.rule.specs.Check.{refused, checkedOf}
+use Rattle.rule.specs.Check.{checkedOf}
+use Rattle.rule.specs.Opening.{refused}
 use Rattle.rule.specs.declared.Checked.the-variants.{Accepted}
 
 -- note 0 of event e at i + o

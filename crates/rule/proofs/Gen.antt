@@ -1,26 +1,22 @@
 -- Leftmost derivations: what a stack may spell, and what its reading does. The machine takes exactly those. Assumes nothing.
-use mathlib.Core.Path.{_≡_, refl, ap, sym, _∙_, subst}
+use mathlib.Core.Path.{_≡_, refl, subst}
 use mathlib.Core.Bool.{Bool, true, false, cond}
-use mathlib.Core.List.{List, [], _∷_, _++_}
-use Prim.Native.Nat.{ℕ, zero, suc, _+_}
-use native.Mathlib.Omega.{arith}
-use borrow.Author.Tests.{eqb-true, eqb-false, eq-eqb, ne-eqb}
+use mathlib.Core.List.{List, [], _∷_}
+use Prim.Native.Nat.{ℕ}
+use borrow.Author.Tests.{eqb-true, eq-eqb}
 use lib.Dec.{eqb}
-use Rattle.rule.specs.declared.Token.{Token}
 use Rattle.rule.specs.declared.parts.Place.{Place}
 use Rattle.rule.specs.declared.parts.Role.{Role}
 use Rattle.rule.specs.declared.parts.Role.the-variants.{Event, Note}
-use Rattle.rule.specs.declared.parts.Limit.{Limit}
 use Rattle.rule.specs.declared.parts.Limit.the-variants.{OfLiteral, OfFactor, OfOffset}
 use Rattle.rule.specs.declared.parts.Sign.{Sign}
 use Rattle.rule.specs.declared.parts.Sign.the-variants.{Plus, Minus}
 use Rattle.rule.specs.declared.parts.Scale.{Scale}
 use Rattle.rule.specs.declared.parts.Scale.the-variants.{Once, Times}
-use Rattle.rule.specs.declared.parts.Shift.{Shift}
 use Rattle.rule.specs.declared.parts.Shift.the-variants.{Unshifted, By}
-use Rattle.rule.specs.Grammar.{Word, mark, name, number, Rel, equal, unequal, less, at-most, more, at-least, relMark, signMark, place, wordOf, words}
-use Rattle.rule.specs.Measure.{Draft, lit, index-var, ref, plain, signKind, relKind}
-use Rattle.rule.specs.Machine.{Act, declare, uses, sized, enter, out, deeper, Sym, unit, ands, ors, arrow, factor, muls, adds, rel, want, name-of, names-of, ref-event, ref-index, ref-shift, ref-by, doing, prod, sum, conj, condition, start, Next, stuck, on, Answer, accepted, refused, resume, startFactor, step, finish, run}
+use Rattle.rule.specs.Grammar.{Word, mark, name, number, Rel, equal, unequal, less, at-most, more, at-least, relMark, signMark, wordOf}
+use Rattle.rule.specs.Draft.{lit, index-var, ref, plain, signKind, relKind}
+use Rattle.rule.specs.Machine.{Act, declare, uses, sized, enter, out, deeper, Sym, unit, ands, ors, arrow, factor, muls, adds, rel, want, name-of, names-of, ref-event, ref-index, ref-shift, ref-by, doing, prod, sum, conj, condition, start, Next, stuck, on, startFactor, step}
 
 abbrev pub isLeaf : ℕ → Bool
 isLeaf k = cond (eqb k 1) true (eqb k 2)

@@ -10,14 +10,10 @@ use lib.Dec.{eqb}
 use lib.ListN.{length, take, drop, getD, length-drop}
 use lib.Seq.{getD-drop}
 use Rattle.rule.specs.Class.{letter, digit, blank, mark, classOf, span}
-use Rattle.rule.specs.Token.{endKind, nameKind, numberKind, eventsKind, notesKind, indexKind, absKind, eventsWord, notesWord, indexWord, absWord, same, wordKind, markOf, markWidth, kindOf, widthOf, past, tokenHere, tokenAt, tokensIn, tokensFrom}
+use Rattle.rule.specs.Token.{endKind, nameKind, eventsKind, notesKind, indexKind, absKind, eventsWord, notesWord, indexWord, absWord, same, wordKind, markOf, markWidth, kindOf, widthOf, past, tokenHere, tokenAt, tokensIn, tokensFrom, IsWord, Rising}
 use Rattle.rule.specs.declared.Token.{Token}
 use Rattle.rule.proofs.Span.{span-le, span-class}
 use Rattle.rule.proofs.Marks.{mark-high, width-some, width-alone}
-
--- a word's kind: name, events, notes, i or abs
-abbrev pub IsWord : ℕ → Type 0
-IsWord k = (0 < k) × (k ≤ absKind) × (k ≡ numberKind → ⊥)
 
 pub word-is : (w : List ℕ) → IsWord (wordKind w)
 unfolding wordKind
@@ -158,11 +154,6 @@ one-more text at h ne =
     enough text (length text - at) (suc (length text - at)) at h (omega arith) (omega arith)
     ∙ rw (ne-eqb (tokenAt text at .kind) endKind ne)
     (ap (λ (l : List Token). tokenAt text at ∷ l) (enough text (length text - at) (length text - tokenAt text at .end) (tokenAt text at .end) (r .1) (omega arith) (omega arith)))
-
--- places rise from lo on, up to hi: a token has a byte at least, and ends before the next one begins
-abbrev pub Rising : ℕ → ℕ → List Token → Type 0
-Rising lo hi [] = lo ≤ hi
-Rising lo hi (t ∷ ts) = (lo ≤ t .start) × (t .start < t .end) × Rising (t .end) hi ts
 
 rising-in : (k : ℕ) (text : List ℕ) (at : ℕ) → at ≤ length text → Rising at (length text) (tokensIn k text at)
 unfolding tokensIn

@@ -1,64 +1,68 @@
-pub mod Span
-pub mod Words
-pub mod Marks
-pub mod Here
-pub mod Codes
-pub mod Decimals
-pub mod Lexing
-pub mod Runs
-pub mod Walk
-pub mod Gen
-pub mod Machines
-pub mod Trees
-pub mod Rules
-pub mod Measures
-pub mod Depth
-pub mod SpellLists
-pub mod SpellWords
-pub mod SpellTokens
-pub mod SpellCodes
-pub mod SpellNames
-pub mod SpellNumbers
-pub mod SpellMeaning
-pub mod SpellTurn
-pub mod SpellShapes
-pub mod SpellTrees
-pub mod SpellSame
-pub mod Registers
-pub mod Bytes
-pub mod Answer
+mod Span
+mod Words
+mod Marks
+mod Here
+mod Codes
+mod Decimals
+mod Lexing
+mod Runs
+mod Walk
+mod Gen
+mod Machines
+mod Trees
+mod Rules
+mod Measures
+mod Depth
+mod SpellLists
+mod SpellWords
+mod SpellTokens
+mod SpellCodes
+mod SpellNames
+mod SpellNumbers
+mod SpellMeaning
+mod SpellTurn
+mod SpellShapes
+mod SpellTrees
+mod SpellSame
+mod Registers
+mod Judge
+mod Put
+mod Numbers
+mod Bytes
+mod Answer
+mod Does
+mod Tables
+mod Marked
+mod Close
+mod Conclude
+mod ReadText
+mod Drafts
+mod Numbered
+mod Filled
+mod TreeBytes
+mod ReadChecks
+mod ReadFrames
+mod ReadAnswers
+mod ReadExactly
+mod ReadPlaces
+mod KindBytes
+mod Stack
+mod Prefix
+mod Magnitudes
+mod Link
+mod Whole
+mod Fold
+mod Parse
+mod Accept
+mod PlaceFrames
+mod PlaceBytes
+mod Count
+mod Size
+mod Opening
+mod Exactly
+mod Facts
+mod Examples
+mod FrameExamples
+mod ReadExamples
 pub mod Laws
-pub mod Tables
-pub mod Marked
-pub mod Close
-pub mod Settle
-pub mod ReadText
-pub mod Drafts
-pub mod Numbered
-pub mod Filled
-pub mod TreeBytes
-pub mod ReadChecks
-pub mod ReadFrames
-pub mod ReadAnswers
-pub mod ReadExactly
-pub mod ReadPlaces
-pub mod KindBytes
-pub mod Stack
-pub mod Prefix
-pub mod Magnitudes
-pub mod Link
-pub mod Whole
-pub mod Fold
-pub mod Parse
-pub mod Accept
-pub mod PlaceFrames
-pub mod PlaceBytes
-pub mod Count
-pub mod Size
-pub mod Opening
-pub mod Exactly
-pub mod Facts
-pub mod Examples
-pub mod FrameExamples
-pub mod ReadExamples
 pub mod Main

@@ -1,10 +1,8 @@
 -- The machine's answer to a list of tokens says what the derivations say. Assumes nothing.
 use mathlib.Core.Path.{_≡_, refl, ap, sym, _∙_, subst}
-use mathlib.Core.Bool.{Bool, true, false}
 use mathlib.Core.List.{List, [], _∷_, _++_}
-use Prim.Native.Nat.{ℕ, zero, suc, _+_}
+use Prim.Native.Nat.{ℕ, _+_}
 use Rattle.rule.specs.declared.Token.{Token}
-use Rattle.rule.specs.declared.parts.Place.{Place}
 use Rattle.rule.specs.Grammar.{Word, place, wordOf, words}
 use Rattle.rule.specs.Machine.{Act, Sym, unit, ands, ors, arrow, factor, muls, adds, rel, want, name-of, names-of, ref-event, ref-index, ref-shift, ref-by, doing, Next, stuck, on, Answer, accepted, refused, resume, step, finish, run}
 use Rattle.rule.proofs.Gen.{Gen, done, does, relation, and-none, or-none, implies-none, add-none, mul-none, shift-none, name-none, some, Good, Fine, fine, Takes, complete}

@@ -4,19 +4,16 @@ use mathlib.Core.Logic.{_↔_}
 use mathlib.Core.List.{List}
 use Prim.Native.Nat.{ℕ, _≤_, _<_, zero-le}
 use lib.ListN.{length, getD}
-use Rattle.rule.specs.Class.{letter, digit, blank, classOf}
-use Rattle.rule.specs.Token.{endKind, nameKind, numberKind, eventsKind, notesKind, indexKind, absKind, eventsWord, notesWord, indexWord, absWord, wordKind, tokenAt, spelling, tokens}
+use Rattle.rule.specs.Class.{letter, digit, blank, classOf, Letters, OfClass}
+use Rattle.rule.specs.Token.{endKind, nameKind, numberKind, eventsKind, notesKind, indexKind, absKind, eventsWord, notesWord, indexWord, absWord, wordKind, tokenAt, spelling, tokens, IsWord, Rising}
 use Rattle.rule.specs.Name.{longName, nameCode}
-use Rattle.rule.specs.Number.{most, decimal, numberValue}
-use Rattle.rule.proofs.Codes.{Letters}
-use Rattle.rule.proofs.Lexing.{IsWord, Rising}
-use Rattle.rule.proofs.Runs.{OfClass}
+use Rattle.rule.specs.Number.{most, numberValue}
 use Rattle.rule.specs.Frames.{Bytes}
 use Rattle.rule.specs.Tree.{Limits, postfix, IsRule, references, parts, NoneExceeds}
 use Rattle.rule.specs.References.{referenceCount}
 use Rattle.rule.specs.Build.{treeOf}
-use Rattle.rule.specs.Check.{refused, checkedOf}
-use Rattle.rule.specs.Opening.{Whole, Place, Opening, Proper}
+use Rattle.rule.specs.Check.{checkedOf}
+use Rattle.rule.specs.Opening.{Whole, Place, Opening, Proper, refused}
 use Rattle.rule.specs.declared.Checked.{Checked}
 use Rattle.rule.specs.declared.Checked.the-variants.{Accepted}
 use Rattle.rule.proofs.Words as words
@@ -31,15 +28,15 @@ use Rattle.rule.proofs.Exactly
 use mathlib.Core.List.{[], List·Memᴰ}
 use Prim.Native.Nat.{_*_}
 use lib.ListN.{take}
-use Rattle.rule.specs.Limits.{frameBytes}
+use Rattle.rule.specs.Limits.{frameBytes, bufferBytes}
 use Rattle.rule.specs.Grammar.{Rule, yield, Wrong-at}
 use Rattle.rule.specs.Grammar.{words as spelled}
-use Rattle.rule.specs.Measure.{frames, Named, names, Sized, numbers}
-use Rattle.rule.specs.Memory.{letters}
-use Rattle.rule.specs.Spelling.{TokenOf, nameAt, numberAt}
-use Rattle.rule.specs.Reading.{bufferBytes, refusedAs, readOf}
+use Rattle.rule.specs.Measure.{Named, names, Sized, numbers}
+use Rattle.rule.specs.Draft.{frames}
+use Rattle.rule.specs.Spelling.{TokenOf, nameAt, numberAt, decimal, letters}
+use Rattle.rule.specs.Reading.{readOf}
 use Rattle.rule.specs.Meaning.{meaning}
-use Rattle.rule.specs.Answers.{Spelled, BadName, NamesGood, BadNumber, NumbersGood, Oversized, Within, ReadAs, Answered}
+use Rattle.rule.specs.Answers.{Spelled, BadName, NamesGood, BadNumber, NumbersGood, Oversized, Within, ReadAs, Answered, refusedAs}
 use Rattle.rule.specs.Answers as answers
 use Rattle.rule.specs.declared.Token.{Token}
 use Rattle.rule.specs.declared.Reading.the-variants as reading
@@ -141,6 +138,7 @@ reads-exactly = ReadExactly.reads-exactly
 pub read-tree : (text b : List ℕ) (n : ℕ) (s : List ℕ) → readOf text b ≡ (reading.Frames n, s) → (x : Rule) → yield x ≡ spelled (tokens text) → treeOf (take (n * frameBytes) s) ≡ meaning text x
 read-tree = ReadExactly.read-tree
 
+-- and each of their bytes is below 256
 pub read-bytes : (text b : List ℕ) (n : ℕ) (s : List ℕ) → readOf text b ≡ (reading.Frames n, s) → Bytes (take (n * frameBytes) s)
 read-bytes = ReadExactly.read-bytes
 

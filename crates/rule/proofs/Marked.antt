@@ -1,12 +1,12 @@
 -- The machine's steps at a sign and at a relation, by the kind of frame that the token stands for. Assumes nothing.
-use mathlib.Core.Path.{_≡_, refl, ap, sym, _∙_}
+use mathlib.Core.Path.{_≡_, refl}
 use mathlib.Core.Bool.{Bool, true, false, cond}
 use mathlib.Core.List.{List, _∷_}
 use Prim.Native.Nat.{ℕ}
 use native.Mathlib.Omega.{arith}
 use lib.Dec.{eqb}
 use Rattle.rule.specs.declared.parts.Place.{Place}
-use Rattle.rule.specs.Measure.{plain}
+use Rattle.rule.specs.Draft.{plain}
 use Rattle.rule.specs.Machine.{Act, out, Sym, adds, rel, doing, prod, sum, Next, stuck, on, step}
 use Rattle.rule.specs.Does.{signByte, relByte}
 

@@ -1,23 +1,18 @@
 -- What a register holds after the reading of a tree is that function of the tree. Assumes nothing.
 -- the part of a reading that concerns frames, names, numbers, depth
-use mathlib.Core.Path.{_≡_, refl, ap, sym, _∙_, subst}
+use mathlib.Core.Path.{_≡_, refl, sym, _∙_}
 use mathlib.Core.List.{List, [], _∷_, _++_, append-nil, append-assoc}
-use Prim.Native.Nat.{ℕ, _+_, max, min, _≤_}
-use mathlib.Core.Bool.{Bool, true, false, cond}
-use native.Mathlib.Omega.{arith}
-use lib.Dec.{ltb}
-use borrow.Author.Tests.{ltb-true, ltb-false}
+use Prim.Native.Nat.{ℕ, _+_, max}
+use mathlib.Core.Bool.{cond}
 use Rattle.rule.specs.declared.parts.Place.{Place}
 use Rattle.rule.specs.declared.parts.Role.{Role}
 use Rattle.rule.specs.declared.parts.Role.the-variants.{Event, Note}
-use Rattle.rule.specs.declared.parts.Limit.{Limit}
-use Rattle.rule.specs.declared.parts.Limit.the-variants.{OfLiteral, OfFactor, OfOffset}
-use Rattle.rule.specs.declared.parts.Scale.{Scale}
+use Rattle.rule.specs.declared.parts.Limit.the-variants.{OfFactor, OfOffset}
 use Rattle.rule.specs.declared.parts.Scale.the-variants.{Once, Times}
-use Rattle.rule.specs.declared.parts.Shift.{Shift}
 use Rattle.rule.specs.declared.parts.Shift.the-variants.{Unshifted, By}
-use Rattle.rule.specs.Grammar.{Index, index, Cond, a-disj, implies, Disj, a-conj, or, Conj, a-unit, and, CUnit, not, group, relation, Sum, a-prod, add, Prod, a-factor, multiply, Factor, literal, var, parens, absolute, reference, Rule, rule}
-use Rattle.rule.specs.Measure.{Draft, lit, index-var, ref, plain, signKind, relKind, Named, declared, used, Sized, sized-by, scaleNumbers, shiftNumbers, declares, framesCond, framesDisj, framesConj, framesUnit, framesSum, framesProd, framesFactor, frames, depthCond, depthDisj, depthConj, depthUnit, depthSum, depthProd, depthFactor, depth, namesCond, namesDisj, namesConj, namesUnit, namesSum, namesProd, namesFactor, names, numbersCond, numbersDisj, numbersConj, numbersUnit, numbersSum, numbersProd, numbersFactor, numbers}
+use Rattle.rule.specs.Grammar.{index, Cond, a-disj, implies, Disj, a-conj, or, Conj, a-unit, and, CUnit, not, group, relation, Sum, a-prod, add, Prod, a-factor, multiply, Factor, literal, var, parens, absolute, reference, Rule, rule}
+use Rattle.rule.specs.Measure.{Named, declared, used, Sized, sized-by, declares, depth, namesCond, namesDisj, namesConj, namesUnit, namesSum, namesProd, namesFactor, names, numbersCond, numbersDisj, numbersConj, numbersUnit, numbersSum, numbersProd, numbersFactor, numbers}
+use Rattle.rule.specs.Draft.{Draft, framesCond, framesDisj, framesConj, framesUnit, framesSum, framesProd, framesFactor, frames}
 use Rattle.rule.specs.Machine.{Act, declare, uses, sized, enter, out, deeper}
 use Rattle.rule.proofs.Walk.{readCond, readDisj, readConj, readUnit, readSum, readProd, readFactor, readNames, readRule}
 

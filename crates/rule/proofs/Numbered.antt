@@ -15,9 +15,11 @@ use Rattle.rule.specs.Limits.{factorLimit, offsetLimit, literalLimit}
 use Rattle.rule.specs.Name.{longName}
 use Rattle.rule.specs.Grammar
 use Rattle.rule.specs.Tree.{LimitsR}
-use Rattle.rule.specs.Measure.{Draft, plain, Named, declared, used, Sized, sized-by, scaleNumbers, shiftNumbers, frames, framesCond, framesDisj, framesConj, framesUnit, framesSum, framesProd, framesFactor, declares, names, namesCond, namesDisj, namesConj, namesUnit, namesSum, namesProd, namesFactor, numbers, numbersCond, numbersDisj, numbersConj, numbersUnit, numbersSum, numbersProd, numbersFactor}
-use Rattle.rule.specs.Judge.{same-role, room, among, beyond, codes, bad-name, spot, first-name, first-number}
-use Rattle.rule.specs.Memory.{position}
+use Rattle.rule.specs.Measure.{Named, declared, used, Sized, sized-by, scaleNumbers, shiftNumbers, declares, names, namesCond, namesDisj, namesConj, namesUnit, namesSum, namesProd, namesFactor, numbers, numbersCond, numbersDisj, numbersConj, numbersUnit, numbersSum, numbersProd, numbersFactor}
+use Rattle.rule.specs.Draft.{Draft, plain, frames, framesCond, framesDisj, framesConj, framesUnit, framesSum, framesProd, framesFactor}
+use Rattle.rule.specs.Spelling.{same-role, room, beyond}
+use Rattle.rule.proofs.Judge.{codes, bad-name, spot, first-name, first-number}
+use Rattle.rule.specs.Memory.{position, among}
 use Rattle.rule.specs.declared.parts.Place.{Place}
 use Rattle.rule.specs.declared.parts.Role.{Role}
 use Rattle.rule.specs.declared.parts.Role.the-variants.{Event, Note}

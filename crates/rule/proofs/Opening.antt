@@ -12,8 +12,8 @@ use Rattle.rule.specs.Tree.{IsRule, references, parts, NoneExceeds}
 use Rattle.rule.specs.References.{referenceCount}
 use Rattle.rule.specs.Order.{orderOf}
 use Rattle.rule.specs.Sizes.{sizesFit}
-use Rattle.rule.specs.Check.{refused, wholeFrames, afterOrder, checkedOf}
-use Rattle.rule.specs.Opening.{Whole, Opening, refused-9, refused-10, refused-7, refused-8, accepted}
+use Rattle.rule.specs.Check.{wholeFrames, afterOrder, checkedOf}
+use Rattle.rule.specs.Opening.{Whole, Opening, refused-9, refused-10, refused-7, refused-8, accepted, refused}
 use Rattle.rule.specs.declared.Checked.{Checked}
 use Rattle.rule.specs.declared.Checked.the-variants.{Accepted}
 use Rattle.rule.specs.declared.order.Ordered.{Ordered}

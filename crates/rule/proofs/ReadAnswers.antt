@@ -12,18 +12,20 @@ use lib.ListN.{length, take}
 use Rattle.rule.specs.Token.{tokens}
 use Rattle.rule.specs.Grammar.{Rule, yield, words, Wrong-at}
 use Rattle.rule.specs.Tree.{postfix}
-use Rattle.rule.specs.Measure.{frames, depth, names, numbers}
-use Rattle.rule.specs.Judge.{refused-by, read-as, first-name, first-number, after-number, after-name, verdict}
+use Rattle.rule.specs.Measure.{depth, names, numbers}
+use Rattle.rule.specs.Draft.{frames}
+use Rattle.rule.proofs.Judge.{refused-by, read-as, first-name, first-number, after-number, after-name, outcome}
 use Rattle.rule.specs.Memory.{codeAt, valueAt}
 use Rattle.rule.specs.Check.{checkedOf}
 use Rattle.rule.specs.Meaning.{meaning}
-use Rattle.rule.specs.Reading.{refusedAs, readOf, treeBytes}
-use Rattle.rule.specs.Answers.{Spelled, NamesGood, NumbersGood, Within, ReadAs, Answered, refused-1, refused-2, refused-3, refused-4, refused-5, refused-6, refused-7, refused-8, accepted}
+use Rattle.rule.specs.Reading.{readOf}
+use Rattle.rule.proofs.Put.{treeBytes}
+use Rattle.rule.specs.Answers.{Spelled, NamesGood, NumbersGood, Within, ReadAs, Answered, refused-1, refused-2, refused-3, refused-4, refused-5, refused-6, refused-7, refused-8, accepted, refusedAs}
 use Rattle.rule.specs.Answers as answers
 use Rattle.rule.specs.declared.Checked.{Checked}
 use Rattle.rule.specs.declared.Reading.{Reading}
 use Rattle.rule.specs.declared.parts.Place.{Place}
-use Rattle.rule.proofs.Settle.{one, two-none, two-many}
+use Rattle.rule.proofs.Conclude.{one, two-none, two-many}
 use Rattle.rule.proofs.ReadText.{outside, as-judged, either}
 use Rattle.rule.proofs.SpellSame.{first-name-same, first-number-same}
 use Rattle.rule.proofs.TreeBytes.{meaning-count}
@@ -36,7 +38,7 @@ module _ (text b : List ℕ) (fit : length b ≡ 512) (size : answers.Sized (len
     spelled : Spelled text x
     spelled = record { sized = size; spells = y }
 
-    judged : (k p : ℕ) → verdict (codeAt text) (valueAt text) x ≡ refused-by k p → (k ≡ 0 → ⊥) → readOf text b ≡ (refusedAs k p, b)
+    judged : (k p : ℕ) → outcome (codeAt text) (valueAt text) x ≡ refused-by k p → (k ≡ 0 → ⊥) → readOf text b ≡ (refusedAs k p, b)
     judged = as-judged text b fit (size .some-bytes) (size .few-bytes) x y
 
     back : (a : Reading × List ℕ) → readOf text b ≡ a → Answered text b a → Answered text b (readOf text b)
@@ -50,7 +52,7 @@ module _ (text b : List ℕ) (fit : length b ≡ 512) (size : answers.Sized (len
         back _ (tree-read text b fit (length (postfix (meaning text x))) _ r) (accepted fit r)
 
     by-six : NamesGood text x → NumbersGood text x
-        → verdict (codeAt text) (valueAt text) x ≡ cond (ltb 16 (depth x)) (refused-by 6 0) (cond (ltb 64 (length (frames x))) (refused-by 6 0) (read-as (frames x)))
+        → outcome (codeAt text) (valueAt text) x ≡ cond (ltb 16 (depth x)) (refused-by 6 0) (cond (ltb 64 (length (frames x))) (refused-by 6 0) (read-as (frames x)))
         → (q r : Bool) → ltb 16 (depth x) ≡ q → ltb 64 (length (frames x)) ≡ r → Answered text b (readOf text b)
     by-six e f v true r g h = back _ (judged 6 0 (v ∙ rw g) (λ z. omega arith)) (refused-6 fit spelled e f (inl (ltb-true 16 (depth x) g)))
     by-six e f v false true g h = back _ (judged 6 0 (v ∙ rw (g, h)) (λ z. omega arith)) (refused-6 fit spelled e f (inr (rw (meaning-count text x) (ltb-true 64 (length (frames x)) h))))
@@ -58,7 +60,7 @@ module _ (text b : List ℕ) (fit : length b ≡ 512) (size : answers.Sized (len
         let w : Within text x = record { spelled = spelled; names-good = e; numbers-good = f; shallow = ltb-false 16 (depth x) g; few-frames = rw (meaning-count text x) (ltb-false 64 (length (frames x)) h) } in
         by-check w (checkedOf (take (length (frames x) * 8) (treeBytes text x))) refl (checks text x w)
 
-    by-five : NamesGood text x → verdict (codeAt text) (valueAt text) x ≡ after-number (codeAt text) (valueAt text) x (first-number (codeAt text) (valueAt text) (numbers x))
+    by-five : NamesGood text x → outcome (codeAt text) (valueAt text) x ≡ after-number (codeAt text) (valueAt text) x (first-number (codeAt text) (valueAt text) (numbers x))
         → (o : Option Place) → first-number (codeAt text) (valueAt text) (numbers x) ≡ o → Answered text b (readOf text b)
     by-five e v (some q) f =
         back _ (judged 5 (q .start) (v ∙ ap (λ (o : Option Place). after-number (codeAt text) (valueAt text) x o) f) (λ z. omega arith))

@@ -11,10 +11,11 @@ use Rattle.rule.specs.Limits.{frameBytes}
 use Rattle.rule.specs.Frames.{Bytes}
 use Rattle.rule.specs.Grammar.{Rule}
 use Rattle.rule.specs.Tree.{Cond, IsRule, references, parts, NoneExceeds}
-use Rattle.rule.specs.Measure.{frames}
-use Rattle.rule.specs.Check.{refused, numberOf, checkedOf}
-use Rattle.rule.specs.Opening.{Whole, Place, Opening, refused-9, refused-10, refused-7, refused-8, accepted}
-use Rattle.rule.specs.Reading.{treeBytes}
+use Rattle.rule.specs.Draft.{frames}
+use Rattle.rule.specs.Check.{checkedOf}
+use Rattle.rule.proofs.Numbers.{numberOf}
+use Rattle.rule.specs.Opening.{Whole, Place, Opening, refused-9, refused-10, refused-7, refused-8, accepted, refused}
+use Rattle.rule.proofs.Put.{treeBytes}
 use Rattle.rule.specs.Answers.{Within}
 use Rattle.rule.specs.declared.Checked.{Checked}
 use Rattle.rule.specs.declared.Checked.the-variants.{Accepted}

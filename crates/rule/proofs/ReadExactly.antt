@@ -5,16 +5,17 @@ use mathlib.Core.List.{List, _++_}
 use Prim.Native.Nat.{ℕ, _-_, _*_}
 use native.Mathlib.Omega.{arith}
 use lib.ListN.{length, take, replicate}
-use Rattle.rule.specs.Limits.{frameBytes}
+use Rattle.rule.specs.Limits.{frameBytes, bufferBytes}
 use Rattle.rule.specs.Frames.{Bytes}
 use Rattle.rule.specs.Token.{tokens}
 use Rattle.rule.specs.Grammar.{Rule, yield, words}
 use Rattle.rule.specs.Tree.{postfix, bytesOf}
 use Rattle.rule.specs.Build.{treeOf}
-use Rattle.rule.specs.Measure.{frames}
+use Rattle.rule.specs.Draft.{frames}
 use Rattle.rule.specs.Meaning.{meaning}
-use Rattle.rule.specs.Reading.{bufferBytes, refusedAs, readOf, treeBytes}
-use Rattle.rule.specs.Answers.{ReadAs, Answered, refused-1, refused-2, refused-3, refused-4, refused-5, refused-6, refused-7, refused-8, accepted}
+use Rattle.rule.specs.Reading.{readOf}
+use Rattle.rule.proofs.Put.{treeBytes}
+use Rattle.rule.specs.Answers.{ReadAs, Answered, refused-1, refused-2, refused-3, refused-4, refused-5, refused-6, refused-7, refused-8, accepted, refusedAs}
 use Rattle.rule.specs.declared.Reading.{Reading}
 use Rattle.rule.specs.declared.Reading.the-variants as reading
 use Rattle.rule.proofs.Accept.{rule-bytes, tree-of}

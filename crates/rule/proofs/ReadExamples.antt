@@ -7,7 +7,8 @@ use Rattle.rule.specs.Class.{classOf, span}
 use Rattle.rule.specs.Token.{same, wordKind, markOf, markWidth, widthOf, tokenHere, tokenAt, tokensIn, tokensFrom}
 use Rattle.rule.specs.Token.{kindOf as tokenKind}
 use Rattle.rule.specs.Name.{code, nameCode}
-use Rattle.rule.specs.Number.{decimalFrom, decimal, numberValue}
+use Rattle.rule.specs.Number.{numberValue}
+use Rattle.rule.specs.Spelling.{decimalFrom, decimal}
 use Rattle.rule.specs.Machine.{deeper, startFactor, step, finish, run}
 use Rattle.rule.specs.Memory.{position, negated, put, acts}
 use Rattle.rule.specs.References.{referenceCount}
@@ -15,7 +16,8 @@ use Rattle.rule.specs.Order.{orderOf}
 use Rattle.rule.specs.Sizes.{sizesFit}
 use Rattle.rule.specs.Frames.{kindOf as frameKind}
 use Rattle.rule.specs.Check.{checkedOf}
-use Rattle.rule.specs.Reading.{refusedAs, judged, readOf}
+use Rattle.rule.specs.Reading.{judged, readOf}
+use Rattle.rule.specs.Answers.{refusedAs}
 use Rattle.rule.specs.declared.Reading.the-variants as reading
 
 abbrev zeros : List ℕ

@@ -9,13 +9,16 @@ use lib.ListN.{length, take, replicate}
 use borrow.Author.Tests.{le-ltb}
 use Rattle.rule.specs.Grammar.{Rule}
 use Rattle.rule.specs.Tree.{postfix, bytesOf}
-use Rattle.rule.specs.Measure.{frames, depth}
-use Rattle.rule.specs.Judge.{Verdict, read-as, telling, verdict}
+use Rattle.rule.specs.Measure.{depth}
+use Rattle.rule.specs.Draft.{frames}
+use Rattle.rule.proofs.Judge.{Outcome, read-as, telling, outcome}
 use Rattle.rule.specs.Memory.{Mem, fresh, told, codeAt, valueAt, acts}
-use Rattle.rule.specs.Check.{refused, checkedOf}
-use Rattle.rule.specs.Reading.{refusedAs, afterCheck, settled, readOf, treeBytes}
+use Rattle.rule.specs.Check.{checkedOf}
+use Rattle.rule.specs.Opening.{refused}
+use Rattle.rule.specs.Reading.{afterCheck, concluded, readOf}
+use Rattle.rule.proofs.Put.{treeBytes}
 use Rattle.rule.specs.Meaning.{meaning}
-use Rattle.rule.specs.Answers.{Within, ReadAs}
+use Rattle.rule.specs.Answers.{Within, ReadAs, refusedAs}
 use Rattle.rule.specs.declared.Checked.{Checked}
 use Rattle.rule.specs.declared.Checked.the-variants.{Accepted}
 use Rattle.rule.specs.declared.Reading.{Reading}
@@ -41,8 +44,8 @@ told-count m = go (eqb (m .name) 0) (eqb (m .number) 0) (m .deep) (ltb 64 (m .co
     go true true false true e = absurd (omega arith)
     go true true false false e = refl
 
-settled-frames : (b : List ℕ) (m : Mem) (n : ℕ) (s : List ℕ) → told m ≡ (0, n) → m .bytes ≡ s → (settled b m ≡ afterCheck b m (checkedOf (take (n * 8) s))) × (m .count ≡ n)
-settled-frames b m n s e f =
+concluded-frames : (b : List ℕ) (m : Mem) (n : ℕ) (s : List ℕ) → told m ≡ (0, n) → m .bytes ≡ s → (concluded b m ≡ afterCheck b m (checkedOf (take (n * 8) s))) × (m .count ≡ n)
+concluded-frames b m n s e f =
     let z : told m .0 ≡ 0 = ap (λ (q : ℕ × ℕ). q .0) e in
     let c : m .count ≡ n = sym (told-count m z) ∙ ap (λ (q : ℕ × ℕ). q .1) e in
     (subst (λ (q : ℕ × ℕ). cond (eqb (q .0) 0) (afterCheck b m (checkedOf (take (m .count * 8) (m .bytes)))) (refusedAs (q .0) (q .1), b) ≡ afterCheck b m (checkedOf (take (n * 8) s))) (sym e) (rw (c, f)), c)
@@ -56,12 +59,12 @@ module _ (text b : List ℕ) (fit : length b ≡ 512) where
     abbrev after : Mem
     after = readRule Mem (acts text) x (fresh (replicate 512 0))
 
-    judged-well : verdict (codeAt text) (valueAt text) x ≡ read-as (frames x)
+    judged-well : outcome (codeAt text) (valueAt text) x ≡ read-as (frames x)
     judged-well = rw (coded-names text x w, coded-numbers text x w, le-ltb 16 (depth x) (w .shallow), le-ltb 64 (length (frames x)) (few-frames text x w))
 
     told-tree : told after ≡ (0, length (frames x))
     unfolding acts
-    told-tree = told-right (codeAt text) (valueAt text) (replicate 512 0) x ∙ ap (λ (q : Verdict). telling q) judged-well
+    told-tree = told-right (codeAt text) (valueAt text) (replicate 512 0) x ∙ ap (λ (q : Outcome). telling q) judged-well
 
     bytes-tree : after .bytes ≡ treeBytes text x
     unfolding acts
@@ -70,7 +73,7 @@ module _ (text b : List ℕ) (fit : length b ≡ 512) where
     its-answer : (a : Checked) → checkedOf (take (length (frames x) * 8) (treeBytes text x)) ≡ a → readOf text b ≡ afterCheck b after a
     its-answer a q =
         in-grammar text b fit (w .spelled .sized .some-bytes) (w .spelled .sized .few-bytes) x (w .spelled .spells)
-        ∙ (settled-frames b after (length (frames x)) (treeBytes text x) told-tree bytes-tree .0 ∙ ap (λ (c : Checked). afterCheck b after c) q)
+        ∙ (concluded-frames b after (length (frames x)) (treeBytes text x) told-tree bytes-tree .0 ∙ ap (λ (c : Checked). afterCheck b after c) q)
 
     -- 7 or 8 of its frames
     pub tree-refused : (k p : ℕ) → checkedOf (take (length (frames x) * 8) (treeBytes text x)) ≡ refused k p → readOf text b ≡ (refusedAs k p, b)
@@ -79,7 +82,7 @@ module _ (text b : List ℕ) (fit : length b ≡ 512) where
     tree-accepted : checkedOf (take (length (frames x) * 8) (treeBytes text x)) ≡ Accepted → readOf text b ≡ (reading.Frames (length (frames x)), treeBytes text x)
     tree-accepted q =
         its-answer Accepted q
-        ∙ pairs (ap (λ (k : ℕ). reading.Frames k) (settled-frames b after (length (frames x)) (treeBytes text x) told-tree bytes-tree .1)) bytes-tree
+        ∙ pairs (ap (λ (k : ℕ). reading.Frames k) (concluded-frames b after (length (frames x)) (treeBytes text x) told-tree bytes-tree .1)) bytes-tree
 
   -- or accepted
   pub tree-read : (n : ℕ) (s : List ℕ) → ReadAs text n s → readOf text b ≡ (reading.Frames n, s)

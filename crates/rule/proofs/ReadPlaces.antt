@@ -11,12 +11,14 @@ use borrow.Author.Tests.{lt-ltb}
 use Rattle.rule.specs.Token.{tokens}
 use Rattle.rule.specs.Grammar.{Rule, Wrong-at}
 use Rattle.rule.specs.Tree.{references, parts, NoneExceeds}
-use Rattle.rule.specs.Measure.{frames, depth}
-use Rattle.rule.specs.Judge.{Verdict, refused-by, verdict}
+use Rattle.rule.specs.Measure.{depth}
+use Rattle.rule.specs.Draft.{frames}
+use Rattle.rule.proofs.Judge.{Outcome, refused-by, outcome}
 use Rattle.rule.specs.Memory.{codeAt, valueAt}
 use Rattle.rule.specs.Meaning.{meaning}
-use Rattle.rule.specs.Reading.{bufferBytes, refusedAs, readOf}
-use Rattle.rule.specs.Answers.{Spelled, BadName, NamesGood, BadNumber, NumbersGood, Oversized, Within, Answered, refused-1, refused-2, refused-3, refused-4, refused-5, refused-6, refused-7, refused-8, accepted}
+use Rattle.rule.specs.Reading.{readOf}
+use Rattle.rule.specs.Limits.{bufferBytes}
+use Rattle.rule.specs.Answers.{Spelled, BadName, NamesGood, BadNumber, NumbersGood, Oversized, Within, Answered, refused-1, refused-2, refused-3, refused-4, refused-5, refused-6, refused-7, refused-8, accepted, refusedAs}
 use Rattle.rule.specs.Answers as answers
 use Rattle.rule.specs.declared.Reading.{Reading}
 use Rattle.rule.specs.declared.Reading.the-variants as reading
@@ -80,7 +82,7 @@ module _ (text b : List ℕ) where
     place-3 s p = (said 3 p, λ w. ap (λ (z : Reading × List ℕ). z .0) (outside text b fit (s .some-bytes) (s .few-bytes) p w))
 
     module _ (x : Rule) (y : Spelled text x) where
-      judged : (k p : ℕ) → verdict (codeAt text) (valueAt text) x ≡ refused-by k p → (k ≡ 0 → ⊥) → readOf text b .0 ≡ refusedAs k p
+      judged : (k p : ℕ) → outcome (codeAt text) (valueAt text) x ≡ refused-by k p → (k ≡ 0 → ⊥) → readOf text b .0 ≡ refusedAs k p
       judged k p v ne = ap (λ (z : Reading × List ℕ). z .0) (as-judged text b fit (y .sized .some-bytes) (y .sized .few-bytes) x (y .spells) k p v ne)
 
       -- 4: the first bad name of the tree
@@ -92,11 +94,11 @@ module _ (text b : List ℕ) where
       place-5 p =
           (λ e. said 5 p e x y, λ (e, f). judged 5 p (rw (first-name-same text x (y .spells) ∙ e, first-number-same text x ∙ f .first, f .starts)) (λ z. omega arith))
 
-      over : NamesGood text x → NumbersGood text x → Oversized text x → verdict (codeAt text) (valueAt text) x ≡ refused-by 6 0
+      over : NamesGood text x → NumbersGood text x → Oversized text x → outcome (codeAt text) (valueAt text) x ≡ refused-by 6 0
       over e f (inl h) = rw (first-name-same text x (y .spells) ∙ e, first-number-same text x ∙ f, lt-ltb 16 (depth x) h)
       over e f (inr h) = rw (first-name-same text x (y .spells) ∙ e, first-number-same text x ∙ f, lt-ltb 64 (length (frames x)) (subst (λ (n : ℕ). 64 < n) (meaning-count text x) h)) (either-way (ltb 16 (depth x)))
         where
-          either-way : (q : Bool) → _≡_ {A = Verdict} (cond q (refused-by 6 0) (refused-by 6 0)) (refused-by 6 0)
+          either-way : (q : Bool) → _≡_ {A = Outcome} (cond q (refused-by 6 0) (refused-by 6 0)) (refused-by 6 0)
           either-way true = refl
           either-way false = refl
 

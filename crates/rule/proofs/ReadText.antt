@@ -1,34 +1,28 @@
 -- What `read` answers, in the words of the grammar: `readOf`, which its contract cites, and trees. Assumes nothing.
 use mathlib.Core.Path.{_≡_, refl, ap, sym, subst, _∙_}
-use mathlib.Core.Logic.{_↔_, _⊎_, inl, inr}
+use mathlib.Core.Logic.{_⊎_, inl, inr}
 use mathlib.Core.Bool.{Bool, true, false, cond}
 use mathlib.Core.List.{List}
-use mathlib.Core.Option.{none}
-use Prim.Native.Nat.{ℕ, _*_, _-_, _≤_, _<_}
-use native.Mathlib.Omega.{arith}
+use Prim.Native.Nat.{ℕ, _*_, _-_, _≤_}
 use lib.Dec.{ltb, eqb}
 use lib.ListN.{length, take, replicate}
 use borrow.Author.Tests.{ne-eqb}
 use Rattle.rule.specs.Token.{tokens}
 use Rattle.rule.specs.Grammar.{Rule, yield, words, Wrong-at}
-use Rattle.rule.specs.Machine.{start, Answer, accepted, refused, run}
-use Rattle.rule.specs.Judge.{Verdict, refused-by, telling, verdict}
-use Rattle.rule.specs.Memory.{Mem, fresh, told, codeAt, valueAt, remember, acts}
-use Rattle.rule.specs.Order.{orderOf}
-use Rattle.rule.specs.Sizes.{sizesFit}
-use Rattle.rule.specs.Check.{wholeFrames, afterOrder, checkedOf}
-use Rattle.rule.specs.Check as check
-use Rattle.rule.specs.Reading.{refusedAs, judged, afterCheck, settled, afterGrammar, readOf}
+use Rattle.rule.specs.Machine.{Answer, accepted, refused}
+use Rattle.rule.proofs.Judge.{Outcome, refused-by, telling, outcome}
+use Rattle.rule.specs.Memory.{Mem, fresh, told, codeAt, valueAt, acts}
+use Rattle.rule.specs.Check.{checkedOf}
+use Rattle.rule.specs.Reading.{judged, afterCheck, concluded, afterGrammar, readOf}
+use Rattle.rule.specs.Answers.{refusedAs}
 use Rattle.rule.specs.declared.Checked.{Checked}
 use Rattle.rule.specs.declared.Checked.the-variants.{Accepted, Refused}
 use Rattle.rule.specs.declared.Reading.{Reading}
 use Rattle.rule.specs.declared.Reading.the-variants as reading
-use Rattle.rule.specs.declared.order.Ordered.{Ordered}
-use Rattle.rule.specs.declared.order.Ordered.the-variants.{Fine, At}
 use Rattle.rule.proofs.Walk.{readRule}
 use Rattle.rule.proofs.Rules.{taken, sound, refused-at}
 use Rattle.rule.proofs.Registers.{told-right}
-use Rattle.rule.proofs.Settle.{three}
+use Rattle.rule.proofs.Conclude.{three}
 
 -- ---- for every text and every buffer
 -- frames that were read are frames that opening takes
@@ -40,15 +34,15 @@ opens-check : (b : List ℕ) (m : Mem) (a : Checked) → checkedOf (take (m .cou
 opens-check b m Accepted e = e
 opens-check b m (Refused r) e = tt
 
-opens-settled : (b : List ℕ) (m : Mem) → Opens (settled b m)
-opens-settled b m = go (eqb (told m .0) 0)
+opens-concluded : (b : List ℕ) (m : Mem) → Opens (concluded b m)
+opens-concluded b m = go (eqb (told m .0) 0)
   where
     go : (q : Bool) → Opens (cond q (afterCheck b m (checkedOf (take (m .count * 8) (m .bytes)))) (refusedAs (told m .0) (told m .1), b))
     go true = opens-check b m (checkedOf (take (m .count * 8) (m .bytes))) refl
     go false = tt
 
 opens-grammar : (b : List ℕ) (a : Answer Mem) → Opens (afterGrammar b a)
-opens-grammar b (accepted m) = opens-settled b m
+opens-grammar b (accepted m) = opens-concluded b m
 opens-grammar b (refused p) = tt
 
 opens : (text b : List ℕ) → Opens (readOf text b)
@@ -73,15 +67,15 @@ keeps-check : (b : List ℕ) (m : Mem) (a : Checked) → Keeps b (afterCheck b m
 keeps-check b m Accepted = tt
 keeps-check b m (Refused r) = refl
 
-keeps-settled : (b : List ℕ) (m : Mem) → Keeps b (settled b m)
-keeps-settled b m = go (eqb (told m .0) 0)
+keeps-concluded : (b : List ℕ) (m : Mem) → Keeps b (concluded b m)
+keeps-concluded b m = go (eqb (told m .0) 0)
   where
     go : (q : Bool) → Keeps b (cond q (afterCheck b m (checkedOf (take (m .count * 8) (m .bytes)))) (refusedAs (told m .0) (told m .1), b))
     go true = keeps-check b m (checkedOf (take (m .count * 8) (m .bytes)))
     go false = refl
 
 keeps-grammar : (b : List ℕ) (a : Answer Mem) → Keeps b (afterGrammar b a)
-keeps-grammar b (accepted m) = keeps-settled b m
+keeps-grammar b (accepted m) = keeps-concluded b m
 keeps-grammar b (refused p) = refl
 
 keeps : (text b : List ℕ) → Keeps b (readOf text b)
@@ -105,20 +99,20 @@ module _ (text b : List ℕ) (fit : length b ≡ 512) (some : length text ≡ 0 
   outside p w = three text b (refused p) fit some short (refused-at Mem (acts text) (length text) (fresh (replicate 512 0)) (tokens text) p .1 w)
 
   -- in the grammar: what the tree's registers say
-  pub in-grammar : (x : Rule) → yield x ≡ words (tokens text) → readOf text b ≡ settled b (readRule Mem (acts text) x (fresh (replicate 512 0)))
+  pub in-grammar : (x : Rule) → yield x ≡ words (tokens text) → readOf text b ≡ concluded b (readRule Mem (acts text) x (fresh (replicate 512 0)))
   unfolding judged
   in-grammar x e = three text b (accepted (readRule Mem (acts text) x (fresh (replicate 512 0)))) fit some short (taken Mem (acts text) (length text) (fresh (replicate 512 0)) x (tokens text) e)
 
-  told-tree : (x : Rule) → told (readRule Mem (acts text) x (fresh (replicate 512 0))) ≡ telling (verdict (codeAt text) (valueAt text) x)
+  told-tree : (x : Rule) → told (readRule Mem (acts text) x (fresh (replicate 512 0))) ≡ telling (outcome (codeAt text) (valueAt text) x)
   unfolding acts
   told-tree x = told-right (codeAt text) (valueAt text) (replicate 512 0) x
 
-  settled-refused : (m : Mem) (k p : ℕ) → told m ≡ (k, p) → (k ≡ 0 → ⊥) → settled b m ≡ (refusedAs k p, b)
-  settled-refused m k p e ne = subst (λ (q : ℕ × ℕ). cond (eqb (q .0) 0) (afterCheck b m (checkedOf (take (m .count * 8) (m .bytes)))) (refusedAs (q .0) (q .1), b) ≡ (refusedAs k p, b)) (sym e) (rw (ne-eqb k 0 ne))
+  concluded-refused : (m : Mem) (k p : ℕ) → told m ≡ (k, p) → (k ≡ 0 → ⊥) → concluded b m ≡ (refusedAs k p, b)
+  concluded-refused m k p e ne = subst (λ (q : ℕ × ℕ). cond (eqb (q .0) 0) (afterCheck b m (checkedOf (take (m .count * 8) (m .bytes)))) (refusedAs (q .0) (q .1), b) ≡ (refusedAs k p, b)) (sym e) (rw (ne-eqb k 0 ne))
 
   -- refusals 4, 5 and 6 of a tree, with their places
-  pub as-judged : (x : Rule) → yield x ≡ words (tokens text) → (k p : ℕ) → verdict (codeAt text) (valueAt text) x ≡ refused-by k p → (k ≡ 0 → ⊥) → readOf text b ≡ (refusedAs k p, b)
-  as-judged x e k p v ne = in-grammar x e ∙ settled-refused (readRule Mem (acts text) x (fresh (replicate 512 0))) k p (told-tree x ∙ ap (λ (q : Verdict). telling q) v) ne
+  pub as-judged : (x : Rule) → yield x ≡ words (tokens text) → (k p : ℕ) → outcome (codeAt text) (valueAt text) x ≡ refused-by k p → (k ≡ 0 → ⊥) → readOf text b ≡ (refusedAs k p, b)
+  as-judged x e k p v ne = in-grammar x e ∙ concluded-refused (readRule Mem (acts text) x (fresh (replicate 512 0))) k p (told-tree x ∙ ap (λ (q : Outcome). telling q) v) ne
 
   -- there is no third case
   pub either : ((x : Rule) × (yield x ≡ words (tokens text))) ⊎ ((p : ℕ) × Wrong-at (length text) (tokens text) p)

@@ -3,27 +3,27 @@
 use mathlib.Core.Path.{_≡_, refl, ap, sym, _∙_, subst}
 use mathlib.Core.List.{List, [], _∷_, _++_, append-nil, append-assoc}
 use mathlib.Core.Option.{Option, none, some}
-use Prim.Native.Nat.{ℕ, _+_, _-_, max, min, _≤_, _<_, _^_}
+use Prim.Native.Nat.{ℕ, _+_, _-_, max, min, _≤_, _<_}
 use mathlib.Core.Bool.{Bool, true, false, cond}
 use native.Mathlib.Omega.{arith}
 use lib.ListN.{length}
 use lib.Dec.{ltb, leb, eqb}
-use borrow.Author.Tests.{ltb-true, ltb-false, eqb-true, eqb-false, lt-ltb, le-ltb, ne-eqb}
+use borrow.Author.Tests.{ltb-true, ltb-false, lt-ltb, le-ltb, ne-eqb}
 use Rattle.rule.specs.declared.parts.Place.{Place}
 use Rattle.rule.specs.declared.parts.Role.{Role}
 use Rattle.rule.specs.declared.parts.Role.the-variants.{Event, Note}
 use Rattle.rule.specs.declared.parts.Limit.{Limit}
-use Rattle.rule.specs.declared.parts.Scale.{Scale}
 use Rattle.rule.specs.declared.parts.Scale.the-variants.{Once, Times}
-use Rattle.rule.specs.declared.parts.Shift.{Shift}
 use Rattle.rule.specs.declared.parts.Shift.the-variants.{Unshifted, By}
 use Rattle.rule.specs.Grammar.{Index, index, Cond, a-disj, implies, Disj, a-conj, or, Conj, a-unit, and, CUnit, not, group, relation, Sum, a-prod, add, Prod, a-factor, multiply, Factor, literal, var, parens, absolute, reference, Rule, rule}
-use Rattle.rule.specs.Measure.{Draft, Named, declared, used, Sized, sized-by, frames, depth, names, numbers}
+use Rattle.rule.specs.Measure.{Named, declared, used, Sized, sized-by, depth, names, numbers}
+use Rattle.rule.specs.Draft.{Draft, frames}
 use Rattle.rule.specs.Machine.{Act, declare, uses, sized, enter, out, deeper}
 use Rattle.rule.proofs.Walk.{readIndex, readCond, readDisj, readConj, readUnit, readSum, readProd, readFactor, readNames, readRule}
-use Rattle.rule.specs.Judge.{Verdict, refused-by, read-as, telling, after-number, after-name, verdict, same-role, room, among, codes, bad-name, spot, first-name, bad-number, first-number}
+use Rattle.rule.proofs.Judge.{refused-by, read-as, telling, after-number, after-name, outcome, codes, bad-name, spot, first-name, first-number}
+use Rattle.rule.specs.Spelling.{same-role, room}
 use Rattle.rule.specs.Name.{longName}
-use Rattle.rule.specs.Memory.{Mem, fresh, table, enlist, first, blame, misnamed, remember, told}
+use Rattle.rule.specs.Memory.{Mem, fresh, table, enlist, first, blame, misnamed, remember, told, among, bad-number}
 use Rattle.rule.proofs.Measures.{note-frame, note-name, note-number, note-depth, frames-read, names-read, numbers-read}
 use Rattle.rule.proofs.Depth.{depth-read}
 
@@ -312,5 +312,5 @@ module _ (code value : Place → ℕ) where
       pair a b = (a, b)
 
   -- the registers say what the tree says: refusals 4 to 6, in their order, and the number of frames.
-  pub told-right : (b₀ : List ℕ) (x : Rule) → told (readRule Mem (remember code value) x (fresh b₀)) ≡ telling (verdict code value x)
+  pub told-right : (b₀ : List ℕ) (x : Rule) → told (readRule Mem (remember code value) x (fresh b₀)) ≡ telling (outcome code value x)
   told-right b₀ x = after-four x (first-name code value [] (names x)) _ _ _ _ (names-listed b₀ x .first-is) (number-read b₀ x) (deep-read b₀ x) (count-read b₀ x)

@@ -1,14 +1,14 @@
 -- The machine of the reader accepts exactly what the trees of the grammar spell, and refuses at the right place. Assumes nothing.
-use mathlib.Core.Path.{_≡_, refl, ap, sym, _∙_, subst}
+use mathlib.Core.Path.{_≡_, sym, _∙_, subst}
 use mathlib.Core.Logic.{_↔_}
 use mathlib.Core.List.{List, [], _∷_, _++_}
 use Prim.Native.Nat.{ℕ}
 use Rattle.rule.specs.declared.Token.{Token}
-use Rattle.rule.specs.Grammar.{Word, Rule, yield, words, Is-rule, Begins-rule, Wrong-at}
-use Rattle.rule.specs.Machine.{Act, start, Answer, accepted, refused, step, startFactor, run}
+use Rattle.rule.specs.Grammar.{Word, Rule, yield, words, Begins-rule, Wrong-at}
+use Rattle.rule.specs.Machine.{Act, start, Answer, accepted, refused, run}
 use Rattle.rule.proofs.Walk.{readRule}
 use Rattle.rule.specs.Grammar
-use Rattle.rule.proofs.Gen.{Gen, Good, good-start}
+use Rattle.rule.proofs.Gen.{Gen, good-start}
 use Rattle.rule.proofs.Machines.{accepts, right, refuses, Begins, Says, Wrong}
 use Rattle.rule.proofs.Machines
 use Rattle.rule.proofs.Trees.{genRule, ruled}

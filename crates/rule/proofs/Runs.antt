@@ -10,17 +10,11 @@ use lib.Dec.{eqb, leb}
 use lib.ListN.{length, take, drop, getD, length-drop}
 use lib.Seq.{getD-drop}
 use Rattle.numbers.specs.Range.{between}
-use Rattle.rule.specs.Class.{letter, digit, blank, mark, foreign, isMarkByte, classOf, span}
-use Rattle.rule.specs.Token.{numberKind, wordKind, markOf, kindOf, widthOf, past, tokenHere, tokenAt, spelling}
+use Rattle.rule.specs.Class.{letter, digit, blank, mark, foreign, isMarkByte, classOf, span, OfClass, Letters}
+use Rattle.rule.specs.Token.{numberKind, wordKind, markOf, kindOf, widthOf, past, tokenHere, tokenAt, spelling, IsWord}
 use Rattle.rule.proofs.Span.{span-stops}
 use Rattle.rule.proofs.Marks.{mark-high}
-use Rattle.rule.proofs.Codes.{Letters}
-use Rattle.rule.proofs.Lexing.{IsWord, word-is, here}
-
--- every byte has the class c
-abbrev pub OfClass : ℕ → List ℕ → Type 0
-OfClass c [] = Unit
-OfClass c (b ∷ bs) = (classOf b ≡ c) × OfClass c bs
+use Rattle.rule.proofs.Lexing.{word-is, here}
 
 run-class : (c : ℕ) (bs : List ℕ) → OfClass c (take (span c bs) bs)
 unfolding span

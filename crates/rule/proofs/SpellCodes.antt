@@ -11,12 +11,13 @@ use Rattle.numbers.proofs.Bools.{true-false}
 use Rattle.rule.specs.Name.{longName, nameCode}
 use Rattle.rule.specs.Token.{same}
 use Rattle.rule.specs.Measure.{Named, declared, used}
-use Rattle.rule.specs.Judge.{same-role, among, codes}
-use Rattle.rule.specs.Memory.{letters, codeAt, valueAt, position}
+use Rattle.rule.proofs.Judge.{codes}
+use Rattle.rule.specs.Memory.{codeAt, valueAt, position, among}
 use Rattle.rule.specs.declared.parts.Role.{Role}
 use Rattle.rule.proofs.Words.{same-refl, same-eq}
-use Rattle.rule.proofs.Codes.{Letters, long-code, short-below, names-apart}
-use Rattle.rule.specs.Spelling.{amongWords, numberIn, wordsOf}
+use Rattle.rule.proofs.Codes.{long-code, short-below, names-apart}
+use Rattle.rule.specs.Class.{Letters}
+use Rattle.rule.specs.Spelling.{amongWords, numberIn, wordsOf, same-role, letters}
 use Rattle.rule.proofs.Drafts.{All}
 
 -- a word of at most 12 letters

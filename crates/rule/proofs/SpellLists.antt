@@ -1,7 +1,7 @@
 -- What holds of every member of a list. Assumes nothing.
 use mathlib.Core.Path.{_≡_, refl, ap, sym, subst, _∙_}
 use mathlib.Core.List.{List, [], _∷_, _++_, append-assoc, List·Memᴰ, List·Memᴰ·head, List·Memᴰ·tail}
-use Rattle.rule.specs.Memory.{each}
+use Rattle.rule.proofs.Put.{each}
 use Rattle.rule.proofs.Drafts.{each-append, All}
 
 module _ {A : Type 0} where

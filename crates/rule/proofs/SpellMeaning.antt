@@ -9,11 +9,10 @@ use Rattle.rule.specs.Frames.{Arithmetic, Connective}
 use Rattle.rule.specs.Grammar
 use Rattle.rule.specs.Tree
 use Rattle.rule.specs.Token.{tokens}
-use Rattle.rule.specs.Number.{decimal}
 use Rattle.rule.specs.Measure.{Named, declared, used, Sized, sized-by, scaleNumbers, shiftNumbers, declares, names, namesCond, namesDisj, namesConj, namesUnit, namesSum, namesProd, namesFactor, numbers, numbersCond, numbersDisj, numbersConj, numbersUnit, numbersSum, numbersProd, numbersFactor}
-use Rattle.rule.specs.Judge.{codes}
-use Rattle.rule.specs.Memory.{position, letters, codeAt, valueAt}
-use Rattle.rule.specs.Spelling.{nameAt, firstName, firstNumber, numberOfName}
+use Rattle.rule.proofs.Judge.{codes}
+use Rattle.rule.specs.Memory.{position, codeAt, valueAt}
+use Rattle.rule.specs.Spelling.{nameAt, firstName, firstNumber, numberOfName, decimal, letters}
 use Rattle.rule.specs.declared.parts.Place.{Place}
 use Rattle.rule.specs.declared.parts.Role.{Role}
 use Rattle.rule.specs.declared.parts.Role.the-variants.{Event, Note}

@@ -9,12 +9,13 @@ use borrow.Author.Tests.{ltb-true, ltb-false}
 use lib.Dec.{leb}
 use lib.ListN.{length}
 use Rattle.rule.specs.Measure.{Named, declared, used}
-use Rattle.rule.specs.Judge.{among, room, codes, bad-name, first-name}
-use Rattle.rule.specs.Memory.{letters, codeAt, valueAt, position}
+use Rattle.rule.proofs.Judge.{codes, bad-name, first-name}
+use Rattle.rule.specs.Memory.{codeAt, valueAt, position, among}
 use Rattle.rule.specs.declared.parts.Place.{Place}
 use Rattle.rule.specs.declared.parts.Role.{Role}
-use Rattle.rule.proofs.Codes.{Letters, long-code}
-use Rattle.rule.specs.Spelling.{nameAt, amongWords, numberIn, wordsOf, longAt, badName, firstName}
+use Rattle.rule.proofs.Codes.{long-code}
+use Rattle.rule.specs.Class.{Letters}
+use Rattle.rule.specs.Spelling.{nameAt, amongWords, numberIn, wordsOf, longAt, badName, firstName, room, letters}
 use Rattle.rule.proofs.Drafts.{All, all-join}
 use Rattle.rule.proofs.SpellLists.{all-map}
 use Rattle.rule.proofs.SpellCodes.{Short, ShortIn, long-same, count-same, among-same, long-absent, position-same}

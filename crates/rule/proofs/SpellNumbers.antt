@@ -7,14 +7,14 @@ use Prim.Native.Nat.{ℕ, _<_}
 use native.Mathlib.Omega.{arith}
 use borrow.Author.Tests.{eqb-true, eqb-false, eq-eqb, ne-eqb, lt-ltb, le-ltb, ltb-true, ltb-false}
 use lib.Dec.{eqb, ltb}
-use Rattle.rule.specs.Number.{decimal, most, numberValue}
+use Rattle.rule.specs.Number.{most, numberValue}
 use Rattle.rule.specs.Measure.{Sized, sized-by}
-use Rattle.rule.specs.Judge.{beyond, first-number}
-use Rattle.rule.specs.Memory.{letters, codeAt, valueAt}
+use Rattle.rule.proofs.Judge.{first-number}
+use Rattle.rule.specs.Memory.{codeAt, valueAt}
 use Rattle.rule.specs.declared.parts.Limit.{Limit}
 use Rattle.rule.specs.declared.parts.Limit.the-variants.{OfLiteral, OfFactor, OfOffset}
 use Rattle.rule.proofs.Decimals.{number-exact}
-use Rattle.rule.specs.Spelling.{numberAt, firstNumber}
+use Rattle.rule.specs.Spelling.{numberAt, firstNumber, decimal, beyond, letters}
 use Rattle.rule.proofs.Drafts.{All}
 
 over-same : (ds : List ℕ) (limit : ℕ) → limit < most → ltb limit (numberValue ds) ≡ ltb limit (decimal ds)

@@ -3,15 +3,13 @@
 use mathlib.Core.Path.{_≡_}
 use mathlib.Core.List.{List, [], List·Memᴰ}
 use Prim.Native.Nat.{ℕ}
-use Rattle.rule.specs.Class.{digit}
+use Rattle.rule.specs.Class.{digit, Letters, OfClass}
 use Rattle.rule.specs.Token.{nameKind, numberKind, tokens}
 use Rattle.rule.specs.Grammar.{Rule, yield, words}
 use Rattle.rule.specs.Measure.{Named, names, Sized, numbers}
-use Rattle.rule.specs.Judge.{first-name, first-number}
-use Rattle.rule.specs.Memory.{letters, codeAt, valueAt}
-use Rattle.rule.proofs.Codes.{Letters}
-use Rattle.rule.proofs.Runs.{OfClass}
-use Rattle.rule.specs.Spelling.{TokenOf, nameAt, numberAt, firstName, firstNumber}
+use Rattle.rule.proofs.Judge.{first-name, first-number}
+use Rattle.rule.specs.Memory.{codeAt, valueAt}
+use Rattle.rule.specs.Spelling.{TokenOf, nameAt, numberAt, firstName, firstNumber, letters}
 use Rattle.rule.proofs.SpellLists.{all-in}
 use Rattle.rule.proofs.SpellTokens
 use Rattle.rule.proofs.SpellNames

@@ -8,7 +8,7 @@ use Rattle.rule.specs.declared.Token.{Token}
 use Rattle.rule.specs.declared.parts.Sign.{Sign}
 use Rattle.rule.specs.declared.parts.Sign.the-variants.{Plus, Minus}
 use Rattle.rule.specs.Grammar.{Rel, equal, unequal, less, at-most, more, at-least, yield, words, index, Cond, a-disj, implies, Disj, a-conj, or, Conj, a-unit, and, CUnit, not, group, relation, Sum, a-prod, add, Prod, a-factor, multiply, Factor, literal, var, parens, absolute, reference, Rule, rule}
-use Rattle.rule.specs.Measure.{Draft, lit, index-var, ref, plain, relKind, signKind, framesCond, framesDisj, framesConj, framesUnit, framesSum, framesProd, framesFactor, frames}
+use Rattle.rule.specs.Draft.{Draft, lit, index-var, ref, plain, relKind, signKind, framesCond, framesDisj, framesConj, framesUnit, framesSum, framesProd, framesFactor, frames}
 use Rattle.rule.proofs.Rules.{alike}
 use Rattle.rule.proofs.Measures.{note-frame, frames-read}
 use Rattle.rule.proofs.SpellTurn.{turnCond, turnDisj, turnConj, turnUnit, turnSum, turnProd, turnFactor, turn, turnedTokens, spells-turned}

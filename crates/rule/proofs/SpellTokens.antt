@@ -6,17 +6,15 @@ use Prim.Native.Nat.{ℕ, zero, suc}
 use native.Mathlib.Omega.{arith}
 use borrow.Author.Tests.{eqb-true}
 use lib.Dec.{eqb}
-use Rattle.rule.specs.Class.{digit}
+use Rattle.rule.specs.Class.{digit, Letters, OfClass}
 use Rattle.rule.specs.Token.{endKind, nameKind, numberKind, tokenAt, spelling, tokensIn, tokensFrom, tokens}
 use Rattle.rule.specs.Grammar.{mark, name, number, place, words, Rule, yield}
 use Rattle.rule.specs.Measure.{names, numbers}
-use Rattle.rule.specs.Memory.{letters}
 use Rattle.rule.specs.declared.Token.{Token}
 use Rattle.rule.specs.declared.parts.Place.{Place}
-use Rattle.rule.proofs.Codes.{Letters}
-use Rattle.rule.proofs.Runs.{OfClass, word-letters, number-digits}
+use Rattle.rule.proofs.Runs.{word-letters, number-digits}
 use Rattle.rule.proofs.Runs as runs
-use Rattle.rule.specs.Spelling.{TokenOf, nameAt, numberAt}
+use Rattle.rule.specs.Spelling.{TokenOf, nameAt, numberAt, letters}
 use Rattle.rule.proofs.Drafts.{All}
 use Rattle.rule.proofs.SpellLists.{all-in, all-map, all-own, all-each}
 use Rattle.rule.proofs.SpellWords.{namesIn, numbersIn, names-spelled, numbers-spelled}

@@ -15,7 +15,8 @@ use Rattle.rule.specs.declared.parts.Scale.the-variants.{Once, Times}
 use Rattle.rule.specs.declared.parts.Shift.{Shift}
 use Rattle.rule.specs.declared.parts.Shift.the-variants.{Unshifted, By}
 use Rattle.rule.specs.Grammar.{Word, mark, Rel, equal, unequal, less, at-most, more, at-least, relMark, signMark, spellScale, spellShift, spellCond, spellDisj, spellConj, spellUnit, spellSum, spellProd, spellFactor, spellNames, yield, words, index, Cond, a-disj, implies, Disj, a-conj, or, Conj, a-unit, and, CUnit, not, group, relation, Sum, a-prod, add, Prod, a-factor, multiply, Factor, literal, var, parens, absolute, reference, Rule, rule}
-use Rattle.rule.specs.Measure.{relKind, signKind, depth}
+use Rattle.rule.specs.Measure.{depth}
+use Rattle.rule.specs.Draft.{relKind, signKind}
 use Rattle.rule.proofs.SpellShapes.{Shape, leaf, one, two, shapeCond, shapeDisj, shapeConj, shapeUnit, shapeSum, shapeProd, shapeFactor, shapeRule, shape-same}
 
 -- ---- the shape says which line of the grammar a part has: a lower number binds closer

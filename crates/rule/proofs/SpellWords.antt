@@ -3,7 +3,7 @@ use mathlib.Core.Path.{_≡_, refl, ap, _∙_}
 use mathlib.Core.List.{List, [], _∷_, _++_, append-nil}
 use Rattle.rule.specs.Grammar.{Word, mark, name, number, spellCond, spellDisj, spellConj, spellUnit, spellSum, spellProd, spellFactor, spellNames, yield, index, Cond, a-disj, implies, Disj, a-conj, or, Conj, a-unit, and, CUnit, not, group, relation, Sum, a-prod, add, Prod, a-factor, multiply, Factor, literal, var, parens, absolute, reference, Rule, rule}
 use Rattle.rule.specs.Measure.{declares, namesCond, namesDisj, namesConj, namesUnit, namesSum, namesProd, namesFactor, names, numbersCond, numbersDisj, numbersConj, numbersUnit, numbersSum, numbersProd, numbersFactor, numbers}
-use Rattle.rule.specs.Memory.{each}
+use Rattle.rule.proofs.Put.{each}
 use Rattle.rule.specs.declared.parts.Place.{Place}
 use Rattle.rule.specs.declared.parts.Role.{Role}
 use Rattle.rule.specs.declared.parts.Role.the-variants.{Event, Note}

@@ -10,8 +10,8 @@ use lib.Dec.{ltb, leb, eqb}
 use lib.ListN.{length, getD, set}
 use lib.Seq.{getD-set-same, getD-set-other}
 use Rattle.rule.specs.Name.{longName}
-use Rattle.rule.specs.Judge.{among, room}
-use Rattle.rule.specs.Memory.{position, table, enlist, listed, mem}
+use Rattle.rule.specs.Spelling.{room}
+use Rattle.rule.specs.Memory.{position, table, enlist, listed, mem, among}
 use Rattle.rule.specs.declared.parts.Role.{Role}
 use Rattle.rule.specs.declared.parts.Role.the-variants.{Event, Note}
 use Rattle.rule.specs.declared.memory.Tally.{Tally}

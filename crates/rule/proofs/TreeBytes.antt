@@ -10,15 +10,15 @@ use lib.Seq.{take-at}
 use mir.Syntax.{w32}
 use mir.Val.{ofZ}
 use Rattle.numbers.proofs.Ints.{natAbs-neg}
-use Rattle.rule.specs.Limits.{factorLimit, offsetLimit, frameLimit, frameBytes}
+use Rattle.rule.specs.Limits.{factorLimit, offsetLimit, frameLimit, frameBytes, bufferBytes}
 use Rattle.rule.specs.Grammar.{Rule}
 use Rattle.rule.specs.Tree.{Cond, Limits, postfix, bytesOf, IsRule}
-use Rattle.rule.specs.Measure.{Draft, lit, index-var, ref, plain, frames, names, numbers}
-use Rattle.rule.specs.Number.{decimal}
-use Rattle.rule.specs.Judge.{codes, first-name, first-number}
-use Rattle.rule.specs.Memory.{position, negated, each, factorOf, offsetOf, fields, letters, codeAt, valueAt}
-use Rattle.rule.specs.Spelling.{numberOfName}
-use Rattle.rule.specs.Reading.{bufferBytes, treeBytes}
+use Rattle.rule.specs.Measure.{names, numbers}
+use Rattle.rule.specs.Draft.{Draft, lit, index-var, ref, plain, frames}
+use Rattle.rule.proofs.Judge.{codes, first-name, first-number}
+use Rattle.rule.specs.Memory.{position, negated, factorOf, offsetOf, fields, codeAt, valueAt}
+use Rattle.rule.proofs.Put.{each, treeBytes}
+use Rattle.rule.specs.Spelling.{numberOfName, decimal, letters}
 use Rattle.rule.specs.Answers.{Within}
 use Rattle.rule.specs.declared.memory.Fields.{Fields}
 use Rattle.rule.specs.declared.parts.Place.{Place}

@@ -10,7 +10,7 @@ use Rattle.rule.specs.declared.parts.Scale.the-variants.{Once, Times}
 use Rattle.rule.specs.declared.parts.Shift.{Shift}
 use Rattle.rule.specs.declared.parts.Shift.the-variants.{Unshifted, By}
 use Rattle.rule.specs.Grammar.{Index, index, Cond, a-disj, implies, Disj, a-conj, or, Conj, a-unit, and, CUnit, not, group, relation, Sum, a-prod, add, Prod, a-factor, multiply, Factor, literal, var, parens, absolute, reference, Rule, rule}
-use Rattle.rule.specs.Measure.{lit, index-var, ref, plain, signKind, relKind}
+use Rattle.rule.specs.Draft.{lit, index-var, ref, plain, signKind, relKind}
 use Rattle.rule.specs.Machine.{Act, declare, uses, sized, enter, out, deeper}
 
 -- What reading a tree at depth d does to a memory.

@@ -6,7 +6,7 @@ use mathlib.Core.List.{List, [], _++_}
 use mathlib.Core.Option.{none, some}
 use Prim.Native.Nat.{ℕ, _-_, _*_, _≤_, _<_}
 use lib.ListN.{length, replicate}
-use Rattle.rule.specs.Limits.{frameLimit, frameBytes}
+use Rattle.rule.specs.Limits.{frameLimit, frameBytes, bufferBytes}
 use Rattle.rule.specs.ReadLimits.{textLimit, depthLimit}
 use Rattle.rule.specs.Token.{tokens}
 use Rattle.rule.specs.Grammar.{Rule, yield, words, Wrong-at}
@@ -14,10 +14,13 @@ use Rattle.rule.specs.Tree.{postfix, bytesOf, references, parts, NoneExc
 use Rattle.rule.specs.Measure.{depth, names, numbers}
 use Rattle.rule.specs.Spelling.{firstName, firstNumber}
 use Rattle.rule.specs.Meaning.{meaning}
-use Rattle.rule.specs.Reading.{bufferBytes, refusedAs}
 use Rattle.rule.specs.declared.Reading.{Reading}
 use Rattle.rule.specs.declared.Reading.the-variants as reading
 use Rattle.rule.specs.declared.parts.Place.{Place}
+
+-- "A refusal returns its number and place (0 if none is named)"
+abbrev pub refusedAs : ℕ → ℕ → Reading
+refusedAs k p = reading.Refused (record { number = k; place = p })
 
 -- "The text has 1 to 1,024 bytes"
 pub record Sized (n : ℕ) : Type 0 where
@@ -75,10 +78,15 @@ pub record ReadAs (text : List ℕ) (n : ℕ) (s : List ℕ) : Type 0 where
 pub data Answered (text b : List ℕ) : Reading × List ℕ → Type 0 where
   refused-1 : (length b ≡ bufferBytes → ⊥) → Answered text b (refusedAs 1 0, b)
   refused-2 : length b ≡ bufferBytes → (Sized (length text) → ⊥) → Answered text b (refusedAs 2 0, b)
-  refused-3 : {p : ℕ} → length b ≡ bufferBytes → Sized (length text) → Wrong-at (length text) (tokens text) p → Answered text b (refusedAs 3 p, b)
+  refused-3 : {p : ℕ} → length b ≡ bufferBytes → Sized (length text) → Wrong-at (length text) (tokens text) p
+      → Answered text b (refusedAs 3 p, b)
   refused-4 : {x : Rule} {p : ℕ} → length b ≡ bufferBytes → Spelled text x → BadName text x p → Answered text b (refusedAs 4 p, b)
-  refused-5 : {x : Rule} {p : ℕ} → length b ≡ bufferBytes → Spelled text x → NamesGood text x → BadNumber text x p → Answered text b (refusedAs 5 p, b)
-  refused-6 : {x : Rule} → length b ≡ bufferBytes → Spelled text x → NamesGood text x → NumbersGood text x → Oversized text x → Answered text b (refusedAs 6 0, b)
-  refused-7 : {x : Rule} → length b ≡ bufferBytes → Within text x → references (meaning text x) ≡ [] → Answered text b (refusedAs 7 0, b)
-  refused-8 : {x : Rule} → length b ≡ bufferBytes → Within text x → (references (meaning text x) ≡ [] → ⊥) → (NoneExceeds (parts (meaning text x)) → ⊥) → Answered text b (refusedAs 8 0, b)
+  refused-5 : {x : Rule} {p : ℕ} → length b ≡ bufferBytes → Spelled text x → NamesGood text x → BadNumber text x p
+      → Answered text b (refusedAs 5 p, b)
+  refused-6 : {x : Rule} → length b ≡ bufferBytes → Spelled text x → NamesGood text x → NumbersGood text x → Oversized text x
+      → Answered text b (refusedAs 6 0, b)
+  refused-7 : {x : Rule} → length b ≡ bufferBytes → Within text x → references (meaning text x) ≡ []
+      → Answered text b (refusedAs 7 0, b)
+  refused-8 : {x : Rule} → length b ≡ bufferBytes → Within text x → (references (meaning text x) ≡ [] → ⊥) → (NoneExceeds (parts (meaning text x)) → ⊥)
+      → Answered text b (refusedAs 8 0, b)
   accepted : {n : ℕ} {s : List ℕ} → length b ≡ bufferBytes → ReadAs text n s → Answered text b (reading.Frames n, s)

@@ -12,12 +12,14 @@ use Rattle.rule.specs.declared.Frame.{Frame}
 pub data Trees : Type 0 where
   trees : List Cond → List Sum → Trees
 
--- what is on top of a stack, one or two, becomes one
+-- what is on top of a stack becomes one
 module _ {A : Type 0} where
+  -- one
   abbrev pub top1 : (A → A) → List A → List A
   top1 f [] = []
   top1 f (a ∷ r) = f a ∷ r
 
+  -- two
   abbrev pub top2 : (A → A → A) → List A → List A
   top2 f [] = []
   top2 f (b ∷ []) = b ∷ []

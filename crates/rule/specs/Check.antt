@@ -6,25 +6,13 @@ use Prim.Native.Nat.{ℕ, _*_, _%_}
 use lib.Dec.{leb, eqb}
 use lib.ListN.{length}
 use Rattle.rule.specs.Limits.{frameLimit, frameBytes}
+use Rattle.rule.specs.Opening.{refused}
 use Rattle.rule.specs.Order.{orderOf}
 use Rattle.rule.specs.Sizes.{sizesFit}
 use Rattle.rule.specs.declared.Checked.{Checked}
-use Rattle.rule.specs.declared.Checked.the-variants.{Accepted, Refused}
+use Rattle.rule.specs.declared.Checked.the-variants.{Accepted}
 use Rattle.rule.specs.declared.order.Ordered.{Ordered}
 use Rattle.rule.specs.declared.order.Ordered.the-variants.{Fine, At}
-
--- "A refusal returns its number and place (0 if none is named)"
-abbrev pub refused : ℕ → ℕ → Checked
-refused n p = Refused (record { number = n; place = p })
-
--- the document's number of an answer, 0 for none, and its place
-abbrev pub numberOf : Checked → ℕ
-numberOf Accepted = 0
-numberOf (Refused r) = r .number
-
-abbrev pub placeOf : Checked → ℕ
-placeOf Accepted = 0
-placeOf (Refused r) = r .place
 
 -- 9: "the frames' length isn't 8 to 512 in steps of 8"
 abbrev pub wholeFrames : ℕ → Bool

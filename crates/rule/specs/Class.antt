@@ -1,5 +1,6 @@
 -- Byte classes, from 'From rule text to frames' of document 01. Assumes nothing: definitions.
-use Prim.Native.Nat.{ℕ, suc}
+use Prim.Native.Nat.{ℕ, suc, _≤_}
+use mathlib.Core.Path.{_≡_}
 use mathlib.Core.Bool.{Bool, false, _||_, cond}
 use mathlib.Core.List.{List, [], _∷_}
 use lib.Dec.{eqb}
@@ -46,3 +47,13 @@ classOf b =
 unfoldable pub span : ℕ → List ℕ → ℕ
 span c [] = 0
 span c (b ∷ bs) = cond (eqb (classOf b) c) (suc (span c bs)) 0
+
+-- every byte has the class c
+abbrev pub OfClass : ℕ → List ℕ → Type 0
+OfClass c [] = Unit
+OfClass c (b ∷ bs) = (classOf b ≡ c) × OfClass c bs
+
+-- every byte is a "lower-case letter", a to z
+abbrev pub Letters : List ℕ → Type 0
+Letters [] = Unit
+Letters (b ∷ bs) = (97 ≤ b) × (b ≤ 122) × Letters bs

@@ -42,18 +42,21 @@ pub record Inside (n : ℕ) (p : Place) : Type 0 where
   pub some : p .start < p .end
   pub ends : p .end ≤ n
 
+-- of the number in a factor of i, if there is one
 abbrev pub InsideScale : ℕ → Scale → Type 0
 InsideScale n Once = Unit
 InsideScale n (Times p) = Inside n p
 
+-- and in an offset
 abbrev pub InsideShift : ℕ → Shift → Type 0
 InsideShift n Unshifted = Unit
 InsideShift n (By g p) = Inside n p
 
--- the kind of frame that a token stands for, 0 for none: of "+" and "-", and of the relations
+-- the kind of frame that a token stands for, 0 for none: of "+" and "-"
 unfoldable pub signByte : ℕ → ℕ
 signByte k = cond (eqb k plusMark) (kindByte (Kind.arithmetic Arithmetic.add)) (cond (eqb k minusMark) (kindByte (Kind.arithmetic Arithmetic.subtract)) 0)
 
+-- and of the relations
 unfoldable pub relByte : ℕ → ℕ
 relByte k =
     cond (eqb k equalMark) (kindByte (Kind.relation Relation.equal))

@@ -99,7 +99,8 @@ mutual
     a-factor : Factor → Prod
     multiply : Prod → Factor → Prod
 
-  -- factor: number, "i", "(" sum ")", "abs" "(" sum ")", or reference: name "(" name "[" index "]" ")", the note first, then the event
+  -- factor: number, "i", "(" sum ")", "abs" "(" sum ")", or reference: name "(" name "[" index "]" ")", the note first, then the
+  -- event
   pub data Factor : Type 0 where
     literal : Place → Factor
     var : Factor
@@ -117,6 +118,7 @@ pub data Word : Type 0 where
   mark : ℕ → Word
   name number : Place → Word
 
+-- rel: `= != < <= > >=`
 abbrev pub relMark : Rel → ℕ
 relMark equal = equalMark
 relMark unequal = unequalKind
@@ -125,22 +127,26 @@ relMark at-most = atMostKind
 relMark more = moreMark
 relMark at-least = atLeastKind
 
+-- "+" or "-"
 abbrev pub signMark : Sign → ℕ
 signMark Plus = plusMark
 signMark Minus = minusMark
 
--- each function: the words of the tree, and then r
+-- each function: the words of the tree, and then r; [number "*"]
 abbrev pub spellScale : Scale → List Word → List Word
 spellScale Once r = r
 spellScale (Times p) r = number p ∷ mark star ∷ r
 
+-- [("+" or "-") number]
 abbrev pub spellShift : Shift → List Word → List Word
 spellShift Unshifted r = r
 spellShift (By g p) r = mark (signMark g) ∷ number p ∷ r
 
+-- index: [number "*"] "i" [("+" or "-") number]
 abbrev pub spellIndex : Index → List Word → List Word
 spellIndex (index f o) r = spellScale f (mark indexKind ∷ spellShift o r)
 
+-- conditions and sums, "words and marks quoted"
 abbrev mutual
   pub spellCond : Cond → List Word → List Word
   spellCond (a-disj x) r = spellDisj x r
@@ -174,24 +180,30 @@ abbrev mutual
   spellFactor (absolute x) r = mark absKind ∷ mark openParen ∷ spellSum x (mark closeParen ∷ r)
   spellFactor (reference n e x) r = name n ∷ mark openParen ∷ name e ∷ mark openBracket ∷ spellIndex x (mark closeBracket ∷ mark closeParen ∷ r)
 
+-- {name}
 abbrev pub spellNames : List Place → List Word → List Word
 spellNames [] r = r
 spellNames (p ∷ ps) r = name p ∷ spellNames ps r
 
+-- rule: "events" name {name} ";" "notes" name {name} ";" cond
 abbrev pub spellRule : Rule → List Word → List Word
 spellRule (rule e es n ns c) r =
     mark eventsKind ∷ name e ∷ spellNames es (mark semicolon ∷ mark notesKind ∷ name n ∷ spellNames ns (mark semicolon ∷ spellCond c r))
 
+-- the words of a rule, and nothing after
 abbrev pub yield : Rule → List Word
 yield x = spellRule x []
 
 -- ---- what tokens spell
+-- where a token stands
 abbrev pub place : Token → Place
 place t = record { start = t .start; end = t .end }
 
+-- a token as a word: names and numbers by their places, all others by their kind
 abbrev pub wordOf : ℕ → Place → Word
 wordOf k p = cond (eqb k nameKind) (name p) (cond (eqb k numberKind) (number p) (mark k))
 
+-- of all tokens
 abbrev pub words : List Token → List Word
 words [] = []
 words (t ∷ ts) = wordOf (t .kind) (place t) ∷ words ts

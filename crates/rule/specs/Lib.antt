@@ -1,8 +1,6 @@
 -- What a buyer reads, in the document's order: text and its tokens, the grammar, frames and trees, what a text means, the answers.
 pub mod Class
 pub mod Token
-pub mod Name
-pub mod Number
 pub mod Limits
 pub mod ReadLimits
 pub mod Grammar
@@ -11,11 +9,14 @@ pub mod Spelling
 pub mod Frames
 pub mod Tree
 pub mod Meaning
+pub mod Told
 pub mod Opening
 pub mod Answers
 -- What the contracts of the code are said by; the theorems in proofs/Main tie it to the definitions above.
+pub mod Draft
+pub mod Name
+pub mod Number
 pub mod Machine
-pub mod Judge
 pub mod Memory
 pub mod Does
 pub mod References

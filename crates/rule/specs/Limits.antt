@@ -1,6 +1,6 @@
 -- The limits of a rule's frames, each named once. From document 01, "From rule text to frames".
 -- Assumes nothing: definitions.
-use Prim.Native.Nat.{ℕ, _^_}
+use Prim.Native.Nat.{ℕ, _*_, _^_}
 
 -- events are numbered from 0, at most 8
 abbrev pub eventLimit : ℕ
@@ -29,6 +29,10 @@ frameLimit = 64
 -- a frame has 8 bytes
 abbrev pub frameBytes : ℕ
 frameBytes = 8
+
+-- "a lent buffer of exactly 512 bytes"
+abbrev pub bufferBytes : ℕ
+bufferBytes = frameLimit * frameBytes
 
 -- the magnitude of i
 abbrev pub instanceMagnitude : ℕ

@@ -18,9 +18,8 @@ use Rattle.rule.specs.declared.parts.Sign.{Sign}
 use Rattle.rule.specs.declared.parts.Sign.the-variants.{Plus, Minus}
 use Rattle.rule.specs.declared.parts.Scale.{Scale}
 use Rattle.rule.specs.declared.parts.Scale.the-variants.{Once, Times}
-use Rattle.rule.specs.declared.parts.Shift.{Shift}
 use Rattle.rule.specs.declared.parts.Shift.the-variants.{Unshifted, By}
-use Rattle.rule.specs.Measure.{Draft, lit, index-var, ref, alone}
+use Rattle.rule.specs.Draft.{Draft, lit, index-var, ref, alone}
 
 -- what reading does, in the order of the text
 pub data Act : Type 0 where
@@ -39,18 +38,23 @@ pub data Sym : Type 0 where
   ref-by : Place → Place → Scale → Sign → Sym
   doing : Act → Sym
 
+-- prod: factor {"*" factor}, and then s
 abbrev pub prod : ℕ → List Sym → List Sym
 prod d s = factor d ∷ muls d ∷ s
 
+-- sum: prod {("+" or "-") prod}
 abbrev pub sum : ℕ → List Sym → List Sym
 sum d s = factor d ∷ muls d ∷ adds d ∷ s
 
+-- conj: unit {"&&" unit}
 abbrev pub conj : ℕ → List Sym → List Sym
 conj d s = unit d ∷ ands d ∷ s
 
+-- cond: disj ["->" cond]; disj: conj {"||" conj}
 abbrev pub condition : ℕ → List Sym → List Sym
 condition d s = unit d ∷ ands d ∷ ors d ∷ arrow d ∷ s
 
+-- rule: "events" name {name} ";" "notes" name {name} ";" cond
 abbrev pub start : List Sym
 start = want eventsKind ∷ name-of Event ∷ names-of Event ∷ want semicolon ∷ want notesKind ∷ name-of Note ∷ names-of Note ∷ want semicolon ∷ condition 0 []
 
@@ -58,19 +62,23 @@ start = want eventsKind ∷ name-of Event ∷ names-of Event ∷ want semicolon 
 unfoldable pub deeper : ℕ → ℕ
 deeper d = cond (leb d depthLimit) (d + 1) d
 
+-- what a token leaves: no rule begins so, or what is to come, and the memory
 pub data Next (M : Type 0) : Type 0 where
   stuck : Next M
   on : List Sym → M → Next M
 
+-- the memory after a text of the grammar, or the place of refusal 3
 pub data Answer (M : Type 0) : Type 0 where
   accepted : M → Answer M
   refused : ℕ → Answer M
 
+-- on after a token at p
 abbrev pub resume : {M : Type 0} → Next M → ℕ → (List Sym → M → Answer M) → Answer M
 resume stuck p k = refused p
 resume (on s m) p k = k s m
 
 module _ (M : Type 0) (act : Act → M → M) where
+  -- factor: number, "i", "(" sum ")", "abs" "(" sum ")", or reference
   unfoldable pub startFactor : ℕ → M → ℕ → Place → List Sym → Next M
   startFactor d m k p s =
       cond (eqb k numberKind) (on s (act (out (lit p)) (act (sized OfLiteral p) m)))

@@ -6,9 +6,7 @@ use lib.IntN.{ℤ, pos, negℤ}
 use Rattle.rule.specs.Frames.{Arithmetic, Relation, Connective}
 use Rattle.rule.specs.Grammar
 use Rattle.rule.specs.Tree
-use Rattle.rule.specs.Number.{decimal}
-use Rattle.rule.specs.Memory.{letters}
-use Rattle.rule.specs.Spelling.{numberOfName}
+use Rattle.rule.specs.Spelling.{numberOfName, decimal, letters}
 use Rattle.rule.specs.declared.parts.Place.{Place}
 use Rattle.rule.specs.declared.parts.Role.the-variants.{Event, Note}
 use Rattle.rule.specs.declared.parts.Sign.{Sign}

@@ -2,15 +2,16 @@
 use Prim.Native.Nat.{ℕ, zero, suc, _+_, _-_, _*_, _/_, _%_, min}
 use mathlib.Core.Bool.{Bool, true, false, cond}
 use mathlib.Core.List.{List, [], _∷_, _++_}
-use lib.ListN.{length, take, drop, getD, set}
+use lib.ListN.{length, getD, set}
 use lib.Dec.{ltb, leb, eqb}
 use Rattle.rule.specs.Limits.{eventLimit, noteLimit, frameLimit, frameBytes}
 use Rattle.rule.specs.ReadLimits.{depthLimit}
 use Rattle.rule.specs.Frames.{Source, Kind, kindByte}
 use Rattle.rule.specs.Name.{longName, nameCode}
 use Rattle.rule.specs.Number.{numberValue}
-use Rattle.rule.specs.Measure.{Draft, lit, index-var, ref, plain, sized-by}
-use Rattle.rule.specs.Judge.{among, room, bad-number}
+use Rattle.rule.specs.Measure.{Sized, sized-by}
+use Rattle.rule.specs.Draft.{Draft, lit, index-var, ref, plain}
+use Rattle.rule.specs.Spelling.{letters, room, beyond}
 use Rattle.rule.specs.Machine.{Act, declare, uses, sized, enter, out}
 use Rattle.rule.specs.declared.parts.Place.{Place}
 use Rattle.rule.specs.declared.parts.Role.{Role}
@@ -23,6 +24,7 @@ use Rattle.rule.specs.declared.parts.Shift.the-variants.{Unshifted, By}
 use Rattle.rule.specs.declared.memory.Tally.{Tally}
 use Rattle.rule.specs.declared.memory.Fields.{Fields}
 
+-- frames so far, at most 65; whether a depth was over 16; the first bad number and the first bad name; the names declared; the bytes
 pub record Mem : Type 0 where
   pub count : ℕ
   pub deep : Bool
@@ -32,22 +34,32 @@ pub record Mem : Type 0 where
   pub notes : List ℕ
   pub bytes : List ℕ
 
+-- before the text, with the bytes b
 abbrev pub fresh : List ℕ → Mem
 fresh b = record { count = 0; deep = false; number = 0; name = 0; events = []; notes = []; bytes = b }
 
+-- the names declared in a role
 abbrev pub table : Role → Mem → List ℕ
 table Event m = m .events
 table Note m = m .notes
 
+-- one name more, "numbered from 0 as declared"
 abbrev pub enlist : Role → ℕ → Mem → Mem
 enlist Event c m = record { count = m .count; deep = m .deep; number = m .number; name = m .name; events = m .events ++ c ∷ []; notes = m .notes; bytes = m .bytes }
 enlist Note c m = record { count = m .count; deep = m .deep; number = m .number; name = m .name; events = m .events; notes = m .notes ++ c ∷ []; bytes = m .bytes }
 
+-- "place the first": a place is kept if there was none
 abbrev pub first : ℕ → Place → ℕ
 first z p = cond (eqb z 0) (p .start + 1) z
 
+-- a bad name at p
 abbrev pub blame : Place → Mem → Mem
 blame p m = record { count = m .count; deep = m .deep; number = m .number; name = first (m .name) p; events = m .events; notes = m .notes; bytes = m .bytes }
+
+-- c is one of the list
+abbrev pub among : ℕ → List ℕ → Bool
+among c [] = false
+among c (x ∷ xs) = cond (eqb c x) true (among c xs)
 
 -- ---- a frame's bytes
 -- the number of the first name that has the number c, counted from 0; how many there are if none has
@@ -74,25 +86,18 @@ put b k f =
     (k * frameBytes + 7) (f .word % 256))
     b
 
--- frames put one after the other, from place k on
-abbrev pub fill : ℕ → List Fields → List ℕ → List ℕ
-fill k [] b = b
-fill k (f ∷ fs) b = fill (k + 1) fs (put b k f)
-
-abbrev pub each : {A B : Type 0} → (A → B) → List A → List B
-each g [] = []
-each g (x ∷ xs) = g x ∷ each g xs
-
 -- a frame is counted, up to 65, and put
 abbrev pub written : Fields → Mem → Mem
 written f m =
     record { count = cond (ltb (m .count) frameLimit) (m .count + 1) (suc frameLimit); deep = m .deep; number = m .number; name = m .name; events = m .events; notes = m .notes; bytes = put (m .bytes) (m .count) f }
 
 module _ (code value : Place → ℕ) where
+  -- the factor of i, "1 if absent"; a frame has a byte for it
   abbrev pub factorOf : Scale → ℕ
   factorOf Once = 1
   factorOf (Times p) = value p % 256
 
+  -- the offset, as a word of 32 bits
   abbrev pub offsetOf : Shift → ℕ
   offsetOf Unshifted = 0
   offsetOf (By Plus p) = value p
@@ -105,13 +110,19 @@ module _ (code value : Place → ℕ) where
   fields E N (ref n e f o) = record { kind = kindByte (Kind.operand Source.reference); event = position (code e) E; note = position (code n) N; factor = factorOf f; word = offsetOf o }
   fields E N (plain k) = record { kind = k; event = 0; note = 0; factor = 0; word = 0 }
 
+  -- 5: "a number beyond its limit"
+  abbrev pub bad-number : Sized → Bool
+  bad-number (sized-by l p) = beyond l (value p)
+
+  -- 4, of a name that is declared: "over 12 letters, twice in its list, a 9th event, a 5th note"
   abbrev pub misnamed : Role → Place → Mem → Bool
   misnamed r p m = cond (leb longName (code p)) true (cond (among (code p) (table r m)) true (leb (room r) (length (table r m))))
 
+  -- what each act does
   abbrev pub remember : Act → Mem → Mem
   remember (declare r p) m = cond (misnamed r p m) (blame p m) (enlist r (code p) m)
   remember (uses r p) m = cond (among (code p) (table r m)) m (blame p m)
-  remember (sized b p) m = record { count = m .count; deep = m .deep; number = cond (bad-number code value (sized-by b p)) (first (m .number) p) (m .number); name = m .name; events = m .events; notes = m .notes; bytes = m .bytes }
+  remember (sized b p) m = record { count = m .count; deep = m .deep; number = cond (bad-number (sized-by b p)) (first (m .number) p) (m .number); name = m .name; events = m .events; notes = m .notes; bytes = m .bytes }
   remember (enter d) m = record { count = m .count; deep = cond (ltb depthLimit d) true (m .deep); number = m .number; name = m .name; events = m .events; notes = m .notes; bytes = m .bytes }
   remember (out f) m = written (fields (m .events) (m .notes) f) m
 
@@ -125,15 +136,15 @@ told m =
     (4, m .name - 1)
 
 -- ---- over a text
-abbrev pub letters : List ℕ → Place → List ℕ
-letters text p = take (p .end - p .start) (drop (p .start) text)
-
+-- the number of the name at p
 abbrev pub codeAt : List ℕ → Place → ℕ
 codeAt text p = nameCode (letters text p)
 
+-- the value of the number at p
 abbrev pub valueAt : List ℕ → Place → ℕ
 valueAt text p = numberValue (letters text p)
 
+-- what each act does, by the text's letters and digits
 unfoldable pub acts : List ℕ → Act → Mem → Mem
 acts text = remember (codeAt text) (valueAt text)
 
@@ -142,6 +153,7 @@ unfoldable pub listed : List ℕ → ℕ → ℕ → List ℕ
 listed tb from zero = []
 listed tb from (suc n) = getD tb from 0 ∷ listed tb (suc from) n
 
+-- the memory that the registers t, the table tb and the buffer b are
 unfoldable pub mem : Tally → List ℕ → List ℕ → Mem
 mem t tb b =
     record { count = t .count; deep = t .deep; number = t .number; name = t .name; events = listed tb 0 (min eventLimit (t .events)); notes = listed tb eventLimit (min noteLimit (t .notes)); bytes = b }

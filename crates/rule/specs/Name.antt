@@ -1,13 +1,10 @@
--- Names, "of at most 12 letters", as numbers. Assumes nothing: definitions.
+-- Names as numbers, by which the reader compares them. Assumes nothing: definitions.
 use Prim.Native.Nat.{ℕ, _+_, _-_, _*_}
 use mathlib.Core.Bool.{cond}
 use mathlib.Core.List.{List, [], _∷_}
 use lib.Dec.{leb}
 use lib.ListN.{length}
-
--- "names of at most 12 letters"
-abbrev pub nameLetters : ℕ
-nameLetters = 12
+use Rattle.rule.specs.ReadLimits.{nameLetters}
 
 -- the letters are digits 1 to 26 to the base 27, the first letter the lowest
 unfoldable pub code : List ℕ → ℕ

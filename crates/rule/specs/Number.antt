@@ -1,14 +1,7 @@
--- The value of a number, for the limits of refusal 5. Assumes nothing: definitions.
-use Prim.Native.Nat.{ℕ, _+_, _-_, _*_, min}
-use mathlib.Core.List.{List, [], _∷_}
-
--- the decimal value of a run of digits, v being the value of those before
-unfoldable pub decimalFrom : ℕ → List ℕ → ℕ
-decimalFrom v [] = v
-decimalFrom v (b ∷ bs) = decimalFrom (v * 10 + (b - 48)) bs
-
-unfoldable pub decimal : List ℕ → ℕ
-decimal bs = decimalFrom 0 bs
+-- The value of a number as the reader keeps it, for the limits of refusal 5. Assumes nothing: definitions.
+use Prim.Native.Nat.{ℕ, min}
+use mathlib.Core.List.{List}
+use Rattle.rule.specs.Spelling.{decimal}
 
 -- above every limit of refusal 5 (9; 9,999; 2,147,483,647)
 abbrev pub most : ℕ

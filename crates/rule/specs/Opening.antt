@@ -6,9 +6,12 @@ use Prim.Native.Nat.{ℕ, suc, _*_, _%_, _≤_, _<_}
 use lib.ListN.{length, take}
 use Rattle.rule.specs.Limits.{frameLimit, frameBytes}
 use Rattle.rule.specs.Tree.{Cond, Limits, postfix, bytesOf, IsRule, references, parts, NoneExceeds}
-use Rattle.rule.specs.Check.{refused}
 use Rattle.rule.specs.declared.Checked.{Checked}
-use Rattle.rule.specs.declared.Checked.the-variants.{Accepted}
+use Rattle.rule.specs.declared.Checked.the-variants.{Accepted, Refused}
+
+-- "A refusal returns its number and place (0 if none is named)"
+abbrev pub refused : ℕ → ℕ → Checked
+refused n p = Refused (record { number = n; place = p })
 
 -- "8 to 512 in steps of 8"
 pub record Whole (n : ℕ) : Type 0 where
@@ -33,8 +36,10 @@ pub data Opening (s : List ℕ) : Checked → Type 0 where
   refused-9 : (Whole (length s) → ⊥) → Opening s (refused 9 0)
   refused-10 : {p : ℕ} → Whole (length s) → Place s p → Opening s (refused 10 p)
   refused-7 : Whole (length s) → (r : IsRule s) → references (r .tree) ≡ [] → Opening s (refused 7 0)
-  refused-8 : Whole (length s) → (r : IsRule s) → (references (r .tree) ≡ [] → ⊥) → (NoneExceeds (parts (r .tree)) → ⊥) → Opening s (refused 8 0)
-  accepted : Whole (length s) → (r : IsRule s) → (references (r .tree) ≡ [] → ⊥) → NoneExceeds (parts (r .tree)) → Opening s Accepted
+  refused-8 : Whole (length s) → (r : IsRule s) → (references (r .tree) ≡ [] → ⊥) → (NoneExceeds (parts (r .tree)) → ⊥)
+      → Opening s (refused 8 0)
+  accepted : Whole (length s) → (r : IsRule s) → (references (r .tree) ≡ [] → ⊥) → NoneExceeds (parts (r .tree))
+      → Opening s Accepted
 
 -- frames that opening takes: of a tree within the limits, at most 64, with a reference, no magnitude over 2^62
 pub record Proper (s : List ℕ) : Type 0 where

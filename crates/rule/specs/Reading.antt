@@ -5,15 +5,12 @@ use mathlib.Core.Bool.{false, cond}
 use mathlib.Core.List.{List}
 use lib.Dec.{ltb, eqb}
 use lib.ListN.{length, take, replicate}
-use Rattle.rule.specs.Limits.{frameLimit, frameBytes}
+use Rattle.rule.specs.Limits.{frameBytes, bufferBytes}
 use Rattle.rule.specs.ReadLimits.{textLimit}
 use Rattle.rule.specs.Token.{tokens}
 use Rattle.rule.specs.Machine.{start, Answer, accepted, refused, run}
-use Rattle.rule.specs.Memory.{Mem, fresh, told, fill, each, fields, codeAt, valueAt, acts, mem}
-use Rattle.rule.specs.Grammar.{Rule}
-use Rattle.rule.specs.Measure.{frames, names}
-use Rattle.rule.specs.Judge.{codes}
-use Rattle.rule.specs.declared.parts.Role.the-variants.{Event, Note}
+use Rattle.rule.specs.Answers.{refusedAs}
+use Rattle.rule.specs.Memory.{Mem, fresh, told, acts, mem}
 use Rattle.rule.specs.Check.{checkedOf}
 use Rattle.rule.specs.declared.Checked.{Checked}
 use Rattle.rule.specs.declared.Checked.the-variants.{Accepted, Refused}
@@ -22,13 +19,6 @@ use Rattle.rule.specs.declared.Reading.the-variants as reading
 use Rattle.rule.specs.declared.memory.Tally.{Tally}
 use Rattle.rule.specs.declared.memory.Step.{Step}
 use Rattle.rule.specs.declared.memory.Step.the-variants.{Go, No}
-
--- "a lent buffer of exactly 512 bytes"
-abbrev pub bufferBytes : ℕ
-bufferBytes = frameLimit * frameBytes
-
-abbrev pub refusedAs : ℕ → ℕ → Reading
-refusedAs k p = reading.Refused (record { number = k; place = p })
 
 -- the machine's answer to the whole text, with all bytes zero at first
 unfoldable pub judged : List ℕ → Answer Mem
@@ -39,14 +29,14 @@ abbrev pub afterCheck : List ℕ → Mem → Checked → Reading × List ℕ
 afterCheck b m Accepted = (reading.Frames (m .count), m .bytes)
 afterCheck b m (Refused r) = (reading.Refused r, b)
 
--- 4 to 6, then 7 and 8; "on refusal nothing is changed", else the buffer holds the frames, and zero after the last
-abbrev pub settled : List ℕ → Mem → Reading × List ℕ
-settled b m = cond (eqb (told m .0) 0) (afterCheck b m (checkedOf (take (m .count * frameBytes) (m .bytes)))) (refusedAs (told m .0) (told m .1), b)
+-- 4 to 6, then 7 and 8; a refusal "changes nothing", else the buffer holds the frames, and zero after the last
+abbrev pub concluded : List ℕ → Mem → Reading × List ℕ
+concluded b m = cond (eqb (told m .0) 0) (afterCheck b m (checkedOf (take (m .count * frameBytes) (m .bytes)))) (refusedAs (told m .0) (told m .1), b)
 
 -- 3, then the rest
 abbrev pub afterGrammar : List ℕ → Answer Mem → Reading × List ℕ
 afterGrammar b (refused p) = (refusedAs 3 p, b)
-afterGrammar b (accepted m) = settled b m
+afterGrammar b (accepted m) = concluded b m
 
 -- 1: "the frame buffer isn't 512 bytes", 2: "the text has 0 or over 1,024 bytes", then the rest: the answer, and the buffer b then
 unfoldable pub readOf : List ℕ → List ℕ → Reading × List ℕ
@@ -56,11 +46,6 @@ readOf text b =
     (cond (ltb textLimit (length text)) (refusedAs 2 0, b)
     (afterGrammar b (judged text))))
     (refusedAs 1 0, b)
-
--- ---- for the theorems: the bytes of a tree's frames, with its names looked up among those that it declares, and zero after the last
-abbrev pub treeBytes : List ℕ → Rule → List ℕ
-treeBytes text x =
-    fill 0 (each (fields (codeAt text) (valueAt text) (codes (codeAt text) (valueAt text) Event (names x)) (codes (codeAt text) (valueAt text) Note (names x))) (frames x)) (replicate bufferBytes 0)
 
 -- ---- for the code's own contracts
 -- the registers at first

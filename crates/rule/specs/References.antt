@@ -1,7 +1,7 @@
 -- The references of frames, and a pass that looks at references only.
 -- From document 01, "From rule text to frames". Assumes nothing: definitions.
 use mathlib.Core.Bool.{cond}
-use mathlib.Core.List.{List, [], _∷_}
+use mathlib.Core.List.{List}
 use Prim.Native.Nat.{ℕ, zero, suc, _+_}
 use lib.Dec.{eqb}
 use Rattle.rule.specs.Frames.{Source, Kind, kindByte, frameAt, frameCount}
@@ -17,11 +17,6 @@ abbrev pub referenceOf : Frame → Reference
 referenceOf x = record { event = x .event; note = x .note; factor = x .factor; offset = x .value }
 
 module _ {S : Type 0} (f : Reference → S → S) where
-  -- over a rule's references, in frame order
-  abbrev pub overReferences : List Reference → S → S
-  overReferences [] z = z
-  overReferences (r ∷ rs) z = overReferences rs (f r z)
-
   -- over the references among the first i frames
   abbrev pub referencesTo : List ℕ → S → ℕ → S
   referencesTo s z zero = z

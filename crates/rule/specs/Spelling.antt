@@ -1,23 +1,55 @@
 -- Refusals 4 and 5 by letters and by decimal value, and the number of a name by letters: the words of document 01, "What is
--- turned down" and "From rule text to frames". proofs/SpellSame: Judge's codes and values say the same. Assumes nothing: definitions.
-use Prim.Native.Nat.{ℕ, suc}
+-- turned down" and "From rule text to frames". proofs/SpellSame: the numbers of names and the capped values that
+-- the reader compares say the same. Assumes nothing: definitions.
+use Prim.Native.Nat.{ℕ, suc, _+_, _-_, _*_}
 use mathlib.Core.Path.{_≡_}
 use mathlib.Core.Bool.{Bool, true, false, cond}
 use mathlib.Core.Option.{Option, none, some}
 use mathlib.Core.List.{List, [], _∷_, _++_, List·Memᴰ}
-use lib.ListN.{length}
-use lib.Dec.{ltb, leb}
-use Rattle.rule.specs.Name.{nameLetters}
-use Rattle.rule.specs.Number.{decimal}
+use lib.ListN.{length, take, drop}
+use lib.Dec.{ltb, leb, eqb}
+use Rattle.rule.specs.ReadLimits.{nameLetters}
 use Rattle.rule.specs.Token.{same, tokens}
 use Rattle.rule.specs.Grammar.{Rule, place}
 use Rattle.rule.specs.Measure.{Named, declared, used, names, Sized, sized-by}
-use Rattle.rule.specs.Judge.{same-role, room, beyond}
-use Rattle.rule.specs.Memory.{letters}
+use Rattle.rule.specs.Limits.{eventLimit, noteLimit, factorLimit, offsetLimit, literalLimit}
 use Rattle.rule.specs.declared.Token.{Token}
 use Rattle.rule.specs.declared.parts.Place.{Place}
 use Rattle.rule.specs.declared.parts.Role.{Role}
 use Rattle.rule.specs.declared.parts.Role.the-variants.{Event, Note}
+use Rattle.rule.specs.declared.parts.Limit.{Limit}
+use Rattle.rule.specs.declared.parts.Limit.the-variants.{OfLiteral, OfFactor, OfOffset}
+
+-- the bytes at a place of the text
+abbrev pub letters : List ℕ → Place → List ℕ
+letters text p = take (p .end - p .start) (drop (p .start) text)
+
+-- the decimal value of a run of digits, v being the value of those before
+unfoldable pub decimalFrom : ℕ → List ℕ → ℕ
+decimalFrom v [] = v
+decimalFrom v (b ∷ bs) = decimalFrom (v * 10 + (b - 48)) bs
+
+-- the decimal value of a number
+unfoldable pub decimal : List ℕ → ℕ
+decimal bs = decimalFrom 0 bs
+
+-- "Events and notes are numbered from 0 as declared, at most 8 and 4"
+abbrev pub room : Role → ℕ
+room Event = eventLimit
+room Note = noteLimit
+
+-- "The factor of i is 1 to 9 .., the offset −9,999 to 9,999, a literal at most 2,147,483,647": beyond it
+abbrev pub beyond : Limit → ℕ → Bool
+beyond OfLiteral v = ltb literalLimit v
+beyond OfFactor v = cond (eqb v 0) true (ltb factorLimit v)
+beyond OfOffset v = ltb offsetLimit v
+
+-- "in its list", "in its role": one role, or two
+abbrev pub same-role : Role → Role → Bool
+same-role Event Event = true
+same-role Event Note = false
+same-role Note Event = false
+same-role Note Note = true
 
 -- p is the place of a token of the text, of kind k
 pub record TokenOf (text : List ℕ) (k : ℕ) (p : Place) : Type 0 where

@@ -1,5 +1,6 @@
 -- The tokens of a text, from 'From rule text to frames' of document 01. Assumes nothing: definitions.
-use Prim.Native.Nat.{ℕ, zero, suc, _+_, _-_}
+use Prim.Native.Nat.{ℕ, zero, suc, _+_, _-_, _≤_, _<_}
+use mathlib.Core.Path.{_≡_}
 use mathlib.Core.Bool.{Bool, true, false, _&&_, cond}
 use mathlib.Core.List.{List, [], _∷_}
 use lib.ListN.{length, getD, take, drop}
@@ -84,6 +85,10 @@ wordKind w =
     (cond (same w indexWord) indexKind
     (cond (same w absWord) absKind nameKind)))
 
+-- a word's kind: that of a name, or of a reserved word
+abbrev pub IsWord : ℕ → Type 0
+IsWord k = (0 < k) × (k ≤ absKind) × (k ≡ numberKind → ⊥)
+
 -- the quoted marks of two bytes, -> || && != <= >=; 0 where the two bytes are none
 abbrev pub twoByteMark : ℕ → ℕ → ℕ
 twoByteMark b n =
@@ -150,3 +155,8 @@ tokensFrom text at = tokensIn (length text - at) text at
 -- a text's tokens
 abbrev pub tokens : List ℕ → List Token
 tokens text = tokensFrom text 0
+
+-- places rise from lo on, up to hi: a token has a byte at least, and ends before the next one begins
+abbrev pub Rising : ℕ → ℕ → List Token → Type 0
+Rising lo hi [] = lo ≤ hi
+Rising lo hi (t ∷ ts) = (lo ≤ t .start) × (t .start < t .end) × Rising (t .end) hi ts

@@ -97,7 +97,7 @@ references (relation r a b) = referencesS a ++ referencesS b
 references (not p) = references p
 references (connective j p q) = references p ++ references q
 
--- ---- magnitude, the document's word for what a sum's value can be at most
+-- ---- magnitude, the document's word for a bound on a sum's value
 -- "add and subtract sum both sides', multiply multiplies"
 abbrev pub grown : Arithmetic → ℕ → ℕ → ℕ
 grown add m n = m + n

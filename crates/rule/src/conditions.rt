@@ -1,4 +1,4 @@
-// Readers of conditions: cond, disj, conj and unit. Each takes its part off the machine's stack.
+// Readers of conditions: cond, disj, conj and unit. Each takes its part off the stack of specs/Machine.
 use crate::emit::emit_kind;
 use crate::memory::Step;
 use crate::memory::Tally;

@@ -1,4 +1,5 @@
 // Frames go out to a buffer of 64 frames of 8 bytes.
+use crate::frames::FRAME_BYTES;
 use crate::lookup::lookup;
 use crate::memory::Fields;
 use crate::memory::Tally;
@@ -15,7 +16,7 @@ ghost use mathlib.Core.Path.{_≡_};
 ghost use mathlib.Core.List.{List};
 ghost use Prim.Native.Nat.{ℕ};
 ghost use lib.ListN.{length};
-ghost use Rattle.rule.specs.Measure.{lit, index-var, ref, plain};
+ghost use Rattle.rule.specs.Draft.{lit, index-var, ref, plain};
 ghost use Rattle.rule.specs.Machine.{out, sized};
 ghost use Rattle.rule.specs.Memory.{codeAt, valueAt, factorOf, offsetOf, negated, written, acts, mem};
 ghost use Rattle.rule.specs.Does.{Inside, InsideScale, InsideShift};
@@ -34,7 +35,7 @@ fn emit(buf: &mut [u8; 512], m: Tally, f: Fields) -> Tally
 {
     let n = m.count;
     if n < FRAMES {
-        let p = n * 8;
+        let p = n * FRAME_BYTES;
         let w = f.word;
         buf[p] = f.kind;
         buf[p + 1] = f.event;

@@ -1,4 +1,4 @@
-// Readers of the declarations. Each takes its part off the machine's stack.
+// Readers of the declarations. Each takes its part off the stack of specs/Machine.
 use crate::lookup::declare;
 use crate::memory::Step;
 use crate::memory::Tally;

@@ -1,16 +1,16 @@
 // Rules: text, tokens, frames and their checks. Nothing here knows of logs.
-pub mod classes;
-pub mod conditions;
-pub mod emit;
-pub mod header;
-pub mod lookup;
-pub mod memory;
-pub mod names;
-pub mod numerals;
-pub mod parts;
-pub mod reader;
-pub mod sums;
-pub mod tokens;
+mod classes; // classes.rt: the class of a byte
+mod tokens; // tokens.rt: the next token of a text
+mod parts; // parts.rt: what the grammar's readers hand on
+mod names; // names.rt: names as numbers
+mod numerals; // numerals.rt: the value of a run of digits
+mod memory; // memory.rt: what the reader remembers; refusals 5 and 6
+mod lookup; // lookup.rt: declared names; refusal 4
+mod emit; // emit.rt: a frame is put into the buffer
+mod sums; // sums.rt: readers of sums and references
+mod conditions; // conditions.rt: readers of conditions
+mod header; // header.rt: readers of the declarations
+mod reader; // reader.rt: the reader of a whole rule; refusals 1 to 8
 mod frames; // frames.rt: a frame's fields
 mod order; // order.rt: refusal 10, and how many references there are
 mod sizes; // sizes.rt: refusal 8
@@ -21,7 +21,9 @@ use order::Ordered;
 pub use order::reference_count;
 pub use reader::read;
 ghost use mathlib.Core.Path.{_≡_};
-ghost use Rattle.rule.specs.Check.{wholeFrames, refused, checkedOf};
+ghost use Rattle.rule.specs.Check.{wholeFrames, checkedOf};
+ghost use Rattle.rule.specs.Told.{checkTold};
+ghost use Rattle.rule.specs.Opening.{refused};
 
 // A refusal: document 01's number, and its place, 0 where none is named.
 pub struct Refusal {
@@ -76,6 +78,7 @@ fn refuse(number: u8, place: u32) -> Checked
 // What opening checks of frames, whatever the bytes are: 9, 10, 7 and 8, in this order.
 pub fn check(frames: &[u8]) -> Checked
     ensures { λ r. ⌜ r ≡ checkedOf (now (frames .entry)) ⌝ }
+    ensures { λ r. ⌜ checkTold r ≡ checkTold (checkedOf (now (frames .entry))) ⌝ }
 {
     if whole_frames(frames.len()) {
         let found = order::order(frames);

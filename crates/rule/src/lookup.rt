@@ -12,9 +12,9 @@ ghost use Prim.Native.Nat.{ℕ, _+_, _≤_, min};
 ghost use lib.Dec.{leb};
 ghost use lib.ListN.{length};
 ghost use Rattle.rule.specs.Name.{longName};
-ghost use Rattle.rule.specs.Judge.{among, room};
+ghost use Rattle.rule.specs.Spelling.{room};
 ghost use Rattle.rule.specs.Machine.{declare, uses};
-ghost use Rattle.rule.specs.Memory.{table, position, acts, listed, mem};
+ghost use Rattle.rule.specs.Memory.{table, position, acts, listed, mem, among};
 ghost use Rattle.rule.specs.Does.{Inside};
 
 const EVENTS: u8 = 8;

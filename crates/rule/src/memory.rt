@@ -4,17 +4,15 @@ use crate::numerals::number_value;
 use crate::parts::Limit;
 use crate::parts::Place;
 ghost use mathlib.Core.Path.{_≡_};
-ghost use mathlib.Core.Bool.{cond};
 ghost use mathlib.Core.List.{List};
 ghost use Prim.Native.Nat.{ℕ, _+_, _<_};
-ghost use lib.Dec.{eqb};
 ghost use lib.ListN.{length};
-ghost use Rattle.rule.specs.Judge.{beyond};
+ghost use Rattle.rule.specs.Spelling.{beyond};
 ghost use Rattle.rule.specs.Machine.{deeper, enter, sized};
 ghost use Rattle.rule.specs.Memory.{first, blame, codeAt, valueAt, acts, mem};
 ghost use Rattle.rule.specs.Does.{Inside};
 
-pub const DEPTH: usize = 16;
+const DEPTH: usize = 16;
 
 const LITERAL: u32 = 2147483647;
 

@@ -1,9 +1,9 @@
-// Names as numbers: two names are equal exactly if their numbers are.
+// Names as numbers: two names of at most 12 letters are equal exactly if their numbers are.
 ghost use mathlib.Core.Path.{_≡_};
 ghost use Prim.Native.Nat.{_-_};
 ghost use Rattle.rule.specs.Name.{nameCode};
 
-pub const NAME_LETTERS: usize = 12;
+const NAME_LETTERS: usize = 12;
 // 27^12: the number of every name of over 12 letters.
 pub const LONG_NAME: u64 = 150094635296999121;
 

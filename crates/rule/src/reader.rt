@@ -4,6 +4,7 @@ use crate::Reading;
 use crate::Refusal;
 use crate::check;
 use crate::conditions::condition;
+use crate::frames::FRAME_BYTES;
 use crate::header::declarations;
 use crate::memory::Step;
 use crate::memory::Tally;
@@ -16,10 +17,12 @@ ghost use mathlib.Core.Path.{_≡_};
 ghost use mathlib.Core.List.{List, []};
 ghost use Prim.Native.Nat.{ℕ, _≤_};
 ghost use lib.ListN.{length};
+ghost use Rattle.rule.specs.Told.{readTold};
 ghost use Rattle.rule.specs.Machine.{start};
 ghost use Rattle.rule.specs.Memory.{mem};
 ghost use Rattle.rule.specs.Does.{runFrom};
-ghost use Rattle.rule.specs.Reading.{refusedAs, settled, readOf, unread, answerOf};
+ghost use Rattle.rule.specs.Reading.{concluded, readOf, unread, answerOf};
+ghost use Rattle.rule.specs.Answers.{refusedAs};
 
 const BUFFER: usize = 512;
 
@@ -82,9 +85,9 @@ fn whole(text: &[u8], names: &mut [u64; 12], buf: &mut [u8; 512]) -> Step
 }
 
 // Refusals 4 to 8 of what was read; else the frames are handed over.
-fn settle(buf: &[u8], frames: &mut [u8], m: Tally) -> Reading
+fn conclude(buf: &[u8], frames: &mut [u8], m: Tally) -> Reading
     requires { ⌜ (length (now buf) ≡ 512) × (length (now frames) ≡ 512) × (m .name ≤ 1025) × (m .number ≤ 1025) ⌝ }
-    ensures { λ r. ⌜ ((tb : List ℕ) → (r ≡ settled (now (frames .entry)) (mem m tb (now (buf .entry))) .0) × (now (frames .exit) ≡ settled (now (frames .entry)) (mem m tb (now (buf .entry))) .1)) ⌝ }
+    ensures { λ r. ⌜ ((tb : List ℕ) → (r ≡ concluded (now (frames .entry)) (mem m tb (now (buf .entry))) .0) × (now (frames .exit) ≡ concluded (now (frames .entry)) (mem m tb (now (buf .entry))) .1)) ⌝ }
 {
     if m.name != 0 {
         return refuse(4, (m.name - 1) as u32);
@@ -99,7 +102,7 @@ fn settle(buf: &[u8], frames: &mut [u8], m: Tally) -> Reading
         return refuse(6, 0);
     }
     let n = m.count;
-    let e = n * 8;
+    let e = n * FRAME_BYTES;
     let answer = check(&buf[..e]);
     match answer {
         Checked::Refused(r) => Reading::Refused(r),
@@ -114,6 +117,7 @@ fn settle(buf: &[u8], frames: &mut [u8], m: Tally) -> Reading
 // as it was; else it holds the frames, and zero after the last.
 pub fn read(text: &[u8], frames: &mut [u8]) -> Reading
     ensures { λ r. ⌜ (r ≡ readOf (now (text .entry)) (now (frames .entry)) .0) × (now (frames .exit) ≡ readOf (now (text .entry)) (now (frames .entry)) .1) ⌝ }
+    ensures { λ r. ⌜ readTold r ≡ readTold (readOf (now (text .entry)) (now (frames .entry)) .0) ⌝ }
 {
     if frames.len() != BUFFER {
         return refuse(1, 0);
@@ -128,6 +132,6 @@ pub fn read(text: &[u8], frames: &mut [u8]) -> Reading
     let mut buf = [0u8; 512];
     match whole(text, &mut names, &mut buf) {
         Step::No(p) => refuse(3, p as u32),
-        Step::Go(_, m) => settle(&buf, frames, m),
+        Step::Go(_, m) => conclude(&buf, frames, m),
     }
 }

@@ -1,4 +1,4 @@
-// Readers of sums: sum, prod, factor, reference and index. Each takes its part off the machine's stack.
+// Readers of sums: sum, prod, factor, reference and index. Each takes its part off the stack of specs/Machine.
 use crate::emit::emit_instance;
 use crate::emit::emit_kind;
 use crate::emit::emit_literal;
@@ -24,7 +24,7 @@ ghost use mathlib.Core.Path.{_≡_};
 ghost use mathlib.Core.List.{List, _∷_};
 ghost use Prim.Native.Nat.{ℕ, _+_, _≤_, _<_};
 ghost use lib.ListN.{length};
-ghost use Rattle.rule.specs.Measure.{plain};
+ghost use Rattle.rule.specs.Draft.{plain};
 ghost use Rattle.rule.specs.Machine.{out, doing, want, ref-event, ref-index, ref-shift, ref-by, factor, muls, adds, prod, sum};
 ghost use Rattle.rule.specs.Memory.{mem};
 ghost use Rattle.rule.specs.Does.{signByte, Does, Inside, InsideScale};

@@ -38,7 +38,7 @@ pub const AT_MOST: u8 = 134;
 
 pub const AT_LEAST: u8 = 135;
 
-pub const FOREIGN: u8 = 255;
+const FOREIGN: u8 = 255;
 
 // Where the run of bytes of one class that begins at `at` ends.
 fn run_end(text: &[u8], at: usize, class: u8) -> usize

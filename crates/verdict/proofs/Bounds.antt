@@ -20,9 +20,7 @@ use Rattle.rule.specs.Stack.{Bounded}
 use Rattle.rule.specs.declared.Frame.{Frame}
 use Rattle.rule.specs.declared.order.Shape.{Shape}
 use Rattle.rule.specs.declared.order.Shape.the-variants.{Good, Bad}
-use Rattle.rule.proofs.Prefix.{Live, sumsOf, condsOf, live}
-use Rattle.rule.proofs.Magnitudes.{BoundedIn, sizes-in, fits-at}
-use Rattle.rule.proofs.Link.{sizes-length}
+use Rattle.rule.proofs.Laws.{Live, sumsOf, condsOf, live, BoundedIn, sizes-in, fits-at, sizes-length}
 use Rattle.verdict.specs.Found.{instanceLimit, Found}
 use Rattle.verdict.specs.Kleene.{notK, joined}
 use Rattle.verdict.specs.Value.{computed, sizeOf, noteOf, valueS}

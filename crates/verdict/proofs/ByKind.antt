@@ -9,7 +9,7 @@ use lib.IntN.{ℤ}
 use Rattle.rule.specs.Frames.{Arithmetic, Relation, Connective, Kind, arithmetic, relation, connective, none, kindByte, kindOf}
 use Rattle.rule.specs.Build.{top2}
 use Rattle.rule.specs.Stack.{Ready, ReadyC}
-use Rattle.rule.proofs.KindBytes.{kind-at, none-00, none-04, arithmetic-range, relation-range, connective-range}
+use Rattle.rule.proofs.Laws.{kind-at, none-00, none-04, arithmetic-range, relation-range, connective-range}
 use Rattle.verdict.specs.Kleene.{joined, truth}
 use Rattle.verdict.specs.Value.{computed, holds}
 use Rattle.verdict.specs.Pass.{Pass, withSums, withConds, withRelation, related, passBy}

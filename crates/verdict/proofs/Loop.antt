@@ -11,15 +11,12 @@ use Rattle.rule.specs.Frames.{kindOf, frameAt, frameCount}
 use Rattle.rule.specs.Order.{prefixAt}
 use Rattle.rule.specs.Stack.{Ready, ReadyC}
 use Rattle.rule.specs.declared.Frame.{Frame}
-use Rattle.rule.proofs.Prefix.{sumsOf, condsOf, sums-le, conds-le, one-left}
-use Rattle.rule.proofs.Link.{found}
-use Rattle.rule.proofs.Stack.{stack-length}
+use Rattle.rule.proofs.Laws.{sumsOf, condsOf, sums-le, conds-le, one-left, found, stack-length, passed}
 use Rattle.verdict.specs.Marks.{Judgeable}
 use Rattle.verdict.specs.Pass.{Pass, passBy, passAt, firstT, judgedBy, judgementOf}
 use Rattle.verdict.specs.Stacks.{truthOf, truthsOf, passOf, Small, Begun}
 use Rattle.verdict.specs.declared.evaluate.Top.{Top}
 use Rattle.verdict.proofs.Bounds.{InSizes, sizes-next, small-at, sums-length, conds-length}
-use Rattle.rule.proofs.Facts.{passed}
 
 -- after k frames
 pub record Held (s : List ℕ) (i : ℕ) (marks : List ℕ) (notes : List ℤ) (sums : List ℤ) (conds : List ℕ) (t : Top) (k : ℕ) : Type 0 where

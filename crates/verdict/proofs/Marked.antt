@@ -11,7 +11,8 @@ use Rattle.rule.specs.Tree.{Sum, literal, reference, arithmetic, abs, Cond, rel
 use Rattle.rule.specs.Order.{orderOf}
 use Rattle.rule.specs.References.{referenceCount}
 use Rattle.rule.specs.Sizes.{sizesFit}
-use Rattle.rule.specs.Check.{refused, checkedOf}
+use Rattle.rule.specs.Check.{checkedOf}
+use Rattle.rule.specs.Opening.{refused}
 use Rattle.rule.specs.declared.Checked.the-variants.{Accepted}
 use Rattle.verdict.specs.Found.{foundIn}
 use Rattle.verdict.specs.Settled.{judgement}

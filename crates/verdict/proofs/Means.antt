@@ -7,8 +7,8 @@ use Rattle.rule.specs.Tree.{Reference, IsRule}
 use Rattle.rule.specs.Build.{treeOf}
 use Rattle.rule.specs.Check.{checkedOf}
 use Rattle.rule.specs.declared.Checked.the-variants.{Accepted}
-use Rattle.rule.proofs.Facts.{passed}
-use Rattle.rule.proofs.Accept.{rule-fine, tree-of}
+use Rattle.rule.proofs.Main.{tree-of}
+use Rattle.rule.proofs.Laws.{passed, rule-fine}
 use Rattle.verdict.specs.Found.{Found}
 use Rattle.verdict.specs.Settled.{judgement}
 use Rattle.verdict.specs.Marks.{Told}

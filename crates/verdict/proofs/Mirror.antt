@@ -16,10 +16,7 @@ use Rattle.rule.specs.Order.{Prefix, viable, stuck, prefixAt, InOrder}
 use Rattle.rule.specs.Build.{Trees, trees, top1, top2, leaf, builtBy, built, treesAt, firstC, treeOf}
 use Rattle.rule.specs.Stack.{Ready}
 use Rattle.rule.specs.declared.Frame.{Frame}
-use Rattle.rule.proofs.KindBytes.{byte-kind}
-use Rattle.rule.proofs.Prefix.{Live, sumsOf, live, one-left}
-use Rattle.rule.proofs.Link.{found}
-use Rattle.rule.proofs.Parse.{literal-value}
+use Rattle.rule.proofs.Laws.{byte-kind, Live, sumsOf, live, one-left, found, literal-value}
 use Rattle.verdict.specs.Found.{Found, present, pending, void, isPresent, isPending, isMissing, someOf}
 use Rattle.verdict.specs.Kleene.{notK, joined, truth}
 use Rattle.verdict.specs.Value.{computed, sizeOf, noteOf, holds, valueS, value}

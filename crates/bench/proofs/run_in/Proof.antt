@@ -4,7 +4,7 @@ use mathlib.Core.List.{List}
 use Prim.Native.Nat.{ℕ, _*_}
 use lib.ListN.{length}
 use Rattle.rule.specs.Limits.{frameLimit, frameBytes}
-use Rattle.rule.proofs.Fold.{bytes-by}
+use Rattle.rule.proofs.Laws.{bytes-by}
 use Rattle.checker.specs.Answer.{openTold}
 use Rattle.bench.proofs.RunLaws.{ready-opened}
 use borrow.Author.Needs.{needs}

@@ -16,9 +16,9 @@ same-length c = search needs
 
 returns : tie.Need-returns
 returns c =
-    let read = c .before .before .before .read .ensures .0 in
+    let read = c .before .before .before .read .ensures .0 .0 in
     let told = c .reading .ensures in
-    (told .0 ∙ ap (λ a. answerOf (readTold a)) read, (told .1 .0 ∙ ap (λ a. numberOf (readTold a)) read, (told .1 .1 .0 ∙ ap (λ a. placeOf (readTold a)) read, (told .1 .1 .1 ∙ ap (λ a. framesOf (readTold a)) read, c .before .before .before .read .ensures .1))))
+    (told .0 ∙ ap (λ a. answerOf (readTold a)) read, (told .1 .0 ∙ ap (λ a. numberOf (readTold a)) read, (told .1 .1 .0 ∙ ap (λ a. placeOf (readTold a)) read, (told .1 .1 .1 ∙ ap (λ a. framesOf (readTold a)) read, c .before .before .before .read .ensures .0 .1))))
 
 pub dillplatter-read-spec : {M : Type 1} → statement M
 dillplatter-read-spec = tie.close (tie.spec read-requires reading-requires same-length returns)

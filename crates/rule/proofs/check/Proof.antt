@@ -1,5 +1,5 @@
 -- `rule::check` meets its contract. Assumes nothing.
-use mathlib.Core.Path.{_≡_, sym, _∙_}
+use mathlib.Core.Path.{_≡_, ap, sym, _∙_}
 use mathlib.Core.Bool.{true, false}
 use Prim.Native.Nat.{_≤_}
 use native.Mathlib.Omega.{arith}
@@ -9,7 +9,9 @@ use borrow.Author.Tests.{eq-eqb, ne-eqb}
 use Rattle.rule.specs.Frames.{frameCount}
 use Rattle.rule.specs.Order.{orderOf}
 use Rattle.rule.specs.Sizes.{sizesFit}
+use Rattle.rule.specs.Told.{checkTold}
 use Rattle.rule.specs.Check.{wholeFrames, checkedOf}
+use Rattle.rule.specs.declared.Checked.{Checked}
 use Rattle.rule.specs.declared.order.Ordered.the-variants.{Fine, At}
 use Rattle.rule.proofs.Prefix.{place-le, fine-order}
 use Rattle.rule.proofs.Whole.{true-whole}
@@ -58,6 +60,10 @@ refuse-requires-3 c κs = search needs
 refuse-requires-4 : tie.Need-refuse-requires-4
 refuse-requires-4 c κs = search needs
 
+-- the answer, and what it tells
+with-told : {a b : Checked} → a ≡ b → (a ≡ b) × (checkTold a ≡ checkTold b)
+with-told e = (e, ap checkTold e)
+
 returns : tie.Need-returns
 unfolding checkedOf
 returns c =
@@ -65,7 +71,7 @@ returns c =
     let w : wholeFrames (length s) ≡ true = sym (c .before .before .before .before .before .before .whole-frames .ensures) ∙ c .before .before .before .before .before .if1 .taken in
     let p = c .before .before .found .given .0 .0 in
     let o : orderOf s ≡ At p = sym (c .before .before .before .before .order .ensures) ∙ c .before .before .found .given .1 in
-    rw (w, o) (c .refuse .ensures)
+    with-told (rw (w, o) (c .refuse .ensures))
 
 returns-2 : tie.Need-returns-2
 unfolding checkedOf
@@ -74,7 +80,7 @@ returns-2 c =
     let w : wholeFrames (length s) ≡ true = sym (c .before .before .before .before .before .before .before .whole-frames .ensures) ∙ c .before .before .before .before .before .before .if1 .taken in
     let m = c .before .before .before .found2 .given .0 .0 in
     let o : orderOf s ≡ Fine m = sym (c .before .before .before .before .before .order .ensures) ∙ c .before .before .before .found2 .given .1 in
-    rw (w, o, eq-eqb m 0 (c .before .if2 .taken)) (c .refuse2 .ensures)
+    with-told (rw (w, o, eq-eqb m 0 (c .before .if2 .taken)) (c .refuse2 .ensures))
 
 returns-3 : tie.Need-returns-3
 unfolding checkedOf
@@ -84,7 +90,7 @@ returns-3 c =
     let m = c .before .before .before .before .found2 .given .0 .0 in
     let o : orderOf s ≡ Fine m = sym (c .before .before .before .before .before .before .order .ensures) ∙ c .before .before .before .before .found2 .given .1 in
     let z : sizesFit s ≡ true = sym (c .before .sizes-fit .ensures) ∙ c .if3 .taken in
-    rw (w, o, ne-eqb m 0 (c .before .before .if2 .left), z)
+    with-told (rw (w, o, ne-eqb m 0 (c .before .before .if2 .left), z))
 
 returns-4 : tie.Need-returns-4
 unfolding checkedOf
@@ -94,14 +100,14 @@ returns-4 c =
     let m = c .before .before .before .before .before .found2 .given .0 .0 in
     let o : orderOf s ≡ Fine m = sym (c .before .before .before .before .before .before .before .order .ensures) ∙ c .before .before .before .before .before .found2 .given .1 in
     let z : sizesFit s ≡ false = sym (c .before .before .sizes-fit .ensures) ∙ c .before .if3 .left in
-    rw (w, o, ne-eqb m 0 (c .before .before .before .if2 .left), z) (c .refuse3 .ensures)
+    with-told (rw (w, o, ne-eqb m 0 (c .before .before .before .if2 .left), z) (c .refuse3 .ensures))
 
 returns-5 : tie.Need-returns-5
 unfolding checkedOf
 returns-5 c =
     let s = c .before .before .before .before .args .frames .now in
     let w : wholeFrames (length s) ≡ false = sym (c .before .before .whole-frames .ensures) ∙ c .before .if1 .left in
-    rw w (c .refuse4 .ensures)
+    with-told (rw w (c .refuse4 .ensures))
 
 pub check-spec : {M : Type 1} → statement M
 check-spec =

@@ -23,7 +23,7 @@ width-fits-requires : tie.Need-width-fits-requires
 width-fits-requires c κs = search needs
 
 returns : tie.Need-returns
-returns c = rw (le-leb (c .before .before .before .before .before .before .args .len) 64 (c .before .before .before .before .if1 .taken), c .before .accepted .ensures, c .before .before .check .ensures, c .width-fits .ensures)
+returns c = rw (le-leb (c .before .before .before .before .before .before .args .len) 64 (c .before .before .before .before .if1 .taken), c .before .accepted .ensures, c .before .before .check .ensures .0, c .width-fits .ensures)
 
 returns-2 : tie.Need-returns-2
 returns-2 c = rw (lt-leb (c .before .before .args .len) 64 (c .if1 .left))

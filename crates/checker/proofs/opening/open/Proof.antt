@@ -9,7 +9,7 @@ use lib.ListN.{length, replicate}
 use Rattle.numbers.proofs.Bools.{and-true}
 use Rattle.rule.specs.Check.{checkedOf}
 use Rattle.rule.specs.declared.Checked.the-variants.{Accepted, Refused}
-use Rattle.rule.proofs.Facts.{passed}
+use Rattle.rule.proofs.Laws.{passed}
 use Rattle.checker.specs.Limits.{windowWords}
 use Rattle.checker.specs.Answer.{openTold}
 use Rattle.checker.specs.Open.{widthFits, openDef}
@@ -40,7 +40,7 @@ clear-requires : tie.Need-clear-requires
 clear-requires c κs = search needs
 
 fresh-requires : tie.Need-fresh-requires
-fresh-requires c κs = passed (c .before .before .before .before .before .before .before .before .before .before .args .frames .now) (sym (c .before .before .before .before .before .before .before .before .check .ensures) ∙ c .before .before .before .before .before .before .enum-told .given .1) .whole .most
+fresh-requires c κs = passed (c .before .before .before .before .before .before .before .before .before .before .args .frames .now) (sym (c .before .before .before .before .before .before .before .before .check .ensures .0) ∙ c .before .before .before .before .before .before .enum-told .given .1) .whole .most
 
 refuse-requires-2 : tie.Need-refuse-requires-2
 refuse-requires-2 c κs = search needs
@@ -48,7 +48,7 @@ refuse-requires-2 c κs = search needs
 returns : tie.Need-returns
 unfolding openDef
 returns c =
-    let e : checkedOf (c .before .before .before .before .before .before .args .frames .now) ≡ Refused (c .before .before .checked .given .0 .0) = sym (c .before .before .before .before .check .ensures) ∙ c .before .before .checked .given .1 in
+    let e : checkedOf (c .before .before .before .before .before .before .args .frames .now) ≡ Refused (c .before .before .checked .given .0 .0) = sym (c .before .before .before .before .check .ensures .0) ∙ c .before .before .checked .given .1 in
     (rw e (ap (λ (x : Opened). openTold (x .answer)) (c .refuse .ensures)), (rw e (ap (λ (x : Opened). x .state) (c .refuse .ensures)), rw e))
 
 same-length : tie.Need-same-length
@@ -60,7 +60,7 @@ returns-2 c =
     let a = c .before .before .before .before .before .before .before .before .before .before .before .args in
     let s = a .frames .now in
     let win = a .window .now in
-    let e : checkedOf s ≡ Accepted = sym (c .before .before .before .before .before .before .before .before .before .check .ensures) ∙ c .before .before .before .before .before .before .before .enum-told .given .1 in
+    let e : checkedOf s ≡ Accepted = sym (c .before .before .before .before .before .before .before .before .before .check .ensures .0) ∙ c .before .before .before .before .before .before .before .enum-told .given .1 in
     let t : (widthFits (a .width) && eqb (length win) (windowWords (a .width))) ≡ true = rw (c .before .before .before .before .before .before .width-fits .ensures, c .before .before .before .before .before .window-fits .ensures) at (c .before .before .before .before .if1 .taken) in
     let l : length win ≡ windowWords (a .width) = eqb-true (length win) (windowWords (a .width)) (and-true (widthFits (a .width)) (eqb (length win) (windowWords (a .width))) t .1) in
     (rw (e, t), (rw (e, t) (c .fresh .ensures), rw (e, t) (c .before .before .clear .ensures ∙ ap (λ (n : ℕ). replicate n (pos 0)) l)))
@@ -71,7 +71,7 @@ returns-3 c =
     let a = c .before .before .before .before .before .before .before .before .args in
     let s = a .frames .now in
     let win = a .window .now in
-    let e : checkedOf s ≡ Accepted = sym (c .before .before .before .before .before .before .check .ensures) ∙ c .before .before .before .before .enum-told .given .1 in
+    let e : checkedOf s ≡ Accepted = sym (c .before .before .before .before .before .before .check .ensures .0) ∙ c .before .before .before .before .enum-told .given .1 in
     let t : (widthFits (a .width) && eqb (length win) (windowWords (a .width))) ≡ false = rw (c .before .before .before .width-fits .ensures, c .before .before .window-fits .ensures) at (c .before .if1 .left) in
     (rw (e, t) (ap (λ (x : Opened). openTold (x .answer)) (c .refuse2 .ensures)), (rw (e, t) (ap (λ (x : Opened). x .state) (c .refuse2 .ensures)), rw (e, t)))
 

@@ -6,7 +6,7 @@ use lib.IntN.{ℤ}
 use lib.ListN.{length}
 use Rattle.rule.specs.Frames.{Bytes}
 use Rattle.rule.specs.Tree.{Reference}
-use Rattle.rule.proofs.Fold.{bytes-by}
+use Rattle.rule.proofs.Laws.{bytes-by}
 use Rattle.verdict.specs.Found.{Found}
 use Rattle.verdict.specs.declared.Judgement.the-variants.{Unsettled, True, False, Unknown}
 use Rattle.checker.specs.Report.{written}

@@ -1,25 +1,16 @@
-use borrow.Author.Tests.{lt-ltb, le-ltb, le-leb, lt-leb, eq-eqb, ne-eqb}
-use mathlib.Core.Path.{_≡_, refl, sym, ap, _∙_}
+use mathlib.Core.Path.{_≡_, refl, sym, _∙_}
 use native.Mathlib.Omega.{arith}
-use mathlib.Core.List.{[], _∷_}
-use Prim.Native.Nat.{ℕ, _<_, _+_, _*_, _-_}
-use lib.ListN.{length}
+use mathlib.Core.List.{_∷_}
+use Prim.Native.Nat.{_-_}
 use denote.Ref.{now}
-use Rattle.rule.specs.Machine.{step, finish, startFactor, out, want, doing}
-use Rattle.rule.specs.Machine as machine
-use Rattle.rule.specs.Measure.{plain}
-use Rattle.rule.proofs.Laws.{then, stop, then-does, idle, as-is, least, same, fail, take, beyond, inside}
+use Rattle.rule.specs.Machine.{step, finish, out, doing}
+use Rattle.rule.specs.Draft.{plain}
+use Rattle.rule.proofs.Does.{stop, then-does, as-is, least, fail, take, beyond}
 use Rattle.rule.specs.Does.{relByte}
 use Rattle.rule.proofs.Marked.{rel-some, rel-stuck, rel-step}
 use borrow.Author.Needs.{needs}
 use Rattle.rule.proofs.conditions.compare.Statement.{statement}
 use Rattle.rule.proofs.conditions.compare.Tie as tie
-use Rattle.rule.proofs.tokens.token_at.Reads as token-at-reads
-use Rattle.rule.proofs.conditions.rel_kind.Reads as rel-kind-reads
-use Rattle.rule.proofs.sums.sum.Reads as sum-reads
-use Rattle.rule.proofs.emit.emit_kind.Reads as emit-kind-reads
-use Rattle.rule.proofs.conditions.compare.Reads as reads
-use Rattle.rule.proofs.conditions.compare.Lts as lts
 
 token-at-requires : tie.Need-token-at-requires
 token-at-requires c κs = search needs

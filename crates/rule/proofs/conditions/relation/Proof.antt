@@ -1,23 +1,11 @@
-use borrow.Author.Tests.{lt-ltb, le-ltb, le-leb, lt-leb, eq-eqb, ne-eqb}
-use mathlib.Core.Path.{_≡_, refl, sym, ap, _∙_}
 use native.Mathlib.Omega.{arith}
-use mathlib.Core.List.{[], _∷_}
-use Prim.Native.Nat.{ℕ, _<_, _+_, _*_, _-_}
-use lib.ListN.{length}
-use denote.Ref.{now}
-use Rattle.rule.specs.Machine.{step, finish, startFactor, out, want, doing}
+use mathlib.Core.List.{_∷_}
+use Prim.Native.Nat.{_-_}
 use Rattle.rule.specs.Machine as machine
-use Rattle.rule.specs.Measure.{plain}
-use Rattle.rule.proofs.Laws.{then, stop, then-does, idle, as-is, least, same, fail, take, beyond, inside}
-use Rattle.rule.specs.Does.{relByte}
-use Rattle.rule.proofs.Marked.{rel-some, rel-stuck, rel-step}
+use Rattle.rule.proofs.Does.{then, stop, as-is}
 use borrow.Author.Needs.{needs}
 use Rattle.rule.proofs.conditions.relation.Statement.{statement}
 use Rattle.rule.proofs.conditions.relation.Tie as tie
-use Rattle.rule.proofs.sums.sum.Reads as sum-reads
-use Rattle.rule.proofs.conditions.compare.Reads as compare-reads
-use Rattle.rule.proofs.conditions.relation.Reads as reads
-use Rattle.rule.proofs.conditions.relation.Lts as lts
 
 sum-requires : tie.Need-sum-requires
 sum-requires c κs = c .before .before .pre

@@ -1,11 +1,8 @@
-use borrow.Author.Tests.{lt-ltb, le-ltb, le-leb, lt-leb, eq-eqb, ne-eqb}
-use Rattle.rule.specs.Memory.{mem, acts, put, codeAt, valueAt, negated}
-use native.Mathlib.Omega.{arith}
+use borrow.Author.Tests.{lt-ltb, le-ltb}
+use Rattle.rule.specs.Memory.{mem, put}
 use borrow.Author.Needs.{needs}
 use Rattle.rule.proofs.emit.emit.Statement.{statement}
 use Rattle.rule.proofs.emit.emit.Tie as tie
-use Rattle.rule.proofs.emit.emit.Reads as reads
-use Rattle.rule.proofs.emit.emit.Lts as lts
 
 -- src/emit.rt:34:17
 mul-p : tie.Need-mul-p

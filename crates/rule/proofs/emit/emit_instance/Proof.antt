@@ -1,11 +1,7 @@
-use Rattle.rule.specs.Memory.{mem, acts, put, codeAt, valueAt, negated}
-use native.Mathlib.Omega.{arith}
+use Rattle.rule.specs.Memory.{acts}
 use borrow.Author.Needs.{needs}
 use Rattle.rule.proofs.emit.emit_instance.Statement.{statement}
 use Rattle.rule.proofs.emit.emit_instance.Tie as tie
-use Rattle.rule.proofs.emit.emit_instance.Reads as reads
-use Rattle.rule.proofs.emit.emit_instance.Lts as lts
-use Rattle.rule.proofs.emit.emit.Reads as emit-reads
 
 -- src/emit.rt:84:5
 emit-requires : tie.Need-emit-requires

@@ -1,11 +1,7 @@
-use Rattle.rule.specs.Memory.{mem, acts, put, codeAt, valueAt, negated}
-use native.Mathlib.Omega.{arith}
+use Rattle.rule.specs.Memory.{acts}
 use borrow.Author.Needs.{needs}
 use Rattle.rule.proofs.emit.emit_kind.Statement.{statement}
 use Rattle.rule.proofs.emit.emit_kind.Tie as tie
-use Rattle.rule.proofs.emit.emit_kind.Reads as reads
-use Rattle.rule.proofs.emit.emit_kind.Lts as lts
-use Rattle.rule.proofs.emit.emit.Reads as emit-reads
 
 -- src/emit.rt:67:5
 emit-requires : tie.Need-emit-requires

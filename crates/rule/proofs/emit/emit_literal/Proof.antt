@@ -1,14 +1,8 @@
-use Rattle.rule.specs.Memory.{mem, acts, put, codeAt, valueAt, negated}
-use mathlib.Core.Path.{_≡_, refl, sym, ap, _∙_}
-use native.Mathlib.Omega.{arith}
+use Rattle.rule.specs.Memory.{acts}
+use mathlib.Core.Path.{_∙_}
 use borrow.Author.Needs.{needs}
 use Rattle.rule.proofs.emit.emit_literal.Statement.{statement}
 use Rattle.rule.proofs.emit.emit_literal.Tie as tie
-use Rattle.rule.proofs.emit.emit_literal.Reads as reads
-use Rattle.rule.proofs.emit.emit_literal.Lts as lts
-use Rattle.rule.proofs.emit.emit.Reads as emit-reads
-use Rattle.rule.proofs.memory.number_at.Reads as number-at-reads
-use Rattle.rule.proofs.memory.sized.Reads as sized-reads
 
 -- src/emit.rt:102:9
 sized-requires : tie.Need-sized-requires

@@ -1,17 +1,9 @@
 use denote.Ref.{now}
-use Rattle.rule.specs.Memory.{mem, acts, table, codeAt}
-use mathlib.Core.Path.{_≡_, refl, sym, ap, subst, _∙_}
-use native.Mathlib.Omega.{arith}
+use Rattle.rule.specs.Memory.{acts}
+use mathlib.Core.Path.{_∙_}
 use borrow.Author.Needs.{needs}
 use Rattle.rule.proofs.emit.emit_reference.Statement.{statement}
 use Rattle.rule.proofs.emit.emit_reference.Tie as tie
-use Rattle.rule.proofs.emit.emit_reference.Reads as reads
-use Rattle.rule.proofs.emit.emit_reference.Lts as lts
-use Rattle.rule.proofs.emit.emit.Reads as emit-reads
-use Rattle.rule.proofs.emit.factor_of.Reads as factor-of-reads
-use Rattle.rule.proofs.emit.offset_of.Reads as offset-of-reads
-use Rattle.rule.proofs.lookup.lookup.Reads as lookup-reads
-use Rattle.rule.proofs.memory.name_at.Reads as name-at-reads
 
 -- src/emit.rt:157:44
 name-at-requires : tie.Need-name-at-requires

@@ -1,10 +1,8 @@
-use Rattle.rule.specs.Memory.{mem, acts, put, codeAt, valueAt, negated}
+use Rattle.rule.specs.Memory.{negated}
 use native.Mathlib.Omega.{arith}
 use borrow.Author.Needs.{needs}
 use Rattle.rule.proofs.emit.negated.Statement.{statement}
 use Rattle.rule.proofs.emit.negated.Tie as tie
-use Rattle.rule.proofs.emit.negated.Reads as reads
-use Rattle.rule.proofs.emit.negated.Lts as lts
 
 -- src/emit.rt:132:28
 sub-result : tie.Need-sub-result

@@ -1,17 +1,11 @@
 use denote.Ref.{now}
 use lib.ListN.{length}
-use Rattle.rule.specs.Does.{InsideScale, InsideShift}
-use Rattle.rule.specs.declared.parts.Scale.{Scale}
+use Rattle.rule.specs.Does.{InsideShift}
 use Rattle.rule.specs.declared.parts.Shift.{Shift}
-use mathlib.Core.Path.{_≡_, refl, sym, ap, subst, _∙_}
-use native.Mathlib.Omega.{arith}
+use mathlib.Core.Path.{subst}
 use borrow.Author.Needs.{needs}
 use Rattle.rule.proofs.emit.offset_of.Statement.{statement}
 use Rattle.rule.proofs.emit.offset_of.Tie as tie
-use Rattle.rule.proofs.emit.offset_of.Reads as reads
-use Rattle.rule.proofs.emit.offset_of.Lts as lts
-use Rattle.rule.proofs.emit.negated.Reads as negated-reads
-use Rattle.rule.proofs.memory.number_at.Reads as number-at-reads
 
 -- src/emit.rt:141:29
 enum-told : tie.Need-enum-told

@@ -1,23 +1,13 @@
-use borrow.Author.Tests.{lt-ltb, le-ltb, le-leb, lt-leb, eq-eqb, ne-eqb}
-use mathlib.Core.Path.{_≡_, refl, sym, ap, _∙_}
 use native.Mathlib.Omega.{arith}
 use mathlib.Core.List.{[], _∷_}
-use Prim.Native.Nat.{ℕ, _<_, _+_, _*_, _-_}
-use lib.ListN.{length}
+use Prim.Native.Nat.{_-_}
 use denote.Ref.{now}
-use Rattle.rule.specs.Machine.{step, finish, startFactor, out, want, doing}
+use Rattle.rule.specs.Machine.{want}
 use Rattle.rule.specs.Machine as machine
-use Rattle.rule.specs.Measure.{plain}
-use Rattle.rule.proofs.Laws.{then, stop, then-does, idle, as-is, least, same, fail, take, beyond, inside}
-use Rattle.rule.specs.Does.{relByte}
-use Rattle.rule.proofs.Marked.{rel-some, rel-stuck, rel-step}
+use Rattle.rule.proofs.Does.{then, stop, as-is}
 use borrow.Author.Needs.{needs}
 use Rattle.rule.proofs.header.declarations.Statement.{statement}
 use Rattle.rule.proofs.header.declarations.Tie as tie
-use Rattle.rule.proofs.sums.expect.Reads as expect-reads
-use Rattle.rule.proofs.header.name_list.Reads as name-list-reads
-use Rattle.rule.proofs.header.declarations.Reads as reads
-use Rattle.rule.proofs.header.declarations.Lts as lts
 
 expect-requires : tie.Need-expect-requires
 expect-requires c κs = (c .before .pre .0, c .before .pre .2)

@@ -1,24 +1,12 @@
-use borrow.Author.Tests.{lt-ltb, le-ltb, le-leb, lt-leb, eq-eqb, ne-eqb}
-use mathlib.Core.Path.{_≡_, refl, sym, ap, _∙_}
 use native.Mathlib.Omega.{arith}
 use mathlib.Core.List.{[], _∷_}
-use Prim.Native.Nat.{ℕ, _<_, _+_, _*_, _-_}
-use lib.ListN.{length}
-use denote.Ref.{now}
-use Rattle.rule.specs.Machine.{step, finish, startFactor, out, want, doing}
+use Prim.Native.Nat.{_-_}
+use Rattle.rule.specs.Machine.{want}
 use Rattle.rule.specs.Machine as machine
-use Rattle.rule.specs.Measure.{plain}
-use Rattle.rule.proofs.Laws.{then, stop, then-does, idle, as-is, least, same, fail, take, beyond, inside}
-use Rattle.rule.specs.Does.{relByte}
-use Rattle.rule.proofs.Marked.{rel-some, rel-stuck, rel-step}
+use Rattle.rule.proofs.Does.{then, stop, as-is}
 use borrow.Author.Needs.{needs}
 use Rattle.rule.proofs.header.name_list.Statement.{statement}
 use Rattle.rule.proofs.header.name_list.Tie as tie
-use Rattle.rule.proofs.header.name_of.Reads as name-of-reads
-use Rattle.rule.proofs.header.names_of.Reads as names-of-reads
-use Rattle.rule.proofs.sums.expect.Reads as expect-reads
-use Rattle.rule.proofs.header.name_list.Reads as reads
-use Rattle.rule.proofs.header.name_list.Lts as lts
 
 name-of-requires : tie.Need-name-of-requires
 name-of-requires c κs = search needs

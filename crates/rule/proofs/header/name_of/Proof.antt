@@ -1,23 +1,13 @@
-use borrow.Author.Tests.{lt-ltb, le-ltb, le-leb, lt-leb, eq-eqb, ne-eqb}
-use mathlib.Core.Path.{_≡_, refl, sym, ap, _∙_}
+use borrow.Author.Tests.{ne-eqb}
+use mathlib.Core.Path.{_≡_, refl}
 use native.Mathlib.Omega.{arith}
-use mathlib.Core.List.{[], _∷_}
-use Prim.Native.Nat.{ℕ, _<_, _+_, _*_, _-_}
-use lib.ListN.{length}
+use Prim.Native.Nat.{_-_}
 use denote.Ref.{now}
-use Rattle.rule.specs.Machine.{step, finish, startFactor, out, want, doing}
-use Rattle.rule.specs.Machine as machine
-use Rattle.rule.specs.Measure.{plain}
-use Rattle.rule.proofs.Laws.{then, stop, then-does, idle, as-is, least, same, fail, take, beyond, inside}
-use Rattle.rule.specs.Does.{relByte}
-use Rattle.rule.proofs.Marked.{rel-some, rel-stuck, rel-step}
+use Rattle.rule.specs.Machine.{step, finish}
+use Rattle.rule.proofs.Does.{idle, fail, take, beyond, inside}
 use borrow.Author.Needs.{needs}
 use Rattle.rule.proofs.header.name_of.Statement.{statement}
 use Rattle.rule.proofs.header.name_of.Tie as tie
-use Rattle.rule.proofs.tokens.token_at.Reads as token-at-reads
-use Rattle.rule.proofs.lookup.declare.Reads as declare-reads
-use Rattle.rule.proofs.header.name_of.Reads as reads
-use Rattle.rule.proofs.header.name_of.Lts as lts
 
 token-at-requires : tie.Need-token-at-requires
 token-at-requires c κs = search needs

@@ -1,12 +1,6 @@
-use mathlib.Core.Path.{_≡_, refl, sym, ap, subst, _∙_}
-use native.Mathlib.Omega.{arith}
 use borrow.Author.Needs.{needs}
 use Rattle.rule.proofs.lookup.declare.Statement.{statement}
 use Rattle.rule.proofs.lookup.declare.Tie as tie
-use Rattle.rule.proofs.lookup.declare.Reads as reads
-use Rattle.rule.proofs.lookup.declare.Lts as lts
-use Rattle.rule.proofs.lookup.declare_event.Reads as declare-event-reads
-use Rattle.rule.proofs.lookup.declare_note.Reads as declare-note-reads
 
 -- src/lookup.rt:154:44
 enum-told : tie.Need-enum-told

@@ -1,24 +1,18 @@
 use denote.Ref.{now}
-use Rattle.rule.specs.Memory.{mem, acts, table, codeAt}
-use mathlib.Core.Path.{_≡_, refl, sym, ap, subst, _∙_}
-use borrow.Author.Tests.{lt-ltb, le-ltb, le-leb, lt-leb, eq-eqb, ne-eqb}
-use Rattle.rule.proofs.Tables.{position-among, few, one-event, one-note}
-use Rattle.rule.specs.Judge.{among, room}
+use Rattle.rule.specs.Memory.{mem, acts, table, among}
+use mathlib.Core.Path.{sym, ap, _∙_}
+use Rattle.rule.proofs.Tables.{few, one-event}
+use Rattle.rule.specs.Spelling.{room}
 use Rattle.rule.specs.Name.{longName}
 use mathlib.Core.Bool.{true, cond}
 use lib.Dec.{leb}
 use lib.ListN.{length, length-set}
 use mathlib.Core.List.{[]}
-use Rattle.rule.specs.declared.parts.Role.the-variants.{Event, Note}
+use Rattle.rule.specs.declared.parts.Role.the-variants.{Event}
 use native.Mathlib.Omega.{arith}
 use borrow.Author.Needs.{needs}
 use Rattle.rule.proofs.lookup.declare_event.Statement.{statement}
 use Rattle.rule.proofs.lookup.declare_event.Tie as tie
-use Rattle.rule.proofs.lookup.declare_event.Reads as reads
-use Rattle.rule.proofs.lookup.declare_event.Lts as lts
-use Rattle.rule.proofs.lookup.misnamed.Reads as misnamed-reads
-use Rattle.rule.proofs.memory.blamed.Reads as blamed-reads
-use Rattle.rule.proofs.memory.name_at.Reads as name-at-reads
 
 -- src/lookup.rt:111:9
 name-at-requires : tie.Need-name-at-requires

@@ -1,13 +1,8 @@
 use denote.Ref.{now}
-use Rattle.rule.proofs.Tables.{position-among, few, one-event, one-note}
-use native.Mathlib.Omega.{arith}
+use Rattle.rule.proofs.Tables.{position-among}
 use borrow.Author.Needs.{needs}
 use Rattle.rule.proofs.lookup.declared.Statement.{statement}
 use Rattle.rule.proofs.lookup.declared.Tie as tie
-use Rattle.rule.proofs.lookup.declared.Reads as reads
-use Rattle.rule.proofs.lookup.declared.Lts as lts
-use Rattle.rule.proofs.lookup.held.Reads as held-reads
-use Rattle.rule.proofs.lookup.lookup.Reads as lookup-reads
 
 -- src/lookup.rt:78:5
 lookup-requires : tie.Need-lookup-requires

@@ -1,13 +1,11 @@
-use Rattle.rule.proofs.Tables.{length-listed, position-among, find-start, find-end, find-hit, find-miss, listed-other, listed-more}
-use mathlib.Core.Path.{_≡_, refl, sym, ap, _∙_}
+use Rattle.rule.proofs.Tables.{find-start, find-end, find-hit, find-miss}
+use mathlib.Core.Path.{_≡_, sym, _∙_}
 use Rattle.rule.specs.Memory.{position, listed}
-use Prim.Native.Nat.{_+_, _-_, _≤_, _<_}
+use Prim.Native.Nat.{_+_, _-_, _≤_}
 use borrow.Author.Needs.{needs}
 use native.Mathlib.Omega.{arith}
 use Rattle.rule.proofs.lookup.find.Statement.{statement}
 use Rattle.rule.proofs.lookup.find.Tie as tie
-use Rattle.rule.proofs.lookup.find.Reads as reads
-use Rattle.rule.proofs.lookup.find.Lts as lts
 
 abbrev Inv-loop : tie.InvT-loop
 Inv-loop names from n c j₀ j = (j ≤ n) × (j + position c (listed names (from + j) (n - j)) ≡ position c (listed names from n))

@@ -1,12 +1,8 @@
-use Rattle.rule.specs.Memory.{mem, acts, put, codeAt, valueAt, negated}
-use Rattle.rule.proofs.Tables.{length-listed, position-among, find-start, find-end, find-hit, find-miss, listed-other, listed-more}
-use native.Mathlib.Omega.{arith}
+use Rattle.rule.specs.Memory.{mem}
+use Rattle.rule.proofs.Tables.{length-listed}
 use borrow.Author.Needs.{needs}
 use Rattle.rule.proofs.lookup.held.Statement.{statement}
 use Rattle.rule.proofs.lookup.held.Tie as tie
-use Rattle.rule.proofs.lookup.held.Reads as reads
-use Rattle.rule.proofs.lookup.held.Lts as lts
-use Rattle.rule.proofs.lookup.least.Reads as least-reads
 
 -- src/lookup.rt:59:24
 enum-told : tie.Need-enum-told

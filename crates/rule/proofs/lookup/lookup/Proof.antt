@@ -1,12 +1,7 @@
-use Rattle.rule.specs.Memory.{mem, acts, table, codeAt}
-use native.Mathlib.Omega.{arith}
+use Rattle.rule.specs.Memory.{mem}
 use borrow.Author.Needs.{needs}
 use Rattle.rule.proofs.lookup.lookup.Statement.{statement}
 use Rattle.rule.proofs.lookup.lookup.Tie as tie
-use Rattle.rule.proofs.lookup.lookup.Reads as reads
-use Rattle.rule.proofs.lookup.lookup.Lts as lts
-use Rattle.rule.proofs.lookup.find.Reads as find-reads
-use Rattle.rule.proofs.lookup.least.Reads as least-reads
 
 -- src/lookup.rt:69:39
 enum-told : tie.Need-enum-told

@@ -1,23 +1,11 @@
 use denote.Ref.{now}
-use Rattle.rule.specs.Memory.{mem, acts, table, codeAt}
-use mathlib.Core.Path.{_≡_, refl, sym, ap, subst, _∙_}
-use borrow.Author.Tests.{lt-ltb, le-ltb, le-leb, lt-leb, eq-eqb, ne-eqb}
-use Rattle.rule.specs.Judge.{among, room}
+use mathlib.Core.Path.{sym, _∙_}
+use borrow.Author.Tests.{le-leb, lt-leb}
 use Rattle.rule.specs.Name.{longName}
-use mathlib.Core.Bool.{true, cond}
 use lib.Dec.{leb}
-use lib.ListN.{length, length-set}
-use mathlib.Core.List.{[]}
-use Rattle.rule.specs.declared.parts.Role.the-variants.{Event, Note}
-use native.Mathlib.Omega.{arith}
 use borrow.Author.Needs.{needs}
 use Rattle.rule.proofs.lookup.misnamed.Statement.{statement}
 use Rattle.rule.proofs.lookup.misnamed.Tie as tie
-use Rattle.rule.proofs.lookup.misnamed.Reads as reads
-use Rattle.rule.proofs.lookup.misnamed.Lts as lts
-use Rattle.rule.proofs.lookup.declared.Reads as declared-reads
-use Rattle.rule.proofs.lookup.held.Reads as held-reads
-use Rattle.rule.proofs.lookup.most.Reads as most-reads
 
 -- src/lookup.rt:98:9
 returns : tie.Need-returns

@@ -1,22 +1,9 @@
 use denote.Ref.{now}
-use Rattle.rule.specs.Memory.{mem, acts, table, codeAt}
-use mathlib.Core.Path.{_≡_, refl, sym, ap, subst, _∙_}
-use Rattle.rule.specs.Judge.{among, room}
-use Rattle.rule.specs.Name.{longName}
-use mathlib.Core.Bool.{true, cond}
-use lib.Dec.{leb}
-use lib.ListN.{length, length-set}
-use mathlib.Core.List.{[]}
-use Rattle.rule.specs.declared.parts.Role.the-variants.{Event, Note}
-use native.Mathlib.Omega.{arith}
+use Rattle.rule.specs.Memory.{mem, acts, table, among}
+use mathlib.Core.Path.{sym, ap, _∙_}
 use borrow.Author.Needs.{needs}
 use Rattle.rule.proofs.lookup.named.Statement.{statement}
 use Rattle.rule.proofs.lookup.named.Tie as tie
-use Rattle.rule.proofs.lookup.named.Reads as reads
-use Rattle.rule.proofs.lookup.named.Lts as lts
-use Rattle.rule.proofs.lookup.declared.Reads as declared-reads
-use Rattle.rule.proofs.memory.blamed.Reads as blamed-reads
-use Rattle.rule.proofs.memory.name_at.Reads as name-at-reads
 
 -- src/lookup.rt:86:9
 name-at-requires : tie.Need-name-at-requires

@@ -1,11 +1,7 @@
-use Rattle.rule.specs.Memory.{mem, acts, put, codeAt, valueAt, negated}
-use native.Mathlib.Omega.{arith}
+use Rattle.rule.specs.Memory.{mem}
 use borrow.Author.Needs.{needs}
 use Rattle.rule.proofs.memory.blamed.Statement.{statement}
 use Rattle.rule.proofs.memory.blamed.Tie as tie
-use Rattle.rule.proofs.memory.blamed.Reads as reads
-use Rattle.rule.proofs.memory.blamed.Lts as lts
-use Rattle.rule.proofs.memory.first.Reads as first-reads
 
 -- src/memory.rt:89:15
 first-requires : tie.Need-first-requires

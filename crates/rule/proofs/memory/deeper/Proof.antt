@@ -1,11 +1,8 @@
-use borrow.Author.Tests.{lt-ltb, le-ltb, le-leb, lt-leb, eq-eqb, ne-eqb}
+use borrow.Author.Tests.{le-leb, lt-leb}
 use Rattle.rule.specs.Machine.{deeper}
-use native.Mathlib.Omega.{arith}
 use borrow.Author.Needs.{needs}
 use Rattle.rule.proofs.memory.deeper.Statement.{statement}
 use Rattle.rule.proofs.memory.deeper.Tie as tie
-use Rattle.rule.proofs.memory.deeper.Reads as reads
-use Rattle.rule.proofs.memory.deeper.Lts as lts
 
 -- src/memory.rt:52:21
 add-result : tie.Need-add-result

@@ -1,11 +1,7 @@
-use borrow.Author.Tests.{lt-ltb, le-ltb, le-leb, lt-leb, eq-eqb, ne-eqb}
-use Rattle.rule.specs.Memory.{mem, acts, put, codeAt, valueAt, negated}
-use borrow.Author.Needs.{needs}
-use native.Mathlib.Omega.{arith}
+use borrow.Author.Tests.{lt-ltb, le-ltb}
+use Rattle.rule.specs.Memory.{mem, acts}
 use Rattle.rule.proofs.memory.entered.Statement.{statement}
 use Rattle.rule.proofs.memory.entered.Tie as tie
-use Rattle.rule.proofs.memory.entered.Reads as reads
-use Rattle.rule.proofs.memory.entered.Lts as lts
 
 -- src/memory.rt:60:9
 returns : tie.Need-returns

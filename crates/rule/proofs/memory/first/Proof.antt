@@ -1,10 +1,7 @@
-use borrow.Author.Tests.{lt-ltb, le-ltb, le-leb, lt-leb, eq-eqb, ne-eqb}
-use native.Mathlib.Omega.{arith}
+use borrow.Author.Tests.{eq-eqb, ne-eqb}
 use borrow.Author.Needs.{needs}
 use Rattle.rule.proofs.memory.first.Statement.{statement}
 use Rattle.rule.proofs.memory.first.Tie as tie
-use Rattle.rule.proofs.memory.first.Reads as reads
-use Rattle.rule.proofs.memory.first.Lts as lts
 
 -- src/memory.rt:77:17
 add-result : tie.Need-add-result

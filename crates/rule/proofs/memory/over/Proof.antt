@@ -1,10 +1,7 @@
-use borrow.Author.Tests.{lt-ltb, le-ltb, le-leb, lt-leb, eq-eqb, ne-eqb}
-use native.Mathlib.Omega.{arith}
+use borrow.Author.Tests.{eq-eqb, ne-eqb}
 use borrow.Author.Needs.{needs}
 use Rattle.rule.proofs.memory.over.Statement.{statement}
 use Rattle.rule.proofs.memory.over.Tie as tie
-use Rattle.rule.proofs.memory.over.Reads as reads
-use Rattle.rule.proofs.memory.over.Lts as lts
 
 -- src/memory.rt:120:29
 enum-told : tie.Need-enum-told

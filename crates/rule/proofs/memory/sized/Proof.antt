@@ -1,16 +1,9 @@
-use borrow.Author.Tests.{lt-ltb, le-ltb, le-leb, lt-leb, eq-eqb, ne-eqb}
-use Rattle.rule.specs.Memory.{mem, acts, put, codeAt, valueAt, negated}
-use mathlib.Core.Path.{_≡_, refl, sym, ap, _∙_}
-use Rattle.rule.specs.Judge.{beyond}
-use native.Mathlib.Omega.{arith}
+use Rattle.rule.specs.Memory.{mem, acts}
+use mathlib.Core.Path.{sym, ap, _∙_}
+use Rattle.rule.specs.Spelling.{beyond}
 use borrow.Author.Needs.{needs}
 use Rattle.rule.proofs.memory.sized.Statement.{statement}
 use Rattle.rule.proofs.memory.sized.Tie as tie
-use Rattle.rule.proofs.memory.sized.Reads as reads
-use Rattle.rule.proofs.memory.sized.Lts as lts
-use Rattle.rule.proofs.memory.first.Reads as first-reads
-use Rattle.rule.proofs.memory.number_at.Reads as number-at-reads
-use Rattle.rule.proofs.memory.over.Reads as over-reads
 
 -- src/memory.rt:131:9
 number-at-requires : tie.Need-number-at-requires

@@ -2,7 +2,8 @@
 use mathlib.Core.Path.{_≡_, refl, ap, _∙_}
 use Prim.Native.Nat.{ℕ, _≤_, _-_, _+_, min}
 use lib.ListN.{length, drop}
-use Rattle.rule.specs.Number.{most, decimal, decimalFrom, numberValue}
+use Rattle.rule.specs.Number.{most, numberValue}
+use Rattle.rule.specs.Spelling.{decimal, decimalFrom}
 use Rattle.rule.proofs.Decimals.{digit-more, digits-end}
 use borrow.Author.Needs.{needs}
 use native.Mathlib.Omega.{arith}

@@ -10,8 +10,6 @@ use borrow.Author.Tests.{eqb-true, eqb-false}
 use lib.Seq.{ext-getD, getD-set-same, getD-set-other}
 use Rattle.rule.proofs.reader.copy.Statement.{statement}
 use Rattle.rule.proofs.reader.copy.Tie as tie
-use Rattle.rule.proofs.reader.copy.Reads as reads
-use Rattle.rule.proofs.reader.copy.Lts as lts
 
 abbrev Inv-loop : tie.InvT-loop
 Inv-loop from to₀ i₀ to i = (i ≤ 512) × (length to ≡ 512) × ((k : ℕ) → k < i → getD to k 0 ≡ getD from k 0)

@@ -1,19 +1,7 @@
-use mathlib.Core.Path.{_≡_, refl, sym, ap, _∙_}
-use native.Mathlib.Omega.{arith}
-use mathlib.Core.List.{[], _∷_}
-use denote.Ref.{now}
-use Rattle.rule.specs.Machine.{want}
-use Rattle.rule.specs.Machine as machine
-use Rattle.rule.specs.Does.{onward}
-use Rattle.rule.specs.declared.parts.Role.the-variants.{Event, Note}
-use Rattle.rule.proofs.Laws.{then, stop, as-is}
 use Rattle.rule.proofs.Close.{nothing-left, something-left}
 use borrow.Author.Needs.{needs}
 use Rattle.rule.proofs.reader.ended.Statement.{statement}
 use Rattle.rule.proofs.reader.ended.Tie as tie
-use Rattle.rule.proofs.tokens.token_at.Reads as token-at-reads
-use Rattle.rule.proofs.reader.ended.Reads as reads
-use Rattle.rule.proofs.reader.ended.Lts as lts
 
 token-at-requires : tie.Need-token-at-requires
 token-at-requires c κs = search needs

@@ -1,21 +1,15 @@
-use mathlib.Core.Path.{_≡_, refl, sym, ap, _∙_}
+use mathlib.Core.Path.{_∙_}
 use native.Mathlib.Omega.{arith}
 use mathlib.Core.List.{[], _∷_}
 use denote.Ref.{now}
 use Rattle.rule.specs.Machine.{want}
 use Rattle.rule.specs.Machine as machine
 use Rattle.rule.specs.Does.{onward}
-use Rattle.rule.specs.declared.parts.Role.the-variants.{Event, Note}
-use Rattle.rule.proofs.Laws.{then, stop, as-is}
-use Rattle.rule.proofs.Close.{nothing-left, something-left}
+use Rattle.rule.specs.declared.parts.Role.the-variants.{Note}
+use Rattle.rule.proofs.Does.{then, stop, as-is}
 use borrow.Author.Needs.{needs}
 use Rattle.rule.proofs.reader.whole.Statement.{statement}
 use Rattle.rule.proofs.reader.whole.Tie as tie
-use Rattle.rule.proofs.header.declarations.Reads as declarations-reads
-use Rattle.rule.proofs.conditions.condition.Reads as condition-reads
-use Rattle.rule.proofs.reader.ended.Reads as ended-reads
-use Rattle.rule.proofs.reader.whole.Reads as reads
-use Rattle.rule.proofs.reader.whole.Lts as lts
 
 declarations-requires : tie.Need-declarations-requires
 declarations-requires c κs = (omega arith, c .before .before .pre, omega arith)

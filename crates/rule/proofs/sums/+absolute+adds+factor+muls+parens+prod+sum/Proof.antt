@@ -1,15 +1,15 @@
-use borrow.Author.Tests.{lt-ltb, le-ltb, le-leb, lt-leb, eq-eqb, ne-eqb}
-use mathlib.Core.Path.{_≡_, refl, sym, ap, _∙_}
+use borrow.Author.Tests.{ne-eqb}
+use mathlib.Core.Path.{_≡_, refl, sym, _∙_}
 use native.Mathlib.Omega.{arith}
-use mathlib.Core.List.{[], _∷_}
+use mathlib.Core.List.{_∷_}
 use Prim.Native.Nat.{ℕ, _<_, _+_, _*_, _-_}
 use lib.ListN.{length}
 use denote.Ref.{now}
 use Rattle.rule.specs.Machine.{step, finish, startFactor, out, want, doing}
 use Rattle.rule.specs.Machine as machine
-use Rattle.rule.specs.Measure.{plain}
+use Rattle.rule.specs.Draft.{plain}
 use Rattle.rule.specs.Does.{signByte}
-use Rattle.rule.proofs.Laws.{then, stop, then-does, idle, as-is, least, same, fail, take, beyond, inside}
+use Rattle.rule.proofs.Does.{then, stop, then-does, idle, as-is, least, same, fail, take, beyond, inside}
 use Rattle.rule.proofs.Marked.{sign-some, sign-pass, sign-step}
 use borrow.Author.Needs.{needs}
 use borrow.Fn.Kinds.{In}

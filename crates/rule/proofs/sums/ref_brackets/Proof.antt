@@ -1,22 +1,12 @@
-use borrow.Author.Tests.{lt-ltb, le-ltb, le-leb, lt-leb, eq-eqb, ne-eqb}
-use mathlib.Core.Path.{_≡_, refl, sym, ap, subst, _∙_}
-use mathlib.Core.List.{[], _∷_}
+use mathlib.Core.List.{_∷_}
 use denote.Ref.{now}
-use Rattle.rule.specs.Machine.{step, finish, out, want}
+use Rattle.rule.specs.Machine.{want}
 use Rattle.rule.specs.Machine as machine
-use Rattle.rule.specs.Measure.{ref}
-use Rattle.rule.specs.declared.parts.Scale.the-variants.{Once, Times}
-use Rattle.rule.specs.declared.parts.Shift.the-variants.{Unshifted, By}
-use Rattle.rule.proofs.Laws.{then, stop, then-does, idle, as-is, least, same, fail, take, beyond, inside}
+use Rattle.rule.proofs.Does.{then, stop, as-is}
 use native.Mathlib.Omega.{arith}
 use borrow.Author.Needs.{needs}
 use Rattle.rule.proofs.sums.ref_brackets.Statement.{statement}
 use Rattle.rule.proofs.sums.ref_brackets.Tie as tie
-use Rattle.rule.proofs.sums.ref_brackets.Reads as reads
-use Rattle.rule.proofs.sums.ref_brackets.Lts as lts
-use Rattle.rule.proofs.sums.expect.Reads as expect-reads
-use Rattle.rule.proofs.sums.ref_end.Reads as ref-end-reads
-use Rattle.rule.proofs.sums.ref_index.Reads as ref-index-reads
 
 -- src/sums.rt:130:11
 expect-requires : tie.Need-expect-requires

@@ -1,22 +1,12 @@
-use borrow.Author.Tests.{lt-ltb, le-ltb, le-leb, lt-leb, eq-eqb, ne-eqb}
-use mathlib.Core.Path.{_≡_, refl, sym, ap, subst, _∙_}
-use mathlib.Core.List.{[], _∷_}
+use borrow.Author.Tests.{ne-eqb}
+use mathlib.Core.Path.{_≡_, refl}
 use denote.Ref.{now}
-use Rattle.rule.specs.Machine.{step, finish, out, want}
-use Rattle.rule.specs.Machine as machine
-use Rattle.rule.specs.Measure.{ref}
-use Rattle.rule.specs.declared.parts.Scale.the-variants.{Once, Times}
-use Rattle.rule.specs.declared.parts.Shift.the-variants.{Unshifted, By}
-use Rattle.rule.proofs.Laws.{then, stop, then-does, idle, as-is, least, same, fail, take, beyond, inside}
+use Rattle.rule.specs.Machine.{step, finish}
+use Rattle.rule.proofs.Does.{idle, fail, take, beyond, inside}
 use native.Mathlib.Omega.{arith}
 use borrow.Author.Needs.{needs}
 use Rattle.rule.proofs.sums.ref_by.Statement.{statement}
 use Rattle.rule.proofs.sums.ref_by.Tie as tie
-use Rattle.rule.proofs.sums.ref_by.Reads as reads
-use Rattle.rule.proofs.sums.ref_by.Lts as lts
-use Rattle.rule.proofs.emit.emit_reference.Reads as emit-reference-reads
-use Rattle.rule.proofs.memory.sized.Reads as sized-reads
-use Rattle.rule.proofs.tokens.token_at.Reads as token-at-reads
 
 -- src/sums.rt:53:9
 token-at-requires : tie.Need-token-at-requires

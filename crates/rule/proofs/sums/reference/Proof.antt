@@ -1,21 +1,11 @@
-use borrow.Author.Tests.{lt-ltb, le-ltb, le-leb, lt-leb, eq-eqb, ne-eqb}
-use mathlib.Core.Path.{_≡_, refl, sym, ap, subst, _∙_}
-use mathlib.Core.List.{[], _∷_}
+use mathlib.Core.List.{_∷_}
 use denote.Ref.{now}
-use Rattle.rule.specs.Machine.{step, finish, out, want}
 use Rattle.rule.specs.Machine as machine
-use Rattle.rule.specs.Measure.{ref}
-use Rattle.rule.specs.declared.parts.Scale.the-variants.{Once, Times}
-use Rattle.rule.specs.declared.parts.Shift.the-variants.{Unshifted, By}
-use Rattle.rule.proofs.Laws.{then, stop, then-does, idle, as-is, least, same, fail, take, beyond, inside}
+use Rattle.rule.proofs.Does.{then, stop, as-is}
 use native.Mathlib.Omega.{arith}
 use borrow.Author.Needs.{needs}
 use Rattle.rule.proofs.sums.reference.Statement.{statement}
 use Rattle.rule.proofs.sums.reference.Tie as tie
-use Rattle.rule.proofs.sums.reference.Reads as reads
-use Rattle.rule.proofs.sums.reference.Lts as lts
-use Rattle.rule.proofs.sums.expect.Reads as expect-reads
-use Rattle.rule.proofs.sums.ref_event.Reads as ref-event-reads
 
 -- src/sums.rt:161:11
 expect-requires : tie.Need-expect-requires

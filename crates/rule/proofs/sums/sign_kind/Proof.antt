@@ -1,10 +1,7 @@
-use borrow.Author.Tests.{lt-ltb, le-ltb, le-leb, lt-leb, eq-eqb, ne-eqb}
+use borrow.Author.Tests.{eq-eqb, ne-eqb}
 use Rattle.rule.specs.Does.{signByte}
-use borrow.Author.Needs.{needs}
 use Rattle.rule.proofs.sums.sign_kind.Statement.{statement}
 use Rattle.rule.proofs.sums.sign_kind.Tie as tie
-use Rattle.rule.proofs.sums.sign_kind.Reads as reads
-use Rattle.rule.proofs.sums.sign_kind.Lts as lts
 
 returns : tie.Need-returns
 unfolding signByte

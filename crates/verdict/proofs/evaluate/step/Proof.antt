@@ -11,7 +11,7 @@ use mir.ValLaws.{toZ-ofZ}
 use mir.Facts.{toZ-pos}
 use mir.Syntax.{w32, w64}
 use Rattle.rule.specs.Frames.{literal, instance, reference, operand, absolute, negation}
-use Rattle.rule.proofs.KindBytes.{kind-at, none-15, none-27, none-35}
+use Rattle.rule.proofs.Laws.{kind-at, none-15, none-27, none-35}
 use Rattle.verdict.specs.Pass.{withSums, withConds, withReference}
 use Rattle.verdict.specs.Stacks.{passOf}
 use Rattle.verdict.proofs.ByKind.{past, none-low, step-at, arithmetic-ready, arithmetic-small, arithmetic-step, relation-ready, connective-ready, connective-step}

@@ -7,7 +7,7 @@ use borrow.Author.Needs.{needs}
 use lib.ListN.{getD, length-set}
 use Rattle.rule.specs.Frames.{kindOf}
 use Rattle.rule.specs.Build.{top2}
-use Rattle.rule.proofs.Stack.{stack-two, stack-fold}
+use Rattle.rule.proofs.Laws.{stack-two, stack-fold}
 use Rattle.verdict.specs.Stacks.{truthOf, truthsOf, joinedBy}
 use Rattle.verdict.specs.declared.Truth.{Truth}
 use Rattle.verdict.proofs.stacks.join_conds.Statement.{statement}

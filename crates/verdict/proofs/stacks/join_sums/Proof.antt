@@ -11,7 +11,7 @@ use mir.Val.{toZ, ofZ}
 use Rattle.rule.specs.Frames.{kindOf}
 use Rattle.rule.specs.Build.{top2}
 use Rattle.rule.specs.Stack.{stackOf}
-use Rattle.rule.proofs.Stack.{stack-two, stack-fold}
+use Rattle.rule.proofs.Laws.{stack-two, stack-fold}
 use Rattle.verdict.specs.Stacks.{computedBy}
 use Rattle.verdict.proofs.Numbers.{small-fits}
 use Rattle.verdict.proofs.stacks.join_sums.Statement.{statement}

@@ -6,7 +6,7 @@ use native.Mathlib.Omega.{arith}
 use borrow.Author.Needs.{needs}
 use lib.ListN.{length-set}
 use Rattle.rule.specs.Build.{top1}
-use Rattle.rule.proofs.Stack.{stack-one, stack-top}
+use Rattle.rule.proofs.Laws.{stack-one, stack-top}
 use Rattle.verdict.specs.Stacks.{truthOf, truthsOf}
 use Rattle.verdict.specs.declared.Truth.{Truth}
 use Rattle.verdict.specs.Kleene.{notK}

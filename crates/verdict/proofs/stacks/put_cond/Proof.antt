@@ -4,7 +4,7 @@ use mathlib.Core.List.{_∷_, map}
 use native.Mathlib.Omega.{arith}
 use borrow.Author.Needs.{needs}
 use lib.ListN.{length-set}
-use Rattle.rule.proofs.Stack.{stack-push}
+use Rattle.rule.proofs.Laws.{stack-push}
 use Rattle.verdict.specs.Stacks.{truthOf, truthsOf}
 use Rattle.verdict.specs.declared.Truth.{Truth}
 use Rattle.verdict.proofs.stacks.put_cond.Statement.{statement}

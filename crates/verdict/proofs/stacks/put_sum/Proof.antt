@@ -6,7 +6,7 @@ use lib.IntN.{pos}
 use lib.ListN.{length-set}
 use mir.ValLaws.{toZ-ofZ}
 use mir.Syntax.{w64}
-use Rattle.rule.proofs.Stack.{stack-push}
+use Rattle.rule.proofs.Laws.{stack-push}
 use Rattle.verdict.proofs.stacks.put_sum.Statement.{statement}
 use Rattle.verdict.proofs.stacks.put_sum.Tie as tie
 

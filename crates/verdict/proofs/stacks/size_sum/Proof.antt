@@ -10,7 +10,7 @@ use mir.Syntax.{w64}
 use mir.Val.{toZ, ofZ}
 use Rattle.rule.specs.Build.{top1}
 use Rattle.rule.specs.Stack.{stackOf}
-use Rattle.rule.proofs.Stack.{stack-one, stack-top}
+use Rattle.rule.proofs.Laws.{stack-one, stack-top}
 use Rattle.verdict.specs.Value.{sizeOf}
 use Rattle.verdict.proofs.stacks.size_sum.Statement.{statement}
 use Rattle.verdict.proofs.stacks.size_sum.Tie as tie

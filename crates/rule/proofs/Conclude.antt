@@ -1,40 +1,40 @@
 -- The answer of `read`, case by case. Assumes nothing.
-use mathlib.Core.Path.{_≡_, refl, ap, sym, subst, _∙_}
+use mathlib.Core.Path.{_≡_, refl}
 use mathlib.Core.Bool.{true, false}
 use mathlib.Core.List.{List}
 use Prim.Native.Nat.{ℕ, _-_, _*_, _≤_, _<_, zero-le}
-use native.Mathlib.Omega.{arith}
-use borrow.Author.Tests.{eq-eqb, ne-eqb, lt-ltb, le-ltb}
+use borrow.Author.Tests.{ne-eqb, lt-ltb, le-ltb}
 use lib.ListN.{length, take, replicate}
 use Rattle.rule.specs.Token.{tokens}
-use Rattle.rule.specs.Machine.{start, Answer, run}
-use Rattle.rule.specs.Memory.{Mem, fresh, acts, listed, mem}
+use Rattle.rule.specs.Machine.{start, Answer}
+use Rattle.rule.specs.Memory.{Mem, fresh, listed, mem}
 use Rattle.rule.specs.Does.{runFrom}
 use Rattle.rule.specs.Check.{checkedOf}
-use Rattle.rule.specs.Reading.{refusedAs, judged, afterCheck, settled, afterGrammar, readOf, unread}
+use Rattle.rule.specs.Reading.{judged, afterCheck, concluded, afterGrammar, readOf, unread}
+use Rattle.rule.specs.Answers.{refusedAs}
 use Rattle.rule.specs.declared.memory.Tally.{Tally}
 use Rattle.rule.proofs.Lexing.{rising}
 use Rattle.rule.proofs.Close.{Kept, OkA, run-ok}
 
 -- ---- 4 to 8
 module _ (b : List ℕ) (t : Tally) (tb bytes : List ℕ) where
-  pub four : (t .name ≡ 0 → ⊥) → settled b (mem t tb bytes) ≡ (refusedAs 4 (t .name - 1), b)
+  pub four : (t .name ≡ 0 → ⊥) → concluded b (mem t tb bytes) ≡ (refusedAs 4 (t .name - 1), b)
   unfolding mem
   four h = rw (ne-eqb (t .name) 0 h)
 
-  pub five : t .name ≡ 0 → (t .number ≡ 0 → ⊥) → settled b (mem t tb bytes) ≡ (refusedAs 5 (t .number - 1), b)
+  pub five : t .name ≡ 0 → (t .number ≡ 0 → ⊥) → concluded b (mem t tb bytes) ≡ (refusedAs 5 (t .number - 1), b)
   unfolding mem
   five e h = rw (e, ne-eqb (t .number) 0 h)
 
-  pub six-deep : t .name ≡ 0 → t .number ≡ 0 → t .deep ≡ true → settled b (mem t tb bytes) ≡ (refusedAs 6 0, b)
+  pub six-deep : t .name ≡ 0 → t .number ≡ 0 → t .deep ≡ true → concluded b (mem t tb bytes) ≡ (refusedAs 6 0, b)
   unfolding mem
   six-deep e f g = rw (e, f, g)
 
-  pub six-frames : t .name ≡ 0 → t .number ≡ 0 → t .deep ≡ false → 64 < t .count → settled b (mem t tb bytes) ≡ (refusedAs 6 0, b)
+  pub six-frames : t .name ≡ 0 → t .number ≡ 0 → t .deep ≡ false → 64 < t .count → concluded b (mem t tb bytes) ≡ (refusedAs 6 0, b)
   unfolding mem
   six-frames e f g h = rw (e, f, g, lt-ltb 64 (t .count) h)
 
-  pub seven-eight : t .name ≡ 0 → t .number ≡ 0 → t .deep ≡ false → t .count ≤ 64 → settled b (mem t tb bytes) ≡ afterCheck b (mem t tb bytes) (checkedOf (take (t .count * 8) bytes))
+  pub seven-eight : t .name ≡ 0 → t .number ≡ 0 → t .deep ≡ false → t .count ≤ 64 → concluded b (mem t tb bytes) ≡ afterCheck b (mem t tb bytes) (checkedOf (take (t .count * 8) bytes))
   unfolding mem
   seven-eight e f g h = rw (e, f, g, le-ltb 64 (t .count) h)
 

@@ -1,26 +1,18 @@
-use mathlib.Core.Path.{_≡_, refl, sym, ap, subst, _∙_}
+use mathlib.Core.Path.{sym, ap, _∙_}
 use native.Mathlib.Omega.{arith}
-use mathlib.Core.List.{List, []}
+use mathlib.Core.List.{List}
 use Prim.Native.Nat.{ℕ}
 use denote.Ref.{now}
-use lib.ListN.{length, replicate}
+use lib.ListN.{length}
 use lib.Seq.{length-take-le}
-use Rattle.rule.specs.Machine.{Answer}
-use Rattle.rule.specs.Memory.{Mem, mem}
-use Rattle.rule.specs.Reading.{afterCheck, answerOf}
+use Rattle.rule.specs.Memory.{mem}
+use Rattle.rule.specs.Reading.{afterCheck}
 use Rattle.rule.specs.declared.Reading.{Reading}
 use Rattle.rule.specs.declared.Checked.{Checked}
-use Rattle.rule.specs.declared.memory.Step.{Step}
-use Rattle.rule.proofs.Close.{OkA}
-use Rattle.rule.proofs.Settle.{four, five, six-deep, six-frames, seven-eight, one, two-none, two-many, three, starts, judged-ok, kept-name, kept-number, kept-long}
+use Rattle.rule.proofs.Conclude.{four, five, six-deep, six-frames, seven-eight}
 use borrow.Author.Needs.{needs}
-use Rattle.rule.proofs.reader.settle.Statement.{statement}
-use Rattle.rule.proofs.reader.settle.Tie as tie
-use Rattle.rule.proofs.reader.refuse.Reads as refuse-reads
-use Rattle.rule.proofs.check.Reads as check-reads
-use Rattle.rule.proofs.reader.copy.Reads as copy-reads
-use Rattle.rule.proofs.reader.settle.Reads as reads
-use Rattle.rule.proofs.reader.settle.Lts as lts
+use Rattle.rule.proofs.reader.conclude.Statement.{statement}
+use Rattle.rule.proofs.reader.conclude.Tie as tie
 
 sub-refuse : tie.Need-sub-refuse
 sub-refuse c = search needs
@@ -80,17 +72,17 @@ cast-t19 : tie.Need-cast-t19
 cast-t19 c = omega arith
 
 returns-5 : tie.Need-returns-5
-returns-5 c = λ tb. let e = seven-eight (now (c .before .before .before .before .before .before .before .before .before .before .before .before .before .before .args .frames)) (c .before .before .before .before .before .before .before .before .before .before .before .before .before .before .args .m) tb (now (c .before .before .before .before .before .before .before .before .before .before .before .before .before .before .args .buf)) (c .before .before .before .before .before .before .before .before .before .before .if1 .left) (c .before .before .before .before .before .before .before .before .if2 .left) (c .before .before .before .before .before .before .before .if3 .left) (c .before .before .before .before .before .if4 .left) in let q = e ∙ ap (λ (a : Checked). afterCheck (now (c .before .before .before .before .before .before .before .before .before .before .before .before .before .before .args .frames)) (mem (c .before .before .before .before .before .before .before .before .before .before .before .before .before .before .args .m) tb (now (c .before .before .before .before .before .before .before .before .before .before .before .before .before .before .args .buf))) a) (sym (c .before .before .before .check .ensures) ∙ c .before .answer .given .1) in (sym (ap (λ (x : Reading × List ℕ). x .0) q), sym (ap (λ (x : Reading × List ℕ). x .1) q))
+returns-5 c = λ tb. let e = seven-eight (now (c .before .before .before .before .before .before .before .before .before .before .before .before .before .before .args .frames)) (c .before .before .before .before .before .before .before .before .before .before .before .before .before .before .args .m) tb (now (c .before .before .before .before .before .before .before .before .before .before .before .before .before .before .args .buf)) (c .before .before .before .before .before .before .before .before .before .before .if1 .left) (c .before .before .before .before .before .before .before .before .if2 .left) (c .before .before .before .before .before .before .before .if3 .left) (c .before .before .before .before .before .if4 .left) in let q = e ∙ ap (λ (a : Checked). afterCheck (now (c .before .before .before .before .before .before .before .before .before .before .before .before .before .before .args .frames)) (mem (c .before .before .before .before .before .before .before .before .before .before .before .before .before .before .args .m) tb (now (c .before .before .before .before .before .before .before .before .before .before .before .before .before .before .args .buf))) a) (sym (c .before .before .before .check .ensures .0) ∙ c .before .answer .given .1) in (sym (ap (λ (x : Reading × List ℕ). x .0) q), sym (ap (λ (x : Reading × List ℕ). x .1) q))
 
 same-length : tie.Need-same-length
 same-length c = search needs
 
 returns-6 : tie.Need-returns-6
 unfolding mem
-returns-6 c = λ tb. let e = seven-eight (now (c .before .before .before .before .before .before .before .before .before .before .before .before .before .before .before .before .before .args .frames)) (c .before .before .before .before .before .before .before .before .before .before .before .before .before .before .before .before .before .args .m) tb (now (c .before .before .before .before .before .before .before .before .before .before .before .before .before .before .before .before .before .args .buf)) (c .before .before .before .before .before .before .before .before .before .before .before .before .before .if1 .left) (c .before .before .before .before .before .before .before .before .before .before .before .if2 .left) (c .before .before .before .before .before .before .before .before .before .before .if3 .left) (c .before .before .before .before .before .before .before .before .if4 .left) in let q = e ∙ ap (λ (a : Checked). afterCheck (now (c .before .before .before .before .before .before .before .before .before .before .before .before .before .before .before .before .before .args .frames)) (mem (c .before .before .before .before .before .before .before .before .before .before .before .before .before .before .before .before .before .args .m) tb (now (c .before .before .before .before .before .before .before .before .before .before .before .before .before .before .before .before .before .args .buf))) a) (sym (c .before .before .before .before .before .before .check .ensures) ∙ c .before .before .before .before .enum-told .given .1) in (sym (ap (λ (x : Reading × List ℕ). x .0) q), c .before .before .copy .ensures ∙ sym (ap (λ (x : Reading × List ℕ). x .1) q))
+returns-6 c = λ tb. let e = seven-eight (now (c .before .before .before .before .before .before .before .before .before .before .before .before .before .before .before .before .before .args .frames)) (c .before .before .before .before .before .before .before .before .before .before .before .before .before .before .before .before .before .args .m) tb (now (c .before .before .before .before .before .before .before .before .before .before .before .before .before .before .before .before .before .args .buf)) (c .before .before .before .before .before .before .before .before .before .before .before .before .before .if1 .left) (c .before .before .before .before .before .before .before .before .before .before .before .if2 .left) (c .before .before .before .before .before .before .before .before .before .before .if3 .left) (c .before .before .before .before .before .before .before .before .if4 .left) in let q = e ∙ ap (λ (a : Checked). afterCheck (now (c .before .before .before .before .before .before .before .before .before .before .before .before .before .before .before .before .before .args .frames)) (mem (c .before .before .before .before .before .before .before .before .before .before .before .before .before .before .before .before .before .args .m) tb (now (c .before .before .before .before .before .before .before .before .before .before .before .before .before .before .before .before .before .args .buf))) a) (sym (c .before .before .before .before .before .before .check .ensures .0) ∙ c .before .before .before .before .enum-told .given .1) in (sym (ap (λ (x : Reading × List ℕ). x .0) q), c .before .before .copy .ensures ∙ sym (ap (λ (x : Reading × List ℕ). x .1) q))
 
-pub settle-spec : {M : Type 1} → statement M
-settle-spec = tie.close (tie.spec
+pub conclude-spec : {M : Type 1} → statement M
+conclude-spec = tie.close (tie.spec
     sub-refuse
     cast-refuse
     refuse-requires

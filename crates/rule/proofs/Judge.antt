@@ -1,51 +1,30 @@
 -- Refusals 4 to 6 of a tree in their order, as the reader's memory decides them: code p stands for the letters of the name at p
--- (Name.antt: one number for each name of at most 12 letters), value p for the number at p. Spelling and Answers say them in the
--- document's words. Assumes nothing: definitions.
+-- (specs/Name: one number for each name of at most 12 letters), value p for the number at p. specs/Spelling and specs/Answers say
+-- them in the document's words. Assumes nothing: definitions.
 use Prim.Native.Nat.{ℕ}
 use mathlib.Core.Bool.{Bool, true, false, cond}
 use mathlib.Core.Option.{Option, none, some}
 use mathlib.Core.List.{List, [], _∷_, _++_}
 use lib.ListN.{length}
-use lib.Dec.{ltb, leb, eqb}
-use Rattle.rule.specs.Limits.{eventLimit, noteLimit, factorLimit, offsetLimit, literalLimit, frameLimit}
+use lib.Dec.{ltb, leb}
+use Rattle.rule.specs.Limits.{frameLimit}
 use Rattle.rule.specs.ReadLimits.{depthLimit}
-use Rattle.rule.specs.Name.{longName}
 use Rattle.rule.specs.Grammar.{Rule}
-use Rattle.rule.specs.Measure.{Draft, frames, depth, Named, declared, used, names, Sized, sized-by, numbers}
+use Rattle.rule.specs.Measure.{depth, Named, declared, used, names, Sized, sized-by, numbers}
+use Rattle.rule.specs.Spelling.{same-role, room}
+use Rattle.rule.specs.Draft.{Draft, frames}
+use Rattle.rule.specs.Name.{longName}
+use Rattle.rule.specs.Memory.{among, bad-number}
 use Rattle.rule.specs.declared.parts.Place.{Place}
 use Rattle.rule.specs.declared.parts.Role.{Role}
-use Rattle.rule.specs.declared.parts.Role.the-variants.{Event, Note}
-use Rattle.rule.specs.declared.parts.Limit.{Limit}
-use Rattle.rule.specs.declared.parts.Limit.the-variants.{OfLiteral, OfFactor, OfOffset}
-
-abbrev pub same-role : Role → Role → Bool
-same-role Event Event = true
-same-role Event Note = false
-same-role Note Event = false
-same-role Note Note = true
-
--- "Events and notes are numbered from 0 as declared, at most 8 and 4"
-abbrev pub room : Role → ℕ
-room Event = eventLimit
-room Note = noteLimit
-
-abbrev pub among : ℕ → List ℕ → Bool
-among c [] = false
-among c (x ∷ xs) = cond (eqb c x) true (among c xs)
-
--- "The factor of i is 1 to 9, the offset −9,999 to 9,999, a literal at most 2,147,483,647"
-abbrev pub beyond : Limit → ℕ → Bool
-beyond OfLiteral v = ltb literalLimit v
-beyond OfFactor v = cond (eqb v 0) true (ltb factorLimit v)
-beyond OfOffset v = ltb offsetLimit v
 
 -- refused with a number and a place, or read as frames
-pub data Verdict : Type 0 where
-  refused-by : ℕ → ℕ → Verdict
-  read-as : List Draft → Verdict
+pub data Outcome : Type 0 where
+  refused-by : ℕ → ℕ → Outcome
+  read-as : List Draft → Outcome
 
 -- as two numbers: the refusal's number and place, or 0 and the number of frames
-abbrev pub telling : Verdict → ℕ × ℕ
+abbrev pub telling : Outcome → ℕ × ℕ
 telling (refused-by k p) = (k, p)
 telling (read-as fs) = (0, length fs)
 
@@ -61,6 +40,7 @@ module _ (code value : Place → ℕ) where
   bad-name before (declared r p) = cond (leb longName (code p)) true (cond (among (code p) (codes r before)) true (leb (room r) (length (codes r before))))
   bad-name before (used r p) = cond (among (code p) (codes r before)) false true
 
+  -- where a name stands
   abbrev pub spot : Named → Place
   spot (declared r p) = p
   spot (used r p) = p
@@ -70,24 +50,21 @@ module _ (code value : Place → ℕ) where
   first-name before [] = none
   first-name before (x ∷ xs) = cond (bad-name before x) (some (spot x)) (first-name (before ++ x ∷ []) xs)
 
-  -- 5: "a number beyond its limit"
-  abbrev pub bad-number : Sized → Bool
-  bad-number (sized-by l p) = beyond l (value p)
-
   -- "place the first"
   abbrev pub first-number : List Sized → Option Place
   first-number [] = none
-  first-number (sized-by l p ∷ xs) = cond (bad-number (sized-by l p)) (some p) (first-number xs)
+  first-number (sized-by l p ∷ xs) = cond (bad-number code value (sized-by l p)) (some p) (first-number xs)
 
-  -- 6: "depth over 16 or over 64 frames"
-  abbrev pub after-number : Rule → Option Place → Verdict
+  -- 5, then 6: "depth over 16 or over 64 frames"
+  abbrev pub after-number : Rule → Option Place → Outcome
   after-number x (some p) = refused-by 5 (p .start)
   after-number x none = cond (ltb depthLimit (depth x)) (refused-by 6 0) (cond (ltb frameLimit (length (frames x))) (refused-by 6 0) (read-as (frames x)))
 
-  abbrev pub after-name : Rule → Option Place → Verdict
+  -- 4, then the rest
+  abbrev pub after-name : Rule → Option Place → Outcome
   after-name x (some p) = refused-by 4 (p .start)
   after-name x none = after-number x (first-number (numbers x))
 
   -- 4, then 5, then 6
-  abbrev pub verdict : Rule → Verdict
-  verdict x = after-name x (first-name [] (names x))
+  abbrev pub outcome : Rule → Outcome
+  outcome x = after-name x (first-name [] (names x))
