@@ -23,8 +23,7 @@ use Rattle.checker.specs.Pull.{pullDef}
 use Rattle.checker.specs.declared.PullAnswer.{PullAnswer}
 use Rattle.checker.specs.declared.State.{State}
 use Rattle.checker.specs.declared.apart.Rest.{Rest}
-use Rattle.checker.proofs.Fresh.{both-opened}
-use Rattle.checker.proofs.GoodStays.{good-open, good-feed, good-pull, feed-rule, pull-rule, feed-long}
+use Rattle.checker.proofs.Laws.{both-opened, good-open, good-feed, good-pull, feed-rule, pull-rule, feed-long}
 use Rattle.bench.specs.Print.{reportPart}
 use Rattle.bench.specs.Progress.{Progress, blank, pullOf, printed, isVerdict, pulledOnce, pulls, pullLimit, countedBy, fedLine, afterLine}
 use Rattle.bench.specs.Carried.{outBytes, progressOf, roomy, Ends, before, After}

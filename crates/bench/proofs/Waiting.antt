@@ -30,8 +30,7 @@ use Rattle.checker.specs.Demand.{Unrefused}
 use Rattle.checker.specs.Feed.{feedDef}
 use Rattle.checker.specs.Pull.{offered, pullRead, PullResult, foundHere, pulledBy, pullDef}
 use Rattle.checker.specs.declared.State.{State}
-use Rattle.checker.proofs.Fresh.{both-opened}
-use Rattle.checker.proofs.GoodStays.{good-open, good-feed, good-pull, feed-rule, pull-rule, feed-long}
+use Rattle.checker.proofs.Laws.{both-opened, good-open, good-feed, good-pull, feed-rule, pull-rule, feed-long}
 use Rattle.bench.specs.Progress.{Progress, blank, pullOf, isVerdict, pulledOnce, UntilWaiting, last, more, pulls, pullLimit, fedLine, afterLine, afterLines}
 use Rattle.bench.specs.Output.{benchWidth, atStart, begun, openedFor}
 use Rattle.bench.proofs.Whole.{read-opened}

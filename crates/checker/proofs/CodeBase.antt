@@ -23,7 +23,7 @@ use Rattle.rule.proofs.Laws.{AllWithin, references-within, reference-at, passed
 use Rattle.verdict.specs.Found.{instanceLimit, meantBy}
 use Rattle.verdict.specs.declared.Occurrence.{Occurrence}
 use Rattle.verdict.specs.declared.Meant.the-variants.{Void, At}
-use Rattle.verdict.proofs.Numbers.{natAbs-add}
+use Rattle.verdict.proofs.Laws.{natAbs-add}
 use Rattle.checker.specs.Limits.{lineLimit}
 use Rattle.checker.specs.Base.{ofEvent, isSome, referenced, orZero, startAt, smallest, base}
 use Rattle.checker.specs.State.{Tally, sumOf}

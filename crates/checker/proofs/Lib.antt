@@ -1,28 +1,29 @@
-pub mod Choices
-pub mod Ring
-pub mod Bases
-pub mod Simulation
-pub mod Fresh
-pub mod Lists
-pub mod Final
-pub mod Sums
-pub mod Value
-pub mod Text
-pub mod Agree
-pub mod Order
-pub mod Reports
-pub mod Never
-pub mod Exactly
-pub mod Unchanged
-pub mod Marked
-pub mod CodeCopy
-pub mod CodeBase
-pub mod CodeRing
-pub mod CodeGood
-pub mod CodeFeed
-pub mod GoodStays
+mod Choices
+mod Ring
+mod Bases
+mod Simulation
+mod Fresh
+mod Lists
+mod Final
+mod Sums
+mod Value
+mod Text
+mod Agree
+mod Order
+mod Reports
+mod Never
+mod Exactly
+mod Unchanged
+mod Marked
+mod CodeCopy
+mod CodeBase
+mod CodeRing
+mod CodeGood
+mod CodeFeed
+mod GoodStays
 pub mod Main
-pub mod PullBits
-pub mod PullFound
-pub mod PullReport
-pub mod PullOffer
+pub mod Laws
+mod PullBits
+mod PullFound
+mod PullReport
+mod PullOffer

@@ -13,7 +13,8 @@ use Rattle.rule.specs.Class.{classOf, span}
 use Rattle.rule.specs.Token.{same, wordKind, markOf, markWidth, widthOf, tokenHere, tokenAt, tokensIn, tokensFrom}
 use Rattle.rule.specs.Token.{kindOf as tokenKind}
 use Rattle.rule.specs.Name.{code, nameCode}
-use Rattle.rule.specs.Number.{decimalFrom, decimal, numberValue}
+use Rattle.rule.specs.Number.{numberValue}
+use Rattle.rule.specs.Spelling.{decimalFrom, decimal}
 use Rattle.rule.specs.Machine.{deeper, startFactor, step, finish, run}
 use Rattle.rule.specs.Memory.{position, negated, put, acts}
 use Rattle.rule.specs.Frames.{add, subtract, multiply, equal, less, atMost, more, or, kindOf}
@@ -23,7 +24,9 @@ use Rattle.rule.specs.Order.{orderOf}
 use Rattle.rule.specs.Sizes.{sizesFit}
 use Rattle.rule.specs.Build.{treeOf}
 use Rattle.rule.specs.Check.{checkedOf}
-use Rattle.rule.specs.Reading.{bufferBytes, refusedAs, judged, readOf}
+use Rattle.rule.specs.Limits.{bufferBytes}
+use Rattle.rule.specs.Answers.{refusedAs}
+use Rattle.rule.specs.Reading.{judged, readOf}
 use Rattle.rule.specs.declared.Reading.{Reading}
 use Rattle.rule.specs.declared.Reading.the-variants as reading
 use Rattle.log.specs.Digit.{digitValue}

@@ -1,14 +1,15 @@
-pub mod Tables
-pub mod Own
-pub mod Stays
-pub mod Numbers
-pub mod Meanings
-pub mod ByKind
-pub mod Built
-pub mod Bounds
-pub mod Loop
-pub mod Mirror
-pub mod Means
-pub mod Marked
-pub mod Examples
+mod Tables
+mod Own
+mod Stays
+mod Numbers
+mod Meanings
+mod ByKind
+mod Built
+mod Bounds
+mod Loop
+mod Mirror
+mod Means
+mod Marked
+mod Examples
 pub mod Main
+pub mod Laws

@@ -6,7 +6,7 @@ use native.Mathlib.Omega.{arith}
 use lib.ListN.{length}
 use borrow.Author.Needs.{needs}
 use Rattle.checker.specs.Limits.{reportLeast}
-use Rattle.checker.proofs.CodeBase.{bytes-take}
+use Rattle.checker.proofs.Laws.{bytes-take}
 use Rattle.bench.proofs.RunLaws.{pulled-arm, pulled-quiet}
 use Rattle.bench.proofs.step.pull_into.Statement.{statement}
 use Rattle.bench.proofs.step.pull_into.Tie as tie
