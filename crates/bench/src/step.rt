@@ -4,6 +4,7 @@ use crate::Run;
 use crate::hex;
 use checker::FeedAnswer;
 use checker::PullAnswer;
+use checker::REPORT_LEAST;
 use checker::Rest;
 use checker::Turn;
 use libc::STDOUT_FILENO;
@@ -22,9 +23,6 @@ ghost use Rattle.bench.specs.Carried.{outBytes, progressOf, roomy, Ends,
 
 // With so many bytes waiting there is room for every line.
 const ROOMY: usize = 65200;
-
-// A report has at most so many bytes.
-const REPORT: usize = 166;
 
 // More pulls than a checker can give verdicts.
 const PULLS: u32 = 1010001;
@@ -47,7 +45,7 @@ fn report_length(references: u8) -> usize
     ensures { λ r. ⌜ (r ≤ reportLeast) × (r ≡ min (6 + 5 * references) reportLeast) ⌝ }
 {
     let n = 6 + 5 * references as usize;
-    if n <= REPORT { n } else { REPORT }
+    if n <= REPORT_LEAST { n } else { REPORT_LEAST }
 }
 
 // A report as a line.

@@ -33,7 +33,7 @@ fn lower_by(lows: &mut [u32; 8], x: Frame, p: Instance)
     ensures kept { λ r. ⌜ length (now (lows .exit)) ≡ eventLimit ⌝ }
     ensures { λ r. ⌜ now (lows .exit) ≡ loweredBy (p .0) x (now (lows .entry)) ⌝ }
 {
-    if x.kind == 0x03 {
+    if x.kind == rule::REFERENCE {
         let e = x.event as usize;
         let low = lower(lows[e], p, x.factor, x.value);
         lows[e] = low;

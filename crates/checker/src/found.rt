@@ -5,6 +5,9 @@ use rule::Frame;
 use verdict::Instance;
 use verdict::Meant;
 use verdict::Occurrence;
+use verdict::PENDING;
+use verdict::PRESENT;
+use verdict::VOID;
 ghost use mathlib.Core.Path.{_≡_};
 ghost use lib.IntN.{pos};
 ghost use lib.ListN.{length};
@@ -17,13 +20,6 @@ ghost use Rattle.checker.specs.Limits.{windowWords};
 ghost use Rattle.checker.specs.Found.{windowAt};
 ghost use Rattle.checker.specs.Within.{InWindow};
 ghost use Rattle.checker.specs.Sights.{foundBy, Shows, Looked, Lookable, Limited};
-
-// The document's marks of a reference.
-const PRESENT: u8 = 0;
-
-const PENDING: u8 = 1;
-
-const VOID: u8 = 2;
 
 // A mark, and the note's value, 0 unless present.
 pub struct Seen {
@@ -72,7 +68,7 @@ fn of_frame(x: Frame, p: Instance, width: u32, counts: [u32; 8], window: &[i32])
     requires { ⌜ Limited x × Lookable (p .0) width (length (now window)) ⌝ }
     ensures { λ r. ⌜ (x .kind ≡ referenceByte → Shows (foundBy width counts (now (window .entry)) (p .0) (referenceOf x)) (r .mark) (r .note)) ⌝ }
 {
-    if x.kind == 0x03 {
+    if x.kind == rule::REFERENCE {
         of_reference(x, p, width, counts, window)
     } else {
         Seen {

@@ -18,6 +18,7 @@ pub use feeding::feed;
 pub use feeding::feed_good;
 pub use feeding::feed_parts;
 pub use opening::open;
+pub use pulling::REPORT_LEAST;
 pub use pulling::Turn;
 pub use pulling::pull;
 pub use pulling::pull_good;

@@ -32,7 +32,7 @@ ghost use Rattle.checker.specs.Offer.{Countable, Offerable};
 ghost use Rattle.checker.specs.Ready.{Ready};
 
 // A report buffer has at least 166 bytes.
-const REPORT_LEAST: usize = 166;
+pub const REPORT_LEAST: usize = 166;
 
 // What a pull gives: the answer, and p and the totals after it.
 pub struct Turn {

@@ -72,7 +72,7 @@ fn put_frame(report: &mut [u8], at: usize, kind: u8, mark: u8, note: i32) -> usi
     requires { ⌜ (kind ≡ referenceByte → at + 5 ≤ length (now report)) ⌝ }
     ensures { λ r. ⌜ (now (report .exit) ≡ cond (eqb kind referenceByte) (sets (now (report .entry)) at (entryOf mark note)) (now (report .entry))) × (r ≡ cond (eqb kind referenceByte) (at + 5) at) ⌝ }
 {
-    if kind == 0x03 {
+    if kind == rule::REFERENCE {
         put_entry(report, at, mark, note);
         at + ENTRY
     } else {

@@ -270,6 +270,7 @@ const CLASSES: [u8; 256] = [
     0,
 ];
 
+// The class of a byte, by the table.
 pub fn class_of(b: u8) -> u8
     ensures { λ r. ⌜ r ≡ classOf b ⌝ }
 {

@@ -27,7 +27,7 @@ const LITERAL: u8 = 0x01;
 
 const INSTANCE: u8 = 0x02;
 
-const REFERENCE: u8 = 0x03;
+pub const REFERENCE: u8 = 0x03;
 
 // Puts a frame at its place, if there is room, and counts it.
 fn emit(buf: &mut [u8; 512], m: Tally, f: Fields) -> Tally

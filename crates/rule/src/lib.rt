@@ -15,6 +15,7 @@ mod frames; // frames.rt: a frame's fields
 mod order; // order.rt: refusal 10, and how many references there are
 mod sizes; // sizes.rt: refusal 8
 
+pub use emit::REFERENCE;
 pub use frames::FRAME_BYTES;
 pub use frames::frame_at;
 use order::Ordered;

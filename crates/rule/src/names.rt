@@ -7,6 +7,7 @@ const NAME_LETTERS: usize = 12;
 // 27^12: the number of every name of over 12 letters.
 pub const LONG_NAME: u64 = 150094635296999121;
 
+// A letter as a digit to the base 27, 1 to 26.
 fn letter_number(b: u8) -> u64
     ensures { λ r. ⌜ r ≡ b - 96 ⌝ }
 {

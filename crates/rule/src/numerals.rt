@@ -13,6 +13,7 @@ fn with_digit(v: u32, b: u8) -> u32
     capped(v as u64 * 10 + (b - 48) as u64)
 }
 
+// A value, or 2^32 - 1 where it is larger.
 fn capped(v: u64) -> u32
     ensures { λ r. ⌜ r ≡ min most v ⌝ }
 {

@@ -36,6 +36,7 @@ fn refuse(number: u8, place: u32) -> Reading
     Reading::Refused(Refusal { number, place })
 }
 
+// Copies all bytes.
 fn copy(from: &[u8], to: &mut [u8])
     requires { ⌜ (length (now from) ≡ 512) × (length (now to) ≡ 512) ⌝ }
     ensures { λ _. ⌜ now (to .exit) ≡ now (from .entry) ⌝ }

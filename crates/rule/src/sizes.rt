@@ -1,4 +1,4 @@
-// Refusal 8: magnitudes over 2^62, in one pass over frames that are a rule.
+// Refusal 8: magnitudes over 2^62, in one pass over frames that are a rule. Magnitude is the document's term for a bound on a sum.
 use crate::frames;
 ghost use mathlib.Core.Path.{_≡_};
 ghost use Prim.Native.Nat.{_+_, _*_, _≤_, _<_};

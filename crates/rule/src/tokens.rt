@@ -113,6 +113,7 @@ fn mark_of(b: u8, n: u8) -> u8
     }
 }
 
+// How many bytes a mark has.
 fn mark_width(kind: u8) -> usize
     ensures { λ r. ⌜ r ≡ markWidth kind ⌝ }
 {

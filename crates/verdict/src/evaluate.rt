@@ -1,6 +1,8 @@
 // The value of accepted frames at one instance: one pass, with a stack of sums and a stack of conditions.
 use crate::Instance;
 use crate::Judgement;
+use crate::PENDING;
+use crate::PRESENT;
 use crate::arithmetic;
 use crate::judgements;
 use crate::kleene;
@@ -16,11 +18,6 @@ ghost use Rattle.rule.specs.Frames.{kindOf};
 ghost use Rattle.verdict.specs.Marks.{Judgeable};
 ghost use Rattle.verdict.specs.Pass.{withReference, passBy, judgementOf};
 ghost use Rattle.verdict.specs.Stacks.{passOf, Begun};
-
-// The document's marks of a reference: 0 present, 1 pending, 2 void.
-const PRESENT: u8 = 0;
-
-const PENDING: u8 = 1;
 
 // What a step carries on beside the arrays: the numbers of sums and of conditions; whether a reference since the last relation is
 // missing; whether a reference is pending, and whether one is present.

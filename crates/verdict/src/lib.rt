@@ -22,6 +22,13 @@ pub enum Meant {
     At(Occurrence),
 }
 
+// The document's marks of a reference: present, pending, void.
+pub const PRESENT: u8 = 0;
+
+pub const PENDING: u8 = 1;
+
+pub const VOID: u8 = 2;
+
 // A truth value of Kleene's logic.
 pub enum Truth {
     True,
