@@ -1,10 +1,11 @@
 -- Worked lines, computed. Bytes are given by value: 48 is the digit 0. Assumes nothing.
 use mathlib.Core.Path.{_≡_, refl}
-use mathlib.Core.List.{[], _∷_, _++_}
+use mathlib.Core.List.{List, [], _∷_, _++_, map}
+use Prim.Native.Nat.{ℕ, zero, suc, _-_}
 use lib.IntN.{pos, negsuc}
 use lib.ListN.{replicate}
-use Rattle.log.specs.Digit.{digitValue}
-use Rattle.log.specs.Line.{digitsAtFront, badPlace, line, refused, lineOf}
+use Rattle.log.specs.Digit.{digitValue, capital}
+use Rattle.log.specs.Line.{digitsAtFront, badPlace, Told, line, refused, lineOf}
 use Rattle.log.specs.Walk.{linesOf}
 
 -- the bench log: 000000000A000000000000000000000000
@@ -48,10 +49,58 @@ shorter : lineOf (replicate 33 48) ≡ refused 15 33
 unfolding digitValue digitsAtFront badPlace lineOf
 shorter = refl
 
--- a lower-case a at 5
-lower-case : lineOf (replicate 5 48 ++ (97 ∷ []) ++ replicate 28 48) ≡ refused 15 5
+-- n numbers from a first one on
+from : ℕ → ℕ → List ℕ
+from first zero = []
+from first (suc n) = first ∷ from (suc first) n
+
+-- the value of each byte: 0 to 9 from 48 on, 10 to 15 from 65 and from 97 on, else 16, no digit
+each-byte : map digitValue (from 0 256)
+    ≡ replicate 48 16 ++ from 0 10 ++ replicate 7 16 ++ from 10 6 ++ replicate 26 16 ++ from 10 6 ++ replicate 153 16
+unfolding digitValue from
+each-byte = refl
+
+-- the capital of each byte: from 97 on six capitals, else the byte itself
+each-capital : map capital (from 0 256) ≡ from 0 97 ++ from 65 6 ++ from 103 153
+unfolding capital from
+each-capital = refl
+
+-- 01, six letters, 09 and 24 times 0
+lettered : List ℕ → List ℕ
+lettered letters = (48 ∷ 49 ∷ []) ++ letters ++ (48 ∷ 57 ∷ []) ++ replicate 24 48
+
+-- ABCDEF, abcdef, aBcDeF: both cases in any mixture, one reading
+both-cases : map (λ (l : List ℕ). lineOf (lettered l)) (from 65 6 ∷ from 97 6 ∷ (97 ∷ 66 ∷ 99 ∷ 68 ∷ 101 ∷ 70 ∷ []) ∷ [])
+    ≡ replicate 3 (line 1 (negsuc 1412567286) (pos 0) (pos 0) (pos 0))
+unfolding digitValue digitsAtFront badPlace lineOf from lettered
+both-cases = refl
+
+-- ff800000007fffffffffffffff00000001: the least note, the greatest, -1 and 1
+extremes-small : lineOf ((102 ∷ 102 ∷ 56 ∷ []) ++ replicate 7 48 ++ (55 ∷ []) ++ replicate 15 102 ++ replicate 7 48 ++ (49 ∷ []))
+    ≡ line 255 (negsuc 2147483647) (pos 2147483647) (negsuc 0) (pos 1)
 unfolding digitValue digitsAtFront badPlace lineOf
-lower-case = refl
+extremes-small = refl
+
+-- the answer to 34 digits, those before a place a, those after it F, with a byte at that place
+answer-with : ℕ → ℕ → Told
+answer-with place b = lineOf (replicate place 97 ++ (b ∷ []) ++ replicate (33 - place) 70)
+
+-- the bytes beside the digits: / and :, @ and G, ` and g
+beside : List ℕ
+beside = 47 ∷ 58 ∷ 64 ∷ 71 ∷ 96 ∷ 103 ∷ []
+
+-- each is refused with its place: the first, one in the middle, the last
+beside-first : map (answer-with 0) beside ≡ replicate 6 (refused 15 0)
+unfolding digitValue digitsAtFront badPlace lineOf answer-with beside
+beside-first = refl
+
+beside-middle : map (answer-with 17) beside ≡ replicate 6 (refused 15 17)
+unfolding digitValue digitsAtFront badPlace lineOf answer-with beside
+beside-middle = refl
+
+beside-last : map (answer-with 33) beside ≡ replicate 6 (refused 15 33)
+unfolding digitValue digitsAtFront badPlace lineOf answer-with beside
+beside-last = refl
 
 -- 34 digits and a CR
 carriage-return : lineOf (replicate 34 48 ++ (13 ∷ [])) ≡ refused 15 34

@@ -1,16 +1,18 @@
 -- What is proved of log lines, beside the contracts. Assumes nothing.
 use mathlib.Core.Path.{_≡_}
 use mathlib.Core.Logic.{_↔_}
-use mathlib.Core.List.{List}
+use mathlib.Core.List.{List, map}
 use Prim.Native.Nat.{ℕ, _≤_, _<_}
 use lib.IntN.{ℤ}
 use lib.ListN.{length}
+use Rattle.log.specs.Digit.{capital}
 use Rattle.log.specs.Line.{digitsAtFront, badPlace, byteAt, noteAt, line, refused, told, lineOf, AllDigits, PlaceOf15}
 use Rattle.log.specs.Walk.{linesOf, endOf, lineAt, walked}
 use Rattle.log.specs.declared.line.Line.{Line}
 use Rattle.log.specs.declared.walk.Found.the-variants as found
 use Rattle.log.proofs.Lines as lines
 use Rattle.log.proofs.Exactly as exactly
+use Rattle.log.proofs.Cases as cases
 use Rattle.log.proofs.Answers as answers
 use Rattle.log.proofs.Walking as walking
 
@@ -33,6 +35,10 @@ place-unique = exactly.place-unique
 -- Other than 34 bytes, or fewer than 34 digits at the front: refused with 15 at `badPlace`.
 pub line-of-other : (s : List ℕ) → (length s ≡ 34 → 34 ≤ digitsAtFront s → ⊥) → lineOf s ≡ refused 15 (badPlace s)
 line-of-other = lines.line-of-other
+
+-- Both cases are read as one: a line in capitals has the line's own answer, with 15 at the same place.
+pub either-case : (s : List ℕ) → lineOf (map capital s) ≡ lineOf s
+either-case = cases.either-case
 
 -- What is told of an answer fixes the answer, so that the contract of `read_line` allows one answer only.
 pub told-injective : (a b : Line) → told a ≡ told b → a ≡ b

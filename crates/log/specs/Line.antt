@@ -62,7 +62,7 @@ told (lines.Bad p) = refused 15 p
 abbrev pub isLine : List ℕ → Bool
 isLine s = eqb (length s) 34 && eqb (digitsAtFront s) 34
 
--- "A log line is 34 digits 0-9 A-F: event (1 byte), four notes"; refusal 15, "not 34 digits"
+-- "A log line is 34 digits .. event (1 byte), four notes"; refusal 15, "not 34 digits"
 unfoldable pub lineOf : List ℕ → Told
 lineOf s = cond (isLine s) (line (byteAt s 0) (noteAt s 0) (noteAt s 1) (noteAt s 2) (noteAt s 3)) (refused 15 (badPlace s))
 

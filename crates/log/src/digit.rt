@@ -1,4 +1,4 @@
-// Digits 0-9 A-F, and pairs of them.
+// Digits 0-9, A-F or a-f, and pairs of them.
 ghost use mathlib.Core.Path.{_≡_};
 ghost use Rattle.log.specs.Digit.{digitValue};
 ghost use Rattle.log.specs.Pair.{pairOf};
@@ -10,6 +10,7 @@ pub fn digit(b: u8) -> u8
     match b {
         0x30..=0x39 => b - 0x30,
         0x41..=0x46 => b - 0x37,
+        0x61..=0x66 => b - 0x57,
         _ => 16,
     }
 }
