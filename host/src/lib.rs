@@ -1,7 +1,7 @@
 //! Host side of Dillplatter, a log checker for Logic of Constraints.
 //!
-//! [`part`] calls the proved part through its C interface. [`second`] is the second checker. It is written from
-//! document 01 alone, keeps the whole log, and shares no code or table with the proved part. A test drives it call by
+//! [`part`] calls the proved part through its C interface. [`second`] is the second checker. It is written from the
+//! documents alone, keeps the whole log, and shares no code or table with the proved part. A test drives it call by
 //! call:
 //!
 //! ```

@@ -29,12 +29,9 @@ pub fn read_line(line: &[u8]) -> Result<(usize, Notes), usize> {
     ))
 }
 
+/// The value of a digit: 0-9, A-F or a-f.
 fn digit(byte: u8) -> Option<u32> {
-    match byte {
-        b'0'..=b'9' => Some(u32::from(byte - b'0')),
-        b'A'..=b'F' => Some(u32::from(byte - b'A') + 10),
-        _ => None,
-    }
+    char::from(byte).to_digit(16)
 }
 
 /// The lines of a log: LF ends one, and the last may lack it.

@@ -1,4 +1,5 @@
-//! The second checker: document 01 in plain Rust, with whole lists in place of a window.
+//! The second checker: document 01, with the points of document 02 done so far, in plain Rust, with whole lists in
+//! place of a window.
 //!
 //! A rule flows `text` -> `grammar` -> `names`, `numbers` -> `postfix` -> `frames`; a log flows `line` ->
 //! `machine`, which asks `verdict`. `state` answers calls on a state and a window that a caller hands in, forged ones

@@ -24,7 +24,7 @@ fn every_value_of_every_byte() {
             let mut bytes = good.clone();
             bytes[place] = value;
             let answer = fresh().feed(&bytes);
-            let digit = value.is_ascii_digit() || (b'A'..=b'F').contains(&value);
+            let digit = b"0123456789ABCDEFabcdef".contains(&value);
             match answer {
                 Fed::Accepted => accepted += 1,
                 Fed::Ignored => ignored += 1,
@@ -34,14 +34,33 @@ fn every_value_of_every_byte() {
         }
     }
     // Of the first two digits, one spelling each leaves event 0.
-    assert_eq!((accepted, ignored), (32 * 16 + 2, 2 * 15));
+    assert_eq!((accepted, ignored), (32 * 22 + 2, 2 * 21));
     quota.end();
+}
+
+#[test]
+fn both_cases_leave_the_same_state_and_window() {
+    let capitals = line(0, [0x0123_4567, -1, 0x0BAD_CAFE, 0x89AB_CDEF_u32 as i32]);
+    let fed = |bytes: &[u8]| {
+        let mut pair = fresh();
+        assert_eq!(pair.feed(bytes), Fed::Accepted);
+        (pair.state().clone(), pair.window().to_vec())
+    };
+    let expected = fed(&capitals);
+    assert_eq!(expected.1[3], 0x89AB_CDEF_u32 as i32);
+    assert_eq!(fed(&capitals.to_ascii_lowercase()), expected);
+    // One letter small, each in turn.
+    for place in (0..34).filter(|place| capitals[*place].is_ascii_uppercase()) {
+        let mut bytes = capitals.clone();
+        bytes[place].make_ascii_lowercase();
+        assert_eq!(fed(&bytes), expected, "{place}");
+    }
 }
 
 #[test]
 fn every_length() {
     for length in 0..=100 {
-        for (place, byte) in [(0, b'G'), (33, b'f'), (34, b'\r'), (35, b' '), (200, b'!')] {
+        for (place, byte) in [(0, b'G'), (33, b'g'), (34, b'\r'), (35, b' '), (200, b'!')] {
             let mut bytes = vec![b'0'; length];
             if let Some(there) = bytes.get_mut(place) {
                 *there = byte;

@@ -189,6 +189,11 @@ impl Pair {
         same("window", &self.window, &edged(self.twin.window(), 77));
     }
 
+    /// The part's window.
+    pub fn window(&self) -> &[i32] {
+        &self.window[inside(&self.window)]
+    }
+
     /// A copy that has another window, as a caller may hand it in.
     pub fn with_window(&self, window: Vec<i32>) -> Pair {
         Pair::forged(self.state().clone(), window)

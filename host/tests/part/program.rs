@@ -2,7 +2,7 @@
 
 use crate::shared::log::{line, random_line};
 use crate::shared::random::{rule, text, Random};
-use crate::shared::vectors::vector;
+use crate::shared::vectors::bench_cases;
 use dillplatter_host::second::{bench, read};
 use std::fs::File;
 use std::io::{Seek, Write};
@@ -159,16 +159,14 @@ fn even_log(lines: usize) -> Vec<u8> {
 #[test]
 fn stored_cases() {
     let room = Room::new("stored");
-    for case in 0..40 {
-        let file = |name: &str| std::fs::read(vector(&format!("bench/{case:02}/{name}"))).unwrap();
-        let (rule, log, expected) = (file("rule.loc"), file("log"), text_of(file("stdout")));
-        let pieces = pieces(&mut Random::new(case + 70_000_000), &log);
+    for (seed, case) in (70_000_000..).zip(bench_cases()) {
+        let pieces = pieces(&mut Random::new(seed), &case.log);
         for (how, printed) in [
-            ("whole", room.run(&rule, &log)),
-            ("pipe", room.run_pipe(&rule, &pieces)),
-            ("packets", room.run_packets(&rule, &pieces)),
+            ("whole", room.run(&case.rule, &case.log)),
+            ("pipe", room.run_pipe(&case.rule, &pieces)),
+            ("packets", room.run_packets(&case.rule, &pieces)),
         ] {
-            same(&printed, &expected, &format!("bench/{case:02}, {how}"));
+            same(&printed, &case.stdout, &format!("{}, {how}", case.name));
         }
     }
 }

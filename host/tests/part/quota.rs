@@ -7,7 +7,7 @@ const LEAST: usize = 200_000;
 
 /// The fewest calls of each test that makes many.
 const OF_TESTS: [(&str, usize); 12] = [
-    ("vectors", 6_000),
+    ("vectors", 9_900),
     ("random texts", 9_000),
     ("damaged texts", 20_000),
     ("bytes of a text", 12_000),

@@ -30,6 +30,13 @@ fn last_line_may_lack_its_lf() {
 }
 
 #[test]
+fn small_letters_are_read_and_capitals_printed() {
+    let small = LOG.to_ascii_lowercase();
+    assert_ne!(small, LOG);
+    assert_eq!(bench(RULE.as_bytes(), small.as_bytes()), OUTPUT);
+}
+
+#[test]
 fn refused_rules() {
     assert_eq!(bench(b"", LOG.as_bytes()), "EE020000\n");
     assert_eq!(bench(&[b' '; 1_025], LOG.as_bytes()), "EE020000\n");
@@ -48,11 +55,11 @@ fn pulls_before_the_first_line() {
 
 #[test]
 fn counts_of_lines() {
-    // Accepted, ignored, refused: an empty line, a CR, small letters and a long line are refused.
+    // Accepted, ignored, refused: an empty line, a CR, letters past f and a long line are refused.
     let good = String::from_utf8(line(0, [1, 0, 0, 0])).unwrap();
     let unreferenced = String::from_utf8(line(0x20, [1, 0, 0, 0])).unwrap();
-    let small = good.replace('0', "a");
-    let log = format!("{good}\n{unreferenced}\n\n{good}\r\n{small}\n{good}0\n{good}\n\n");
+    let past = good.replace('0', "g");
+    let log = format!("{good}\n{unreferenced}\n\n{good}\r\n{past}\n{good}0\n{good}\n\n");
     let expected = "000000020000000000000000000000020000000100000005\n";
     assert_eq!(
         bench(b"events a; notes t; t(a[i]) = 1", log.as_bytes()),

@@ -15,13 +15,29 @@ fn a_line_has_its_event_and_notes() {
 }
 
 #[test]
+fn letters_in_both_cases() {
+    let notes = [0x0123_4567, 0x89AB_CDEF_u32 as i32, -1, 0x0BAD_CAFE];
+    for bytes in [
+        b"AB0123456789ABCDEFFFFFFFFF0BADCAFE",
+        b"ab0123456789abcdefffffffff0badcafe",
+        b"aB0123456789aBcDeFfFFffFfF0BaDcAfe",
+    ] {
+        assert_eq!(read_line(bytes), Ok((0xAB, notes)));
+    }
+    // A small letter is not the place of 15: g is, and the end is.
+    assert_eq!(read_line(b"abcdefg"), Err(6));
+    assert_eq!(read_line(b"abcdef"), Err(6));
+    assert_eq!(read_line(&[b'f'; 35]), Err(34));
+}
+
+#[test]
 fn every_byte_value_at_every_place_of_a_line() {
     let good = line(0, [0x1234_5678; 4]);
     for place in 0..34 {
         for byte in 0..=255_u8 {
             let mut bytes = good.clone();
             bytes[place] = byte;
-            let digit = byte.is_ascii_digit() || (b'A'..=b'F').contains(&byte);
+            let digit = b"0123456789ABCDEFabcdef".contains(&byte);
             let answer = read_line(&bytes).map(|_| ());
             let expected = if digit { Ok(()) } else { Err(place) };
             assert_eq!(answer, expected, "byte {byte} at {place}");

@@ -1,7 +1,7 @@
 //! Every stored vector: answers, numbers, places, frames, reports.
 
 use crate::shared::driven::Twin;
-use crate::shared::vectors::{self, vector};
+use crate::shared::vectors::{self, bench_cases};
 use dillplatter_host::second::bench;
 
 #[test]
@@ -21,10 +21,8 @@ fn calls() {
 
 #[test]
 fn bench_program() {
-    for case in 0..40 {
-        let file = |name: &str| std::fs::read(vector(&format!("bench/{case:02}/{name}"))).unwrap();
-        let expected = String::from_utf8(file("stdout")).unwrap();
-        let answer = bench(&file("rule.loc"), &file("log"));
-        assert!(answer == expected, "bench/{case:02}");
+    for case in bench_cases() {
+        let printed = bench(&case.rule, &case.log);
+        assert!(printed == case.stdout, "{}", case.name);
     }
 }

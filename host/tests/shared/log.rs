@@ -30,11 +30,18 @@ pub fn random_line(random: &mut Random, events: &[usize]) -> Vec<u8> {
     };
     let notes = [0; 4].map(|_: i32| note(random));
     let mut bytes = line(event as u8, notes);
+    // Capitals, small letters, or both.
+    let small = random.below(3);
+    for byte in &mut bytes {
+        if small == 1 || small == 2 && random.once_in(2) {
+            byte.make_ascii_lowercase();
+        }
+    }
     if random.once_in(15) {
         let place = random.below(34);
         match random.below(5) {
             0 => bytes.truncate(place),
-            1 => bytes[place] = random.pick(b"gGaf\r\n /:@\0\x80\xff"),
+            1 => bytes[place] = random.pick(b"gG@`/:\r\n \0\x80\xff"),
             2 => bytes.extend(vec![b'0'; 1 + random.below(40)]),
             3 => bytes[place] = random.below(256) as u8,
             _ => bytes.insert(place, b' '),

@@ -5,7 +5,7 @@ use dillplatter_host::second::{Fed, Pulled, Refusal, Truth};
 use std::path::PathBuf;
 
 /// A path below host/vectors.
-pub fn vector(name: &str) -> PathBuf {
+fn vector(name: &str) -> PathBuf {
     PathBuf::from(env!("CARGO_MANIFEST_DIR"))
         .join("vectors")
         .join(name)
@@ -69,18 +69,31 @@ pub fn opening<C: Driven>() {
     }
 }
 
-/// calls.txt: lists of feeds and pulls, each behind its rule.
+/// The files of calls, with how many rules, feeds and pulls each has.
+const CALLS: [(&str, [usize; 3]); 2] = [
+    ("calls.txt", [86, 2_812, 2_266]),
+    ("points/07/calls.txt", [60, 1_994, 1_548]),
+];
+
+/// Each file of calls.
 pub fn calls<C: Driven>() {
+    for (name, counts) in CALLS {
+        assert_eq!(calls_of::<C>(name), counts, "{name}");
+    }
+}
+
+/// A file of calls: lists of feeds and pulls, each behind its rule. The answer is how many of each there are.
+fn calls_of<C: Driven>(name: &str) -> [usize; 3] {
     let mut checker: Option<C> = None;
-    let (mut rules, mut feeds, mut pulls) = (0, 0, 0);
-    for (at, line) in vector_lines("calls.txt") {
+    let [mut rules, mut feeds, mut pulls] = [0; 3];
+    for (at, line) in vector_lines(name) {
         let fields: Vec<&str> = line.split(' ').collect();
         let words = match fields[0] {
             "rule" => {
                 rules += 1;
                 let w: u32 = fields[2].parse().unwrap();
                 let opened = C::open(&unhex(fields[1]), w, &vec![-1; 32 * w as usize]);
-                checker = Some(opened.unwrap_or_else(|_| panic!("calls.txt line {at}")));
+                checker = Some(opened.unwrap_or_else(|_| panic!("{name} line {at}")));
                 continue;
             }
             "feed" => {
@@ -91,11 +104,11 @@ pub fn calls<C: Driven>() {
                 pulls += 1;
                 pull(checker.as_mut().unwrap(), fields[1].parse().unwrap())
             }
-            other => panic!("calls.txt line {at}: {other}"),
+            other => panic!("{name} line {at}: {other}"),
         };
-        assert_eq!(words, fields[2..].join(" "), "calls.txt line {at}");
+        assert_eq!(words, fields[2..].join(" "), "{name} line {at}");
     }
-    assert_eq!((rules, feeds, pulls), (86, 2_812, 2_266));
+    [rules, feeds, pulls]
 }
 
 /// The answer of a pull with a buffer of some length, and the report; all other bytes of the buffer keep.
@@ -134,4 +147,31 @@ fn pulled_words(answer: Pulled) -> String {
 /// A refusal as the files of vectors write it.
 fn refusal_words(refusal: Refusal) -> String {
     format!("refused {} {}", refusal.number, refusal.place)
+}
+
+/// The folders of cases of the bench program, with how many each has.
+const BENCH: [(&str, usize); 2] = [("bench", 40), ("points/07/bench", 16)];
+
+/// A case of the bench program.
+pub struct Case {
+    pub name: String,
+    pub rule: Vec<u8>,
+    pub log: Vec<u8>,
+    pub stdout: String,
+}
+
+/// Every case of the bench program.
+pub fn bench_cases() -> Vec<Case> {
+    let of = |folder: &str, number: usize| {
+        let name = format!("{folder}/{number:02}");
+        let file = |file: &str| std::fs::read(vector(&name).join(file)).unwrap();
+        Case {
+            rule: file("rule.loc"),
+            log: file("log"),
+            stdout: String::from_utf8(file("stdout")).unwrap(),
+            name,
+        }
+    };
+    let all = BENCH.map(|(folder, cases)| (0..cases).map(|n| of(folder, n)).collect::<Vec<Case>>());
+    all.into_iter().flatten().collect()
 }

@@ -13,8 +13,14 @@ function word(at) {
     return v > 2147483647 ? v - 4294967296 : v
 }
 function unsigned(a) { return a < 0 ? a + 4294967296 : a }
-BEGIN { for (k = 0; k < 256; k++) H[sprintf("%02X", k)] = k; while (pull()); }
-length($0) != 34 || /[^0-9A-F]/ { refused++; while (pull()); next }
+function digit(k) { return k > 16 ? k - 7 : k - 1 }
+BEGIN {
+    digits = "0123456789ABCDEFabcdef"
+    for (j = 1; j <= 22; j++) for (k = 1; k <= 22; k++)
+        H[substr(digits, j, 1) substr(digits, k, 1)] = 16 * digit(j) + digit(k)
+    while (pull());
+}
+length($0) != 34 || /[^0-9A-Fa-f]/ { refused++; while (pull()); next }
 { feed(H[substr($0, 1, 2)]); while (pull()); }
 END { printf "%08X%08X%08X%08X%08X%08X\n", T[2], T[0], T[1], accepted, ignored, refused }
 "#;
