@@ -127,7 +127,7 @@ static void running(void) {
     refuse_feed("a window one word short", DILLPLATTER_WINDOW_SIZE, state, WORDS - 1, line);
     refuse_pull("a window one word short", DILLPLATTER_WINDOW_SIZE, state, WORDS - 1, sizeof report);
     refuse_pull("a report buffer of 165 bytes", DILLPLATTER_REPORT_SIZE, state, WORDS, 165);
-    refuse_feed("a line with a small letter", DILLPLATTER_BAD_LINE, state, WORDS, "000000000a000000000000000000000000");
+    refuse_feed("a line with a letter past f", DILLPLATTER_BAD_LINE, state, WORDS, "00000000fg000000000000000000000000");
     refuse_feed("a line of 33 digits", DILLPLATTER_BAD_LINE, state, WORDS, line + 1);
     feed_many(WIDTH);
     refuse_feed("a fifth line with W 4 and no partner", DILLPLATTER_WINDOW_FULL, state, WORDS, line);

@@ -86,8 +86,8 @@ enum dillplatter_refusal {
                                       rule does not reference, or a count above that event's base plus W */
     DILLPLATTER_WINDOW_SIZE = 13,  /* feed, pull: a window not 32 * W words, with the W of the state */
     DILLPLATTER_REPORT_SIZE = 14,  /* pull: a report buffer under 166 bytes */
-    DILLPLATTER_BAD_LINE = 15,     /* feed: not 34 digits 0-9 A-F; place: the lower of the first byte that is none and the shorter
-                                      of the length and 34 */
+    DILLPLATTER_BAD_LINE = 15,     /* feed: not 34 digits 0-9, A-F or a-f; place: the lower of the first byte that is none and the
+                                      shorter of the length and 34 */
     DILLPLATTER_LINES_MOST = 16,   /* feed: that event has 1,000,000 lines already */
     DILLPLATTER_WINDOW_FULL = 17   /* feed: the count of that event has reached its base plus W: no room for another line of it
                                       until more verdicts are pulled. An event's base is the smallest line number of it that
@@ -148,8 +148,8 @@ dillplatter_reading dillplatter_read(const uint8_t *text, size_t text_len, uint8
  * nobody may change it. They must not overlap. */
 dillplatter_result dillplatter_open(const uint8_t *frames, size_t frames_len, uint32_t width, int32_t *window, size_t window_len);
 
-/* Feeds one log line: 34 digits 0-9 A-F, the event (2 digits) and four notes (8 digits each, signed, the most significant
- * first). The line feed is not part of it.
+/* Feeds one log line: 34 digits 0-9, A-F or a-f, the event (2 digits) and four notes (8 digits each, signed, the most
+ * significant first). The case of a letter never counts. The line feed is not part of it.
  * Answers: accepted; ignored; or refused with 12, 13, 15, 16 or 17, checked in this order, an event that the rule does not
  * reference being ignored after 15. Ignored and refused lines change neither state nor window. After 17, pull, then feed the
  * same line again.
@@ -211,7 +211,7 @@ static inline dillplatter_told dillplatter_pull_at(dillplatter_state *state, con
 /* Marks of a report's references. */
 enum dillplatter_mark { DILLPLATTER_PRESENT = 0, DILLPLATTER_PENDING = 1, DILLPLATTER_VOID = 2 };
 
-/* Writes the 34 digits of a log line. */
+/* Writes the 34 digits of a log line, in capitals. */
 static inline void dillplatter_line(uint8_t line[DILLPLATTER_LINE_BYTES], uint8_t event, const int32_t notes[4]) {
     static const char digits[] = "0123456789ABCDEF";
     int note, digit;
