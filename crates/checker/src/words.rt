@@ -12,14 +12,14 @@ ghost use Rattle.checker.specs.Within.{InWindow};
 // A place has a word for each of 4 notes.
 const NOTES: usize = 4;
 
-// The word of a note of an occurrence.
+// The word of a note of an occurrence. W is at most 256, so 16 bits hold the place in the ring, and the event's first place.
 pub fn word(width: u32, event: u8, k: Occurrence, note: u8) -> usize
     requires { ⌜ InWindow width event note ⌝ }
     ensures { λ r. ⌜ r ≡ wordAt width event (k .0) note ⌝ }
 {
-    let w = width as usize;
-    let row = event as usize * w;
-    (row + k.0 as usize % w) * NOTES + note as usize
+    let ring_place = (k.0 % width) as u16;
+    let row = event as u16 * width as u16;
+    (row + ring_place) as usize * NOTES + note as usize
 }
 
 // Stores the four notes of an occurrence.

@@ -6,7 +6,7 @@ use std::cell::Cell;
 const LEAST: usize = 200_000;
 
 /// The fewest calls of each test that makes many.
-const OF_TESTS: [(&str, usize); 12] = [
+const OF_TESTS: [(&str, usize); 13] = [
     ("vectors", 9_900),
     ("random texts", 9_000),
     ("damaged texts", 20_000),
@@ -17,6 +17,7 @@ const OF_TESTS: [(&str, usize); 12] = [
     ("bytes of a line", 8_700),
     ("random lists of calls", 200_000),
     ("several widths", 40_000),
+    ("places of every width", 12_000),
     ("forged states", 60_000),
     ("a million lines", 2_000_000),
 ];

@@ -1,11 +1,12 @@
 //! One rule and one log for several W, in several orders between events: where two give a verdict, it is the same.
+//! Where an occurrence lies in the window, for every W.
 
 use crate::pair::Pair;
 use crate::quota::Quota;
 use crate::shared::driven::Driven;
 use crate::shared::log::{events, line, note};
 use crate::shared::random::{frames, Random};
-use dillplatter_host::second::{Fed, Pulled, Truth};
+use dillplatter_host::second::{Fed, Pulled, State, Truth};
 
 /// The lines of each event.
 type Log = Vec<Vec<Vec<u8>>>;
@@ -68,5 +69,46 @@ fn widths_and_orders_agree() {
         longest = longest.max(most.len());
     }
     assert!(longest >= 30 && several >= 300, "{longest} {several}");
+    quota.end();
+}
+
+/// A rule that sees all four notes of the first and the last event; every instance is false where the notes are not negative.
+const EIGHT: &str = "events a b c d e f g h; notes q r s t; \
+    q(a[i]) + r(a[i]) + s(a[i]) + t(a[i]) + q(h[i]) + r(h[i]) + s(h[i]) + t(h[i]) < 0";
+
+/// Occurrence `k` of the first and the last event, both from base on, goes to its words and comes back from them.
+#[track_caller]
+fn stored_and_seen(opened: &State, k: u32) {
+    let mut state = opened.clone();
+    (state.counts[0], state.counts[7], state.p, state.totals.held) = (k, k, k, k);
+    let w = state.w as usize;
+    let mut pair = Pair::forged(state, vec![-1; 32 * w]);
+    let notes = [[1, 2, 3, 4], [5, 6, 7, 8]];
+    let mut words = vec![-1; 32 * w];
+    for (event, notes) in [0, 7].into_iter().zip(notes) {
+        assert_eq!(pair.feed(&line(event, notes)), Fed::Accepted);
+        let word = (usize::from(event) * w + k as usize % w) * 4;
+        words[word..word + 4].copy_from_slice(&notes);
+    }
+    assert!(*pair.window() == words[..], "W {w}, occurrence {k}");
+    let mut report = [0; 166];
+    assert_eq!(pair.pull(&mut report), Pulled::Verdict(Truth::False));
+    let seen: Vec<u8> = report[6..46].chunks(5).map(|entry| entry[4]).collect();
+    assert_eq!(seen, [1, 2, 3, 4, 5, 6, 7, 8], "W {w}, occurrence {k}");
+}
+
+#[test]
+fn every_width_has_its_places() {
+    let quota = Quota::begin("places of every width");
+    for w in 1..=256 {
+        let opened = Pair::of_text(EIGHT, w).state().clone();
+        // The first and the last places of the ring, early, around 2^8 and 2^16, and at the end.
+        for near in [0, 256, 65_536, 999_999] {
+            let turn = near / w * w;
+            for k in [turn.saturating_sub(1), turn, turn + w - 1, near] {
+                stored_and_seen(&opened, k.min(999_999));
+            }
+        }
+    }
     quota.end();
 }
