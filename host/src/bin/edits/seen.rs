@@ -4,8 +4,7 @@ use crate::edit::Edit;
 use crate::facts::Fact;
 use crate::source::{Owner, Sources};
 
-/// For each edit of a file a fact that it alone can have refused: of the proof of the function that it changes, or of a proof or
-/// a statement that uses the constant or the definition that it changes, and so for no other edit of the file.
+/// For each edit of a file a fact that it alone can have refused, and no other edit of the file.
 pub fn seen<'a>(sources: &Sources, edits: &[Edit], facts: &'a [Fact]) -> Vec<Option<&'a Fact>> {
     let owners: Vec<Vec<Owner>> = edits
         .iter()
@@ -32,14 +31,14 @@ mod tests {
     use super::*;
     use crate::edit;
 
-    /// A crate with two functions, a constant that one of them uses, two definitions, of which one uses the other, and a law.
+    /// A crate with a function, another that calls it and uses a constant, two definitions, of which one uses the other, and a law.
     fn sources() -> Sources {
         let files = [
             (
                 "src/a.rt",
                 "ghost use Rattle.c.specs.D.{deep, flat};\nconst LEAST: u8 = 1;\n\n\
                  // Words.\npub fn f(x: u8) -> u8\n    ensures { λ r. ⌜ r ≡ flat x ⌝ }\n{\n    x + 1\n}\n\n\
-                 fn g(x: u8) -> u8 {\n    x + LEAST\n}\n",
+                 fn g(x: u8) -> u8\n{\n    f(x) + LEAST\n}\n",
             ),
             (
                 "specs/D.antt",
@@ -64,7 +63,8 @@ mod tests {
             .collect()
     }
 
-    const F: &str = "F.\nfile: src/a.rt\nold: x + 1\nnew: x + 2\n";
+    const F: &str = "F.\nfile: src/a.rt\nold:     x + 1\nnew:     x + 2\n";
+    const ENSURES: &str = "Ensures.\nfile: src/a.rt\nold: r ≡ flat x\nnew: r ≡ flat 0\n";
     const LEAST: &str =
         "Least.\nfile: src/a.rt\nold: const LEAST: u8 = 1;\nnew: const LEAST: u8 = 2;\n";
     const FLAT: &str = "Flat.\nfile: specs/D.antt\nold: flat n = n + 1\nnew: flat n = n + 2\n";
@@ -96,6 +96,20 @@ mod tests {
         assert_eq!(places(FLAT, &[OF_G]), [None]);
         assert_eq!(places(DEEP, &[OF_LAW]), [some("law")]);
         assert_eq!(places(DEEP, &[OF_F]), [None]);
+    }
+
+    #[test]
+    fn a_contract_is_of_the_callers_too() {
+        assert_eq!(places(ENSURES, &[OF_F]), [some("returns-f")]);
+        assert_eq!(places(ENSURES, &[OF_G]), [some("returns-g")]);
+        assert_eq!(
+            places(&format!("{ENSURES}{LEAST}"), &[OF_F, OF_G]),
+            [some("returns-f"), None]
+        );
+        assert_eq!(
+            places(&format!("{F}{LEAST}"), &[OF_F, OF_G]),
+            [some("returns-f"), some("returns-g")]
+        );
     }
 
     #[test]

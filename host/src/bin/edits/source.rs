@@ -7,8 +7,10 @@ use std::collections::BTreeMap;
 /// What a change is made in.
 #[derive(Debug, PartialEq)]
 pub enum Owner {
-    /// A function, by its number.
+    /// A function's code, by the function's number.
     Function(usize),
+    /// What a function requires or ensures, by the function's number.
+    Contract(usize),
     /// A constant, by its file and its name.
     Constant(String, String),
     /// A definition, by its number, with those that use it.
@@ -94,22 +96,32 @@ impl Sources {
             .find(|&(start, _)| start < end)?
             .1
         {
-            Item::Function(name) => self
-                .functions
-                .iter()
-                .position(|f| f.file == *file && f.name == name)
-                .map(Owner::Function),
+            Item::Function(name) => {
+                let is_it = |f: &Function| f.file == *file && f.name == name;
+                let k = self.functions.iter().position(is_it)?;
+                let body =
+                    text.find(&self.functions[k].text)? + self.functions[k].text.find("\n{")?;
+                Some(if place < body {
+                    Owner::Contract(k)
+                } else {
+                    Owner::Function(k)
+                })
+            }
             Item::Constant(name) => Some(Owner::Constant(file.clone(), name)),
             Item::Other => None,
         }
     }
 
-    /// Whether a fact can be refused because of a change: it is of the function's own proof, or of a proof or a statement that
-    /// uses the constant or the definition.
+    /// Whether a fact can be refused because of a change: it is of the function's own proof, or of that of a caller, where the
+    /// contract is changed, or of a proof or a statement that uses the constant or the definition.
     pub fn rests_on(&self, fact: &Fact, owner: &Owner) -> bool {
         let mut proved = self.functions.iter().filter(|f| f.proved_by(fact));
         match owner {
             Owner::Function(k) => self.functions[*k].proved_by(fact),
+            Owner::Contract(k) => {
+                let it = &self.functions[*k];
+                it.proved_by(fact) || proved.any(|f| has_word(&f.text, &it.name))
+            }
             Owner::Constant(file, name) => proved.any(|f| f.uses_constant(file, name)),
             Owner::Definition(all) => {
                 let uses = |file: &str, text: &str| all.iter().any(|&d| self.uses(file, text, d));
