@@ -40,13 +40,15 @@ pub fn facts(log: &str, name: &str) -> Vec<Fact> {
     all
 }
 
-/// `FILE:LINE:COLUMN: error: `NAME`: why`. A name that ends in -spec is the whole proof, put together from its facts.
+/// `FILE:LINE:COLUMN: error: `NAME`: why`, in a proof. A name that ends in -spec is a whole proof, put together from its facts.
 fn refused(line: &str, crate_folder: &str) -> Option<Fact> {
     let (at, why) = line.split_once(": error: `")?;
     let (name, why) = why.split_once("`: ")?;
     let (_, at) = at.split_once(crate_folder)?;
     let (file, place) = at.split_at(at.find(':')?);
-    let is_fact = !name.ends_with("-spec") && !NO_FACT.iter().any(|says| why.contains(says));
+    let is_fact = file.starts_with("proofs/")
+        && !name.ends_with("-spec")
+        && !NO_FACT.iter().any(|says| why.contains(says));
     is_fact.then(|| Fact {
         file: file.to_string(),
         name: name.to_string(),
@@ -79,6 +81,7 @@ mod tests {
             /t/must-fail/c/e/proofs/a/f/Proof.antt:10:41: error: `f-spec`: too many arguments\n\
             /t/must-fail/c/e/proofs/a/g/Proof.antt:3:1: error: `near`: `returns` was not admitted (..)\n\
             /t/must-fail/c/e/proofs/a/h/Proof.antt:3:1: error: `rem-w`: tie has no `Need-rem-w` that can be named from here\n\
+            /t/must-fail/c/e/specs/D.antt:5:1: error: `deep`: expected type `ℕ`\n\
             fn c::b::k: no proof: expected `k-spec` in /t/must-fail/c/e/proofs/b/k/Proof.antt; `search` does not close `add-w`\n\
             fn c::b::m: no proof: expected `m-spec` in /t/must-fail/c/e/proofs/b/m/Proof.antt; it calls `c::b::k`\n";
         let fact = |file: &str, name: &str, place: &str| Fact {
