@@ -1,4 +1,4 @@
-// Opening, feeding and pulling over a state by value and a lent window.
+// Opening, feeding and pulling over a state by value and a lent window; the view of a report.
 mod apart; // apart.rt: a state as frames and the rest
 mod base; // base.rt: the base of each event
 mod feeding; // feeding.rt: 12, 13, 15, ignored, 16, 17
@@ -7,6 +7,7 @@ mod good; // good.rt: 12
 mod opening; // opening.rt: 9, 10, 7, 8, 11; a fresh checker
 mod pulling; // pulling.rt: 12, 13, 14, the next verdict or waiting
 mod report; // report.rt: the report of a false verdict
+mod viewing; // viewing.rt: 14, the view of a report
 mod words; // words.rt: the window's words
 
 pub use apart::Rest;
@@ -25,6 +26,7 @@ pub use pulling::pull_good;
 pub use pulling::pull_parts;
 use rule::Refusal;
 use verdict::Instance;
+pub use viewing::view;
 
 // A total for each of the verdicts true, false and unknown.
 #[repr(C)]

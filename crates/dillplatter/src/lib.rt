@@ -1,4 +1,4 @@
-// The library for makers of controllers: the four calls of a checker as C has them, answers as numbers.
+// The library for makers of controllers: the four calls of a checker and the view of a report as C has them, answers as numbers.
 // include/dillplatter.h declares them and says what each one does.
 mod told; // told.rt: answers as numbers
 
@@ -9,6 +9,7 @@ ghost use Rattle.rule.specs.Reading.{readOf};
 ghost use Rattle.checker.specs.Open.{openDef};
 ghost use Rattle.checker.specs.Feed.{feedDef};
 ghost use Rattle.checker.specs.Pull.{pullDef};
+ghost use Rattle.checker.specs.View.{viewDef};
 ghost use Rattle.dillplatter.specs.Told.{checked, readTold, answerOf, numberOf, placeOf, framesOf};
 
 // The state that a call hands back, its answer, and the number and place of a refusal, 0 where nothing is refused.
@@ -83,4 +84,18 @@ pub extern "C" fn dillplatter_pull(state: State, window: &[i32], report: &mut [u
         number: pulling.number,
         place: pulling.place,
     }
+}
+
+// Makes a report buffer its view, for every buffer, and answers the number of the refusal, 0 where nothing is refused. C's functions
+// can't return a part of a buffer: `part`, a pointer and a length, is the buffer before the call and the view after it.
+#[no_mangle]
+pub extern "C" fn dillplatter_view<'a>(part: &mut &'a [u8]) -> u32
+    ensures { λ r. ⌜ (now (part .exit) .ptr ≡ now (part .entry) .ptr)
+        × ((now (now (part .exit)) ≡ viewDef (now (now (part .entry))) .bytes)
+        × (r ≡ viewDef (now (now (part .entry))) .number)) ⌝ }
+{
+    let report = *part;
+    let mut number = 0;
+    *part = checker::view(report, &mut number);
+    number
 }
