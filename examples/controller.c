@@ -1,5 +1,5 @@
 /* A controller's loop over the library: reads a rule, opens a checker with a lent window, feeds each line as it comes, pulls
- * until the checker waits, and says each violation in words. docs/MAKERS.md explains it. */
+ * until the checker waits, says each violation in words, and hands the operator panel its view. docs/MAKERS.md explains it. */
 #include <inttypes.h>
 #include <stdio.h>
 #include <string.h>
@@ -21,7 +21,23 @@ static int32_t window[DILLPLATTER_WINDOW_WORDS(WIDTH)];
 static uint8_t report[DILLPLATTER_REPORT_BYTES];
 static dillplatter_state state;
 
-/* The references stand in the report in the order of the rule's frames, which the state has. */
+/* The operator panel, which gets views of reports and not the notes in them. */
+static void panel(dillplatter_part view) {
+    if (view.len == DILLPLATTER_VIEW_BYTES && view.bytes[4] == 0)
+        printf("panel: instance %" PRIu32 " is false\n", dillplatter_report_instance(view.bytes));
+}
+
+/* After a report: its view for the panel. */
+static void show_view(void) {
+    dillplatter_part part = {report, sizeof report};
+    uint32_t number = dillplatter_view(&part);
+    if (number == DILLPLATTER_NO_REFUSAL)
+        panel(part);
+    else
+        printf("view refused with %" PRIu32 "\n", number);
+}
+
+/* For those who may see the notes. The references stand in the report in the order of the rule's frames, which the state has. */
 static void say_violation(void) {
     uint32_t instance = dillplatter_report_instance(report);
     uint32_t k = 0;
@@ -49,7 +65,7 @@ static void pull_all(void) {
         switch (told.answer) {
         case DILLPLATTER_TRUE: break;
         case DILLPLATTER_UNKNOWN: break;
-        case DILLPLATTER_FALSE: say_violation(); break;
+        case DILLPLATTER_FALSE: say_violation(); show_view(); break;
         case DILLPLATTER_WAITING: return;
         default: printf("pull refused with %" PRIu32 "\n", told.number); return;
         }

@@ -1,4 +1,5 @@
-//! The library from Rust, with nothing but rustc: reads a rule, opens a checker, feeds four lines and pulls after each.
+//! The library from Rust, with nothing but rustc: reads a rule, opens a checker, feeds four lines and pulls after each; the
+//! operator panel sees the view of each report.
 //! host/ has a wrapper with types of its own; this shows the calls themselves.
 
 const WIDTH: usize = 64;
@@ -38,12 +39,19 @@ struct Outcome {
     place: u32,
 }
 
+#[repr(C)]
+struct Part {
+    bytes: *const u8,
+    len: usize,
+}
+
 // Nothing checks these against the library: they are include/dillplatter.h, word for word.
 extern "C" {
     fn dillplatter_read(text: *const u8, text_len: usize, frames: *mut u8, frames_len: usize) -> Reading;
     fn dillplatter_open(frames: *const u8, frames_len: usize, width: u32, window: *mut i32, window_len: usize) -> Outcome;
     fn dillplatter_feed(state: State, window: *mut i32, window_len: usize, line: *const u8, line_len: usize) -> Outcome;
     fn dillplatter_pull(state: State, window: *const i32, window_len: usize, report: *mut u8, report_len: usize) -> Outcome;
+    fn dillplatter_view(part: *mut Part) -> u32;
 }
 
 // A slice is a pointer and a length; the borrow checker sees to it that what is written overlaps nothing.
@@ -63,6 +71,21 @@ fn pull(state: State, window: &[i32], report: &mut [u8]) -> Outcome {
     unsafe { dillplatter_pull(state, window.as_ptr(), window.len(), report.as_mut_ptr(), report.len()) }
 }
 
+// What the operator panel may see of a report: a part of the report itself, empty where the number is not 0.
+fn view(report: &[u8]) -> (u32, &[u8]) {
+    let mut part = Part { bytes: report.as_ptr(), len: report.len() };
+    let number = unsafe { dillplatter_view(&mut part) };
+    (number, unsafe { std::slice::from_raw_parts(part.bytes, part.len) })
+}
+
+fn say_false(instance: u32, report: &[u8]) {
+    println!("instance {instance} is false, {} references: {:?}", report[5], &report[6..16]);
+    match view(report) {
+        (0, seen) => println!("the panel sees {seen:?}"),
+        (number, _) => panic!("view refused with {number}"),
+    }
+}
+
 // Pulls until the checker waits.
 fn pull_all(mut state: State, window: &[i32], report: &mut [u8]) -> State {
     loop {
@@ -70,7 +93,7 @@ fn pull_all(mut state: State, window: &[i32], report: &mut [u8]) -> State {
         state = pulled.state;
         match pulled.answer {
             6 => println!("instance {} is true", state.next - 1),
-            7 => println!("instance {} is false, {} references: {:?}", state.next - 1, report[5], &report[6..16]),
+            7 => say_false(state.next - 1, report),
             8 => println!("instance {} is unknown", state.next - 1),
             5 => return state,
             _ => panic!("pull refused with {}", pulled.number),
@@ -79,7 +102,7 @@ fn pull_all(mut state: State, window: &[i32], report: &mut [u8]) -> State {
 }
 
 fn main() {
-    assert_eq!((std::mem::size_of::<State>(), std::mem::size_of::<Outcome>()), (568, 580));
+    assert_eq!((std::mem::size_of::<State>(), std::mem::size_of::<Outcome>(), std::mem::size_of::<Part>()), (568, 580, 16));
     let (mut frames, mut window, mut report) = ([0u8; 512], [0i32; 32 * WIDTH], [0u8; 166]);
     let reading = read(b"events in out; notes t; t(out[i]) - t(in[i]) <= 25", &mut frames);
     if reading.answer != 1 {

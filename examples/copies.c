@@ -56,6 +56,15 @@ static int opened(const char *text) {
     return result.answer == DILLPLATTER_OPENED;
 }
 
+/* Views, taken and refused: no byte is copied. */
+static int views_copy(void) {
+    dillplatter_part whole = {report, sizeof report}, none = {report, 0};
+    copied = 0;
+    dillplatter_view(&whole);
+    dillplatter_view(&none);
+    return copied != 0 || whole.bytes != report || none.bytes != report;
+}
+
 /* Lines and pulls of every answer; the first pull of each rule is of an instance that is not settled. */
 static void run(void) {
     pull(sizeof report);
@@ -78,5 +87,5 @@ int main(void) {
     for (int answer = DILLPLATTER_REFUSED; answer <= DILLPLATTER_UNKNOWN; answer++)
         good &= answer == DILLPLATTER_READ || seen[answer];
     printf("open, feed, pull: %zu bytes copied, at most %d\n", most_copied, MOST);
-    return !(good && most_copied <= MOST);
+    return !(good && most_copied <= MOST) || views_copy();
 }

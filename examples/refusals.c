@@ -76,6 +76,16 @@ static void refuse_pull(const char *what, uint32_t want, dillplatter_state s, si
     expect(memcmp(&r.state, &s, sizeof s) == 0, "a refused pull leaves the state");
 }
 
+static void refuse_view(const char *what, uint32_t want, size_t buffer) {
+    memset(report, 7, sizeof report);
+    dillplatter_part part = {report, buffer};
+    uint32_t number = dillplatter_view(&part);
+    printf("%2" PRIu32 " at 0: %s\n", number, what);
+    expect(number == want, what);
+    expect(part.bytes == report && part.len == 0, "a refused view is empty");
+    expect(all_seven(report, sizeof report), "a refused view leaves the report");
+}
+
 static void read_good(const char *rule) {
     dillplatter_reading r = dillplatter_read((const uint8_t *)rule, strlen(rule), frames, sizeof frames);
     expect(r.answer == DILLPLATTER_READ, "the rule is read");
@@ -127,6 +137,7 @@ static void running(void) {
     refuse_feed("a window one word short", DILLPLATTER_WINDOW_SIZE, state, WORDS - 1, line);
     refuse_pull("a window one word short", DILLPLATTER_WINDOW_SIZE, state, WORDS - 1, sizeof report);
     refuse_pull("a report buffer of 165 bytes", DILLPLATTER_REPORT_SIZE, state, WORDS, 165);
+    refuse_view("a view of a report buffer of 165 bytes", DILLPLATTER_REPORT_SIZE, 165);
     refuse_feed("a line with a letter past f", DILLPLATTER_BAD_LINE, state, WORDS, "00000000fg000000000000000000000000");
     refuse_feed("a line of 33 digits", DILLPLATTER_BAD_LINE, state, WORDS, line + 1);
     feed_many(WIDTH);

@@ -23,12 +23,14 @@ static size_t text_len, frames_len;
 static int32_t window[DILLPLATTER_WINDOW_WORDS(WIDTH)];
 static dillplatter_reading reading;
 static dillplatter_result result;
+static dillplatter_part part;
 
 static void nothing(void) {}
 static void do_read(void) { reading = dillplatter_read(text, text_len, frames, sizeof frames); }
 static void do_open(void) { result = dillplatter_open(frames, frames_len, WIDTH, window, WORDS); }
 static void do_feed(void) { result = dillplatter_feed(result.state, window, WORDS, line, sizeof line); }
 static void do_pull(void) { result = dillplatter_pull(result.state, window, WORDS, report, sizeof report); }
+static void do_view(void) { dillplatter_view(&part); }
 
 /* The bytes of stack that a function takes. */
 static size_t taken(void (*call)(void)) {
@@ -124,6 +126,13 @@ static void running_most(size_t *feeding, size_t *pulling) {
     }
 }
 
+/* Viewing a buffer of so many bytes. */
+static size_t viewing(size_t len) {
+    part.bytes = report;
+    part.len = len;
+    return cost(do_view);
+}
+
 static int within(const char *name, size_t bytes, size_t limit) {
     printf("%s: %zu bytes, at most %zu\n", name, bytes, limit);
     return bytes <= limit;
@@ -140,6 +149,8 @@ int main(void) {
     good &= within("open", opening, 4096);
     good &= within("feed", feeding, 8192);
     good &= within("pull", pulling, 8192);
+    good &= within("view", viewing(sizeof report), 256);
+    good &= within("view, refused", viewing(0), 256);
     good &= result.state.totals.held > 0 && result.state.totals.failed > 0;
     return !good;
 }

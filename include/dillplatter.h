@@ -1,8 +1,9 @@
 /* Dillplatter: a proved log checker for Logic of Constraints, as a library for controllers.
  *
  * A rule's text is read into frames (dillplatter_read), frames open a checker (dillplatter_open), log lines are fed to it
- * (dillplatter_feed) and verdicts are pulled from it (dillplatter_pull). docs/RULES.md teaches rules, docs/MAKERS.md shows how
- * to link, how much memory to lend and what to do on each refusal.
+ * (dillplatter_feed) and verdicts are pulled from it (dillplatter_pull). Of a violation's report an operator panel gets the view
+ * (dillplatter_view). docs/RULES.md teaches rules, docs/MAKERS.md shows how to link, how much memory to lend and what to do on each
+ * refusal.
  *
  * For every argument each call ends, and answers as its proved contract says; a refusal changes nothing. The library has no
  * memory of its own and allocates none: what a checker carries from call to call is the state, by value, and the window, which
@@ -48,6 +49,9 @@ extern "C" {
 /* Bytes of a report buffer: at least so many, which is what the longest report has. */
 #define DILLPLATTER_REPORT_BYTES 166
 
+/* Bytes of a view: the first so many of a report. */
+#define DILLPLATTER_VIEW_BYTES 5
+
 /* ---- answers and refusals ---- */
 
 /* The field `answer` of every result. */
@@ -85,7 +89,7 @@ enum dillplatter_refusal {
                                       1,009,999, totals that do not sum to `next`, a count other than 0 of an event that the
                                       rule does not reference, or a count above that event's base plus W */
     DILLPLATTER_WINDOW_SIZE = 13,  /* feed, pull: a window not 32 * W words, with the W of the state */
-    DILLPLATTER_REPORT_SIZE = 14,  /* pull: a report buffer under 166 bytes */
+    DILLPLATTER_REPORT_SIZE = 14,  /* pull, view: a report buffer under 166 bytes */
     DILLPLATTER_BAD_LINE = 15,     /* feed: not 34 digits 0-9, A-F or a-f; place: the lower of the first byte that is none and the
                                       shorter of the length and 34 */
     DILLPLATTER_LINES_MOST = 16,   /* feed: that event has 1,000,000 lines already */
@@ -120,13 +124,19 @@ typedef struct dillplatter_reading {
     uint32_t frames; /* how many frames the rule has, 1 to 64; 0 if refused */
 } dillplatter_reading;
 
-/* What the other calls give. */
+/* What dillplatter_open, dillplatter_feed and dillplatter_pull give. */
 typedef struct dillplatter_result {
     dillplatter_state state; /* to hand to the next call */
     uint32_t answer;         /* enum dillplatter_answer */
     uint32_t number;         /* the refusal's, else 0 */
     uint32_t place;          /* the refusal's, else 0 */
 } dillplatter_result;
+
+/* A part of lent memory, which dillplatter_view takes and gives: so many bytes, from the first on. */
+typedef struct dillplatter_part {
+    const uint8_t *bytes;
+    size_t len;
+} dillplatter_part;
 
 /* ---- the calls ---- */
 
@@ -169,6 +179,21 @@ dillplatter_result dillplatter_feed(dillplatter_state state, int32_t *window, si
  * reference in the order of the frames a mark (00 present, 01 pending, 02 void) and the note's value (4 bytes, signed, 0 unless
  * present). */
 dillplatter_result dillplatter_pull(dillplatter_state state, const int32_t *window, size_t window_len, uint8_t *report, size_t report_len);
+
+/* Makes a report buffer its view: what machine hands may see of a report, its instance and its verdict, and none of the notes'
+ * values. `*part` is the report buffer, whole, before the call, and the view after it: a part of the same memory, no copy.
+ * Answers: DILLPLATTER_NO_REFUSAL, and the view is the buffer's first 5 bytes; or DILLPLATTER_REPORT_SIZE, 14, for a buffer under
+ * 166 bytes, and the view is empty: it begins where the buffer does and has length 0. The refusal has no place.
+ * Writes: `*part`, and no byte of the buffer.
+ * Memory: `*part` must not overlap the buffer. The call looks at no byte of the buffer, so only after a pull into it that answered
+ * false does the view show a report; and with the next such pull it shows the next one.
+ *
+ * What an operator panel does with it: after each pull that answers false, the controller makes a part of its report buffer, calls
+ * dillplatter_view on it, and hands the panel the view in place of the report. The panel shows that the instance, the first 4 bytes
+ * (dillplatter_report_instance), is false, the fifth. C does not hold it to the length: to a panel that is not trusted, send a copy
+ * of the 5 bytes. The panel learns nothing of the notes beyond that: for one rule, two logs give the same views in the same order
+ * exactly where the same instances were reported with the same verdicts. */
+uint32_t dillplatter_view(dillplatter_part *part);
 
 /* ---- the same with a pointer to the state ----
  * Each replaces *state by the state that the call gives back, and returns the rest. After a refused opening *state is zero
@@ -233,7 +258,7 @@ static inline int32_t dillplatter_signed(const uint8_t *bytes) {
     return word <= (uint32_t)INT32_MAX ? (int32_t)word : (int32_t)(word - (uint32_t)INT32_MAX - 1) + INT32_MIN;
 }
 
-/* The instance that a report is about. */
+/* The instance that a report, or its view, is about. */
 static inline uint32_t dillplatter_report_instance(const uint8_t *report) { return dillplatter_word(report); }
 
 /* How many references it has, 1 to 32. */
@@ -269,6 +294,9 @@ DILLPLATTER_HOLDS(sizeof(dillplatter_result) == 580);
 DILLPLATTER_HOLDS(offsetof(dillplatter_result, answer) == 568);
 DILLPLATTER_HOLDS(offsetof(dillplatter_result, number) == 572);
 DILLPLATTER_HOLDS(offsetof(dillplatter_result, place) == 576);
+DILLPLATTER_HOLDS(sizeof(dillplatter_part) == 16);
+DILLPLATTER_HOLDS(offsetof(dillplatter_part, bytes) == 0);
+DILLPLATTER_HOLDS(offsetof(dillplatter_part, len) == 8);
 DILLPLATTER_HOLDS(sizeof(size_t) == 8 && sizeof(void *) == 8);
 
 #undef DILLPLATTER_HOLDS

@@ -11,10 +11,12 @@ mod Text
 mod Agree
 mod Order
 mod Reports
+mod Views
 mod Never
 mod Exactly
 mod Unchanged
 mod Marked
+mod ViewExamples
 mod CodeCopy
 mod CodeBase
 mod CodeRing

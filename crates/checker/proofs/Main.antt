@@ -38,6 +38,7 @@ use Rattle.checker.specs.Calls.{Call, Out, outs, checker}
 use Rattle.checker.specs.Machine.{atFirst, tallyOf, machineFor}
 use Rattle.checker.specs.Demand.{Unrefused, fresh, answerOf, span, totalsOf, checkerAfter, machineAfter, handedOut, ThirdDemand, acceptedIn, Reordered}
 use Rattle.checker.specs.Demand.{reportsOut, Reported, ReportedTwice}
+use Rattle.checker.specs.View.{viewDef, viewsOut, reportedOut, seen}
 use Rattle.checker.specs.declared.State.{State}
 use Rattle.checker.proofs.Lists
 use Rattle.checker.proofs.Final
@@ -48,6 +49,7 @@ use Rattle.checker.proofs.Exactly
 use Rattle.checker.proofs.Agree
 use Rattle.checker.proofs.Order
 use Rattle.checker.proofs.Reports
+use Rattle.checker.proofs.Views
 use Rattle.checker.proofs.Unchanged
 use Rattle.checker.proofs.GoodStays
 
@@ -147,11 +149,33 @@ module _ {frames : List ℕ} {w w′ : ℕ} {win win′ : List ℤ} (o : Unrefus
       (getD (reportsOut frames w win cs) i []) (getD (reportsOut frames w′ win′ cs′) i [])
   third-order-reports = Reports.order-reports o o′ cs cs′
 
+  -- document 02, point 3: machine hands, given one view after each report, get the same views in the same order exactly where the
+  -- reported instances and verdicts are equal
+  pub views-exactly : (viewsOut frames w win cs ≡ viewsOut frames w′ win′ cs′)
+      ↔ (reportedOut frames w win cs ≡ reportedOut frames w′ win′ cs′)
+  views-exactly = Views.views-exactly o o′ cs cs′
+
+  -- so, whatever the notes, equal reported instances and verdicts give equal views
+  pub views-equal : reportedOut frames w win cs ≡ reportedOut frames w′ win′ cs′
+      → viewsOut frames w win cs ≡ viewsOut frames w′ win′ cs′
+  views-equal = Views.same-views o o′ cs cs′
+
 -- ---- within one list: each false verdict handed out comes with the report of its instance at the moment of the pull
 pub third-report : {frames : List ℕ} {w : ℕ} {win : List ℤ} → Unrefused frames w win → (cs : List Call) (i : ℕ)
     → getD (handedOut frames w win cs) i Unknown ≡ False
     → Reported frames w cs (firstInstance + i) (getD (reportsOut frames w win cs) i [])
 third-report = Reports.report
+
+-- the views of a list are its reported instances and verdicts, in their order, and show no note
+pub views-seen : {frames : List ℕ} {w : ℕ} {win : List ℤ} → Unrefused frames w win → (cs : List Call)
+    → viewsOut frames w win cs ≡ map seen (reportedOut frames w win cs)
+views-seen = Views.views-seen
+
+-- ---- a pull that fills a report, whatever the state, the window and the buffer: the view is not refused, and shows its instance and
+-- that it is false
+pub view-after : (s : State) (win : List ℤ) (buffer : List ℕ) → pullDef s win buffer .answer ≡ verdict False
+    → viewDef (pullDef s win buffer .report) ≡ record { number = 0; bytes = seen (record { instance = s .next .0; verdict = False }) }
+view-after = Views.view-after
 
 -- ---- opening is not refused exactly where the frames are a rule's within the limits, W is 1 to 256 and the window 32 × W words
 pub opens-exactly : {frames : List ℕ} (w : ℕ) (win : List ℤ) → Bytes frames

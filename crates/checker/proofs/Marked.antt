@@ -54,7 +54,7 @@ t e o = reference (record { event = e; note = 0; factor = 1; offset = o })
 abbrev latencyText : String
 latencyText = "events in out; notes t; t(out[i]) - t(in[i]) <= 25"
 
-abbrev latency : Cond
+abbrev pub latency : Cond
 latency = relation atMost (arithmetic subtract (t 1 (pos 0)) (t 0 (pos 0))) (literal 25)
 
 -- "With `events a b; notes t;` from here on", "(after 003)"
@@ -105,10 +105,10 @@ digits zero x rest = rest
 digits (suc n) x rest = digits n (x / 16) (digit (x % 16) ∷ rest)
 
 -- a line of event e whose first note has these bits, the others 0
-abbrev line : ℕ → ℕ → Call
+abbrev pub line : ℕ → ℕ → Call
 line e bits = feed (digits 2 e (digits 8 bits (replicate 24 48)))
 
-abbrev next : Call
+abbrev pub next : Call
 next = pull (replicate reportLeast 7)
 
 -- ---- the table

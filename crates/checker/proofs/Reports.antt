@@ -75,7 +75,7 @@ module _ (frames : List ℕ) (w : ℕ) where
   wrote-fed m cs (taken e notes) vs rs h = h
 
   -- the report buffer after a pull
-  abbrev bufferBy : Machine → List ℕ → PullRead → List ℕ
+  abbrev pub bufferBy : Machine → List ℕ → PullRead → List ℕ
   bufferBy m buffer x = pullReport (m .next) (references (treeOf frames)) (foundIn (m .lists) (m .next)) buffer x
 
   wrote-pulled : (m : Machine) (buffer : List ℕ) (cs : List Call) (x : PullRead) (vs : List Truth) (rs : List (List ℕ))

@@ -29,7 +29,9 @@ pub record ViewResult : Type 0 where
 -- "a view of the report's first 5 bytes, that part of the buffer itself; a buffer under 166 bytes gives 14 and an empty view"
 unfoldable pub viewDef : List ℕ → ViewResult
 viewDef buffer =
-    cond (ltb (length buffer) reportLeast) (record { number = 14; bytes = [] }) (record { number = 0; bytes = take viewLength buffer })
+    cond (ltb (length buffer) reportLeast)
+    (record { number = 14; bytes = [] })
+    (record { number = 0; bytes = take viewLength buffer })
 
 -- ---- views in a list of calls
 -- document 01: "A false verdict fills a report in a lent buffer; other verdicts leave it"

@@ -2,8 +2,11 @@
 use mathlib.Core.Path.{_≡_, refl, ap}
 use Prim.Native.Nat.{ℕ, _+_}
 use native.Mathlib.Nat.{zero-add}
+use native.Mathlib.Omega.{arith}
 use borrow.Author.Needs.{needs}
 use borrow.Author.Tests.{lt-ltb, le-ltb}
+use lib.ListN.{length}
+use Rattle.checker.specs.Limits.{reportLeast}
 use Rattle.checker.specs.View.{viewDef}
 use Rattle.checker.proofs.viewing.view.Statement.{statement}
 use Rattle.checker.proofs.viewing.view.Tie as tie
@@ -35,7 +38,7 @@ returns : tie.Need-returns
 unfolding viewDef
 returns c =
     let report = c .before .before .args .report in
-    let short = lt-ltb _ _ (c .before .if1 .taken) in
+    let short = lt-ltb (length (report .now)) reportLeast (omega (arith, c .before .if1 .taken)) in
     rw short (same-start (report .ptr), (refl, refl))
 
 -- 166 bytes and more
@@ -43,7 +46,7 @@ returns-2 : tie.Need-returns-2
 unfolding viewDef
 returns-2 c =
     let report = c .before .before .args .report in
-    let enough = le-ltb _ _ (c .before .if1 .left) in
+    let enough = le-ltb (length (report .now)) reportLeast (omega (arith, c .before .if1 .left)) in
     rw enough (same-start (report .ptr), (refl, refl))
 
 pub view-spec : {M : Type 1} → statement M
