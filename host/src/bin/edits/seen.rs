@@ -31,7 +31,8 @@ mod tests {
     use super::*;
     use crate::edit;
 
-    /// A crate with a function, another that calls it and uses a constant, two definitions, of which one uses the other, and a law.
+    /// A crate with a function, another that calls it and uses a constant, two definitions, of which one uses the other, with a
+    /// comment between them that has a name as a word, and a law.
     fn sources() -> Sources {
         let files = [
             (
@@ -42,7 +43,7 @@ mod tests {
             ),
             (
                 "specs/D.antt",
-                "abbrev pub flat : ℕ → ℕ\nflat n = n + 1\n\nabbrev pub deep : ℕ → ℕ\ndeep n =\n    flat n + 2\n",
+                "abbrev pub flat : ℕ → ℕ\nflat n = n + 1\n\n-- one that is deep\nabbrev pub deep : ℕ → ℕ\ndeep n =\n    flat n + 2\n",
             ),
             ("proofs/Law.antt", "use Rattle.c.specs.D.{deep}\nlaw : (n : ℕ) → deep n ≡ n + 3\nlaw n = refl\n"),
         ];

@@ -265,14 +265,15 @@ fn typed(line: &str) -> Option<&str> {
 }
 
 /// The declarations of a file of antt, names with their texts: each from the line with its type to the next such line, with the
-/// head of the module around it.
+/// head of the module around it. A comment is no part of them: it may have the name of another as a plain word.
 fn declarations(text: &str) -> Vec<(String, String)> {
     let mut all: Vec<(String, String)> = Vec::new();
     let mut head = "";
-    for line in text.lines() {
+    let is_comment = |line: &&str| line.trim_start().starts_with("--");
+    for line in text.lines().filter(|line| !is_comment(line)) {
         if line.starts_with("module ") {
             head = line;
-        } else if !line.is_empty() && !line.starts_with([' ', '-']) {
+        } else if !line.is_empty() && !line.starts_with(' ') {
             head = "";
         }
         if let Some(name) = typed(line) {
