@@ -5,9 +5,9 @@
  * (dillplatter_view). docs/RULES.md teaches rules, docs/MAKERS.md shows how to link, how much memory to lend and what to do on each
  * refusal.
  *
- * For every argument each call ends, and answers as its proved contract says; a refusal changes nothing. The library has no
- * memory of its own and allocates none: what a checker carries from call to call is the state, by value, and the window, which
- * the caller lends. So calls on different checkers may run at the same time.
+ * For every argument each call ends, and answers as its proved contract says; a refusal changes nothing, but that a refused view
+ * is an empty part. The library has no memory of its own and allocates none: what a checker carries from call to call is the state,
+ * by value, and the window, which the caller lends. So calls on different checkers may run at the same time.
  *
  * What the caller keeps to, and nobody checks:
  * - a pointer and a length stand for that many elements that may be read, and written where the pointer is not to const; the
@@ -67,8 +67,8 @@ enum dillplatter_answer {
     DILLPLATTER_UNKNOWN = 8   /* pull: it is unknown */
 };
 
-/* The field `number` of every result, and what `place` counts, from 0. Where no place is named it is 0. Each call gives the
- * first that holds, in the order that stands with the call. */
+/* The field `number` of every result, which dillplatter_view returns, and what `place` counts, from 0. Where no place is named it
+ * is 0. Each call gives the first that holds, in the order that stands with the call. */
 enum dillplatter_refusal {
     DILLPLATTER_NO_REFUSAL = 0,
     DILLPLATTER_BUFFER_SIZE = 1,   /* read: the frame buffer isn't 512 bytes */
@@ -189,10 +189,10 @@ dillplatter_result dillplatter_pull(dillplatter_state state, const int32_t *wind
  * false does the view show a report; and with the next such pull it shows the next one.
  *
  * What an operator panel does with it: after each pull that answers false, the controller makes a part of its report buffer, calls
- * dillplatter_view on it, and hands the panel the view in place of the report. The panel shows that the instance, the first 4 bytes
- * (dillplatter_report_instance), is false, the fifth. C does not hold it to the length: to a panel that is not trusted, send a copy
- * of the 5 bytes. The panel learns nothing of the notes beyond that: for one rule, two logs give the same views in the same order
- * exactly where the same instances were reported with the same verdicts. */
+ * dillplatter_view on it, and hands the panel the view in place of the report. The panel reads the instance from the first 4 bytes
+ * (dillplatter_report_instance) and the verdict, 00 for false, from the fifth, and shows that this instance failed. It learns nothing
+ * else of the log: for one rule, two logs give the same views in the same order exactly where the same instances were reported with
+ * the same verdicts. C does not hold a panel to the length: to one that is not trusted, send a copy of the 5 bytes. */
 uint32_t dillplatter_view(dillplatter_part *part);
 
 /* ---- the same with a pointer to the state ----
