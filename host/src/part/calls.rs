@@ -1,6 +1,6 @@
 //! The C interface: its structs, its functions, and the numbers of its answers. All that is unsafe stands here.
 
-use super::{Refusal, State};
+use super::{Refusal, State, Viewed};
 
 /// What reading gives back.
 #[repr(C)]
@@ -20,7 +20,15 @@ pub struct Result {
     place: u32,
 }
 
+/// A report buffer before the call of the view, its view after it.
+#[repr(C)]
+struct Part {
+    bytes: *const u8,
+    len: usize,
+}
+
 const _: () = assert!(size_of::<Reading>() == 16 && size_of::<Result>() == 580);
+const _: () = assert!(size_of::<Part>() == 16);
 
 unsafe extern "C" {
     fn dillplatter_read(
@@ -50,6 +58,7 @@ unsafe extern "C" {
         report: *mut u8,
         report_len: usize,
     ) -> Result;
+    fn dillplatter_view(part: *mut Part) -> u32;
 }
 
 /// The answers, one enumeration for all calls.
@@ -141,5 +150,20 @@ pub fn pull(state: &State, window: &[i32], report: &mut [u8]) -> Result {
             report.as_mut_ptr(),
             report.len(),
         )
+    }
+}
+
+/// Views: the part that comes back is not looked at here.
+pub fn view(report: &[u8]) -> Viewed {
+    let mut part = Part {
+        bytes: report.as_ptr(),
+        len: report.len(),
+    };
+    // SAFETY: the pointer comes with its slice's length, and the call writes only to `part`.
+    let number = unsafe { dillplatter_view(&mut part) };
+    Viewed {
+        number,
+        begin: part.bytes,
+        len: part.len,
     }
 }

@@ -1,10 +1,10 @@
 //! The proved part, called through its C interface, behind safe functions.
 //!
-//! [`read`], [`State::open`], [`State::feed`] and [`State::pull`] are the four calls, one for one, on memory that the
-//! caller lends. [`Checker`] has a window of its own:
+//! [`read`], [`State::open`], [`State::feed`], [`State::pull`] and [`view`] are the five calls, one for one, on memory
+//! that the caller lends. [`Checker`] has a window of its own:
 //!
 //! ```
-//! use dillplatter_host::part::{read_rule, Checker, Fed, Pulled};
+//! use dillplatter_host::part::{read_rule, view, Checker, Fed, Pulled};
 //!
 //! let frames = read_rule(b"events in out; notes t; t(out[i]) - t(in[i]) <= 25").unwrap();
 //! let mut checker = Checker::open(&frames, 64).unwrap();
@@ -13,6 +13,7 @@
 //! assert_eq!(checker.feed(b"0100000028000000000000000000000000"), Fed::Accepted);
 //! assert_eq!(checker.pull(&mut report), Pulled::False);
 //! assert_eq!(report[..16], [0, 0, 0, 0, 0, 2, 0, 0, 0, 0, 40, 0, 0, 0, 0, 10]);
+//! assert_eq!(view(&report).unwrap(), [0, 0, 0, 0, 0]);
 //! assert_eq!(checker.state().totals.failed, 1);
 //! ```
 
@@ -26,6 +27,8 @@ pub const FRAME_BUFFER: usize = 512;
 pub const FRAME_BYTES: usize = 8;
 /// The fewest bytes of a report buffer.
 pub const REPORT_BYTES: usize = 166;
+/// Bytes of a view.
+pub const VIEW_BYTES: usize = 5;
 /// Window words for each of W.
 pub const WINDOW_WORDS: usize = 32;
 
@@ -84,6 +87,17 @@ pub enum Pulled {
     Refused(Refusal),
 }
 
+/// What viewing gives back, as it comes.
+#[derive(Clone, Copy, Debug, PartialEq, Eq)]
+pub struct Viewed {
+    /// The refusal's, else 0.
+    pub number: u32,
+    /// Where the view begins.
+    pub begin: *const u8,
+    /// Its length.
+    pub len: usize,
+}
+
 /// Reads a rule's text into a buffer of 512 bytes: the number of frames, or a refusal (1 to 8), which leaves the
 /// buffer as it was.
 pub fn read(text: &[u8], frames: &mut [u8]) -> Result<u32, Refusal> {
@@ -101,6 +115,31 @@ pub fn read_rule(text: &[u8]) -> Result<Vec<u8>, Refusal> {
     let count = read(text, &mut buffer)?;
     buffer.truncate(FRAME_BYTES * count as usize);
     Ok(buffer)
+}
+
+/// The view of a report buffer, that part of the buffer itself: its first 5 bytes, or a refusal (14).
+pub fn view(report: &[u8]) -> Result<&[u8], Refusal> {
+    Viewed::of(report).within(report)
+}
+
+impl Viewed {
+    /// Views a report buffer.
+    pub fn of(report: &[u8]) -> Viewed {
+        calls::view(report)
+    }
+
+    /// The view as a part of its report, or the refusal. It panics where the answer is neither.
+    pub fn within(self, report: &[u8]) -> Result<&[u8], Refusal> {
+        assert!(
+            self.begin == report.as_ptr() && self.len <= report.len(),
+            "viewing answered {self:?}, which is no beginning of the report"
+        );
+        match (self.number, self.len) {
+            (0, VIEW_BYTES) => Ok(&report[..VIEW_BYTES]),
+            (number @ 1.., 0) => Err(Refusal { number, place: 0 }),
+            _ => panic!("viewing answered {self:?}"),
+        }
+    }
 }
 
 impl State {

@@ -4,6 +4,7 @@ use super::frames::{check, Reference, Rule};
 use super::line::{read_line, Notes};
 use super::state::State;
 use super::verdict::{verdict, Status, Truth};
+use super::view::Reported;
 use super::Refusal;
 
 /// Events that a rule can have.
@@ -59,6 +60,7 @@ pub struct Machine {
     lists: [Vec<Notes>; EVENTS],
     p: u32,
     totals: Totals,
+    reported: Vec<Reported>,
 }
 
 /// A fresh machine, unless 9, 10, 7, 8 or 11 refuses, in this order.
@@ -74,6 +76,7 @@ pub fn open(frames: &[u8], w: u32, window_len: usize) -> Result<Machine, Refusal
         lists: Default::default(),
         p: 0,
         totals: Totals::default(),
+        reported: Vec::new(),
     })
 }
 
@@ -119,6 +122,7 @@ impl Machine {
         };
         if verdict == Truth::False {
             fill(report, self.p, &statuses);
+            self.reported.push(Reported { i: self.p, verdict });
         }
         self.p += 1;
         self.totals.count(verdict);
@@ -163,6 +167,11 @@ impl Machine {
     /// The totals.
     pub fn totals(&self) -> Totals {
         self.totals
+    }
+
+    /// The instance and the verdict of each report.
+    pub fn reported(&self) -> &[Reported] {
+        &self.reported
     }
 
     /// What a checker's state carries after the same calls.

@@ -3,7 +3,7 @@
 //!
 //! A rule flows `text` -> `grammar` -> `names`, `numbers` -> `postfix` -> `frames`; a log flows `line` ->
 //! `machine`, which asks `verdict`. `state` answers calls on a state and a window that a caller hands in, forged ones
-//! too; `bench` has the output of the bench program.
+//! too; `view` has what machine hands see of a report; `bench` has the output of the bench program.
 
 #![forbid(unsafe_code)]
 
@@ -19,12 +19,14 @@ pub mod reading;
 pub mod state;
 pub mod text;
 pub mod verdict;
+pub mod view;
 
 pub use bench::{bench, bench_with};
 pub use machine::{open, Fed, Machine, Pulled, Totals};
 pub use reading::{read, read_into};
 pub use state::State;
 pub use verdict::Truth;
+pub use view::{view, Reported, View};
 
 /// A refusal: document 01's number, and its place (0 if none is named).
 #[derive(Clone, Copy, Debug, PartialEq, Eq)]

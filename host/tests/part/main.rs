@@ -16,4 +16,5 @@ mod quota;
 mod refusals;
 mod texts;
 mod vectors;
+mod view;
 mod widths;

@@ -4,8 +4,8 @@
 
 use crate::quota::count;
 use crate::shared::driven::{Driven, Twin};
-use dillplatter_host::part;
-use dillplatter_host::second::{Fed, Machine, Pulled, Refusal, State, Totals, Truth};
+use dillplatter_host::part::{self, Viewed};
+use dillplatter_host::second::{Fed, Machine, Pulled, Refusal, State, Totals, Truth, View};
 use std::fmt::Debug;
 use std::ops::Range;
 
@@ -21,6 +21,21 @@ fn edged<T: Copy>(inside: &[T], edge: T) -> Vec<T> {
 /// Where the slice lies in such a copy.
 fn inside<T>(edged: &[T]) -> Range<usize> {
     EDGE..edged.len() - EDGE
+}
+
+/// A report buffer between edges.
+pub struct Lent(Vec<u8>);
+
+impl Lent {
+    /// One that begins as a copy of a buffer.
+    pub fn of(report: &[u8]) -> Lent {
+        Lent(edged(report, 0xE7))
+    }
+
+    /// The report buffer itself.
+    pub fn report(&self) -> &[u8] {
+        &self.0[inside(&self.0)]
+    }
 }
 
 /// Both buffers agree; a message says where they do not.
@@ -160,16 +175,15 @@ impl Driven for Pair {
 
     #[track_caller]
     fn pull(&mut self, report: &mut [u8]) -> Pulled {
-        count();
-        let mut lent = edged(report, 0xE7);
-        let room = inside(&lent);
-        let words = &self.window[inside(&self.window)];
-        let answer = pulled(self.state.pull(words, &mut lent[room]));
-        let expected = self.twin.pull(report);
-        assert_eq!(answer, expected);
-        same("report", &lent, &edged(report, 0xE7));
-        self.agree();
+        let mut lent = Lent::of(report);
+        let answer = self.pull_lent(&mut lent);
+        report.copy_from_slice(lent.report());
         answer
+    }
+
+    #[track_caller]
+    fn view(report: &[u8]) -> Result<View, Refusal> {
+        Pair::view_lent(&Lent::of(report))
     }
 
     fn state(&self) -> &State {
@@ -187,6 +201,45 @@ impl Pair {
     fn agree(&self) {
         assert_eq!(model_of(&self.state), *self.twin.state());
         same("window", &self.window, &edged(self.twin.window(), 77));
+    }
+
+    /// Pulls into a report buffer that the part itself fills.
+    #[track_caller]
+    pub fn pull_lent(&mut self, lent: &mut Lent) -> Pulled {
+        count();
+        let mut report = lent.report().to_vec();
+        let room = inside(&lent.0);
+        let words = &self.window[inside(&self.window)];
+        let answer = pulled(self.state.pull(words, &mut lent.0[room]));
+        let expected = self.twin.pull(&mut report);
+        assert_eq!(answer, expected);
+        same("report", &lent.0, &Lent::of(&report).0);
+        self.agree();
+        answer
+    }
+
+    /// Views a report buffer: the view is the beginning of that buffer itself, and no byte changes.
+    #[track_caller]
+    pub fn view_lent(lent: &Lent) -> Result<View, Refusal> {
+        count();
+        let before = lent.0.clone();
+        let report = lent.report();
+        let viewed = Viewed::of(report);
+        same("viewed report", &lent.0, &before);
+        let expected = Twin::view(report);
+        let (number, len) = match expected {
+            Ok(view) => (0, view.len()),
+            Err(refusal) => (refusal.number.into(), 0),
+        };
+        let begin = report.as_ptr();
+        assert_eq!(viewed, Viewed { number, begin, len });
+        let answer = viewed.within(report).map_err(refusal);
+        if let Ok(view) = answer {
+            assert_eq!(view.as_ptr(), begin);
+        }
+        let answer = answer.map(|view| view.try_into().expect("a view has 5 bytes"));
+        assert_eq!(answer, expected);
+        answer
     }
 
     /// The part's window.

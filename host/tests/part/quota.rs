@@ -6,7 +6,7 @@ use std::cell::Cell;
 const LEAST: usize = 200_000;
 
 /// The fewest calls of each test that makes many.
-const OF_TESTS: [(&str, usize); 13] = [
+const OF_TESTS: [(&str, usize); 16] = [
     ("vectors", 9_900),
     ("random texts", 9_000),
     ("damaged texts", 20_000),
@@ -19,6 +19,9 @@ const OF_TESTS: [(&str, usize); 13] = [
     ("several widths", 40_000),
     ("places of every width", 12_000),
     ("forged states", 60_000),
+    ("views of buffers", 2_400),
+    ("views after reports", 180_000),
+    ("views of two logs", 400_000),
     ("a million lines", 2_000_000),
 ];
 

@@ -15,3 +15,4 @@ mod states;
 mod texts;
 mod trees;
 mod vectors;
+mod view;

@@ -1,6 +1,6 @@
 //! A checker as tests drive it, and the second checker in this form.
 
-use dillplatter_host::second::{self, Fed, Machine, Pulled, Refusal, State, Truth};
+use dillplatter_host::second::{self, Fed, Machine, Pulled, Refusal, State, Truth, View};
 
 pub const TRUE: Pulled = Pulled::Verdict(Truth::True);
 pub const FALSE: Pulled = Pulled::Verdict(Truth::False);
@@ -27,6 +27,9 @@ pub trait Driven: Sized {
 
     /// Pulls into a report buffer.
     fn pull(&mut self, report: &mut [u8]) -> Pulled;
+
+    /// Views a report buffer.
+    fn view(report: &[u8]) -> Result<View, Refusal>;
 
     /// The state.
     fn state(&self) -> &State;
@@ -120,6 +123,10 @@ impl Driven for Twin {
             assert_eq!(machine.state(), self.state);
         }
         answer
+    }
+
+    fn view(report: &[u8]) -> Result<View, Refusal> {
+        second::view(report)
     }
 
     fn state(&self) -> &State {

@@ -59,6 +59,7 @@ fn calls<C: Driven>() -> Vec<Row> {
         (13, 0, pulling(forged(state::<C>(0), 31), 166)),
         (14, 0, pulling(forged(state::<C>(0), 32), 165)),
         (14, 0, pulling(full(), 165)),
+        (14, 0, C::view(&[0; 165]).unwrap_err()),
         (15, 8, feeding(C::of_text(RULE, 1), b"00000000g1")),
         (15, 33, feeding(full(), &good[..33])),
         (16, 0, feeding(forged(state::<C>(1_000_000), 32), &good)),
