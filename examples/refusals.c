@@ -131,6 +131,7 @@ static void opening(void) {
 
 static void running(void) {
     const char *line = "0000000001000000000000000000000000";
+    dillplatter_part none = {NULL, 0};
     open_good(good_rule);
     refuse_feed("a state that is zero throughout", DILLPLATTER_BAD_STATE, zero, WORDS, line);
     refuse_pull("a state that is zero throughout", DILLPLATTER_BAD_STATE, zero, WORDS, sizeof report);
@@ -138,6 +139,7 @@ static void running(void) {
     refuse_pull("a window one word short", DILLPLATTER_WINDOW_SIZE, state, WORDS - 1, sizeof report);
     refuse_pull("a report buffer of 165 bytes", DILLPLATTER_REPORT_SIZE, state, WORDS, 165);
     refuse_view("a view of a report buffer of 165 bytes", DILLPLATTER_REPORT_SIZE, 165);
+    expect(dillplatter_view(&none) == DILLPLATTER_REPORT_SIZE && !none.bytes && none.len == 0, "no memory has no view");
     refuse_feed("a line with a letter past f", DILLPLATTER_BAD_LINE, state, WORDS, "00000000fg000000000000000000000000");
     refuse_feed("a line of 33 digits", DILLPLATTER_BAD_LINE, state, WORDS, line + 1);
     feed_many(WIDTH);
