@@ -86,8 +86,8 @@ pub extern "C" fn dillplatter_pull(state: State, window: &[i32], report: &mut [u
     }
 }
 
-// The view of a report buffer, for every buffer: `part`, a pointer and a length, is the buffer before the call and the view after it,
-// since a function for C can't return a part of a buffer. Answers the refusal's number, 0 where nothing is refused.
+// The view of a report buffer, for every buffer. A function for C can't return a part of a buffer: `part`, a pointer and a
+// length, is the buffer before the call and the view after it. Answers the refusal's number, 0 where nothing is refused.
 #[no_mangle]
 pub extern "C" fn dillplatter_view<'a>(part: &mut &'a [u8]) -> u32
     ensures { λ r. ⌜ (now (part .exit) .ptr ≡ now (part .entry) .ptr)
