@@ -10,6 +10,7 @@ use Rattle.rule.specs.Frames.{Bytes}
 use Rattle.rule.specs.Reading.{readOf}
 use Rattle.rule.specs.declared.Refusal.{Refusal}
 use Rattle.rule.specs.declared.Reading.the-variants.{Frames, Refused}
+use Rattle.log.specs.Digit.{hexDigit}
 use Rattle.log.specs.Pair.{pairOf}
 use Rattle.log.specs.Walk.{linesOf}
 use Rattle.log.specs.declared.digit.Pair.the-variants.{Byte}
@@ -21,7 +22,7 @@ use Rattle.checker.specs.Good.{goodState}
 use Rattle.checker.specs.Report.{reportBytes}
 use Rattle.checker.specs.Pull.{foundHere, pullDef}
 use Rattle.checker.specs.declared.State.{State}
-use Rattle.bench.specs.Print.{hexDigit, refusedLine, reportPart}
+use Rattle.bench.specs.Print.{refusedLine, reportPart}
 use Rattle.bench.specs.Kept.{keptLimit}
 use Rattle.bench.specs.Progress.{Progress, blank, UntilWaiting, pulls, pullLimit, fedLine, afterLine, afterLines, Open, afterBytes, atEnd}
 use Rattle.bench.specs.Output.{atStart, withTotals, begun, wholeRun, openedFor, outputOf}

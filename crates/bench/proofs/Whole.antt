@@ -4,23 +4,22 @@ use mathlib.Core.Bool.{Bool, true, false, cond}
 use mathlib.Core.List.{List, [], _∷_, _++_, map}
 use Prim.Native.Nat.{ℕ, _+_, _*_, _/_, _%_, _<_}
 use native.Mathlib.Omega.{arith}
-use borrow.Author.Tests.{lt-ltb, eqb-true}
+use borrow.Author.Tests.{lt-ltb}
 use lib.Dec.{eqb}
 use lib.IntN.{ℤ}
 use lib.ListN.{length, take, drop, replicate}
 use lib.Seq.{take-at}
-use Rattle.numbers.proofs.Bools.{T-true}
-use Rattle.numbers.proofs.Ranges.{tested}
 use Rattle.rule.specs.Limits.{frameLimit, frameBytes}
 use Rattle.rule.specs.Reading.{readOf}
 use Rattle.rule.specs.declared.Refusal.{Refusal}
 use Rattle.rule.specs.declared.Reading.{Reading}
 use Rattle.rule.specs.declared.Reading.the-variants.{Frames, Refused}
 use Rattle.rule.proofs.Main.{read-opens}
-use Rattle.log.specs.Digit.{digitValue}
+use Rattle.log.specs.Digit.{hexDigit}
 use Rattle.log.specs.Pair.{pairOf}
 use Rattle.log.specs.Walk.{onto, linesOf}
 use Rattle.log.specs.declared.digit.Pair.the-variants.{Byte}
+use Rattle.log.proofs.Main.{digit-back}
 use Rattle.verdict.specs.Found.{Found}
 use Rattle.verdict.specs.declared.Truth.the-variants.{True, False, Unknown}
 use Rattle.checker.specs.Answer.{opened, verdict, refused}
@@ -30,7 +29,7 @@ use Rattle.checker.specs.Good.{goodState}
 use Rattle.checker.specs.Report.{entries, reportBytes, written}
 use Rattle.checker.specs.Pull.{PullRead, short, waits, gave, pullRead, PullResult, notPulled, foundHere, pulledBy, pullDef}
 use Rattle.checker.specs.declared.State.{State}
-use Rattle.bench.specs.Print.{hexDigit, refusedLine, reportPart}
+use Rattle.bench.specs.Print.{refusedLine, reportPart}
 use Rattle.bench.specs.Kept.{keptLimit, kept}
 use Rattle.bench.specs.Progress.{Progress, blank, Open, afterLine, afterLines, afterBytes, atEnd}
 use Rattle.bench.specs.Output.{withTotals, begun, wholeRun, afterOpening, openedFor, afterReading, outputOf}
@@ -134,10 +133,6 @@ module _ (s : State) (win : List ℤ) where
   report-printed = by-cases (goodState s) (windowFits (s .width) win) (pullRead (ruleIn s) (s .next .0) (foundHere s win) (length blank))
 
 -- ---- digits
-digit-back : (d : ℕ) → d < 16 → digitValue (hexDigit d) ≡ d
-unfolding digitValue
-digit-back d h = eqb-true (digitValue (hexDigit d)) d (T-true _ (tested (λ (k : ℕ). eqb (digitValue (hexDigit k)) k) 0 16 d tt (omega arith) (omega arith)))
-
 pub hex-back : (b : ℕ) → b < 256 → pairOf (hexDigit (b / 16)) (hexDigit (b % 16)) ≡ Byte b
 unfolding pairOf
 hex-back b h =

@@ -1,17 +1,12 @@
 -- What the program prints: lines of hexadecimal capitals. From document 01, "Bench program". Assumes nothing: definitions.
-use mathlib.Core.Bool.{cond}
 use mathlib.Core.List.{List, [], _∷_, _++_}
-use Prim.Native.Nat.{ℕ, _+_, _-_, _*_, _/_, _%_}
-use lib.Dec.{ltb}
+use Prim.Native.Nat.{ℕ, _+_, _*_, _/_, _%_}
 use lib.ListN.{getD, take}
 use Rattle.rule.specs.Tree.{wordBytes}
 use Rattle.rule.specs.declared.Refusal.{Refusal}
+use Rattle.log.specs.Digit.{hexDigit}
 use Rattle.checker.specs.declared.Totals.{Totals}
 use Rattle.bench.specs.declared.Counts.{Counts}
-
--- the digit of a number below 16: 0-9 A-F
-abbrev pub hexDigit : ℕ → ℕ
-hexDigit d = cond (ltb d 10) (0x30 + d) (0x41 + (d - 10))
 
 -- two digits for each byte, the high one first
 unfoldable pub hexOf : List ℕ → List ℕ

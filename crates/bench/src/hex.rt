@@ -8,7 +8,8 @@ ghost use Prim.Native.Nat.{_+_, _*_, _≤_, _<_};
 ghost use lib.ListN.{length};
 ghost use lib.Seq.{sets};
 ghost use Rattle.rule.specs.Tree.{wordBytes};
-ghost use Rattle.bench.specs.Print.{hexDigit, hexOf, hexLine, totalsLine, refusedLine};
+ghost use Rattle.log.specs.Digit.{hexDigit};
+ghost use Rattle.bench.specs.Print.{hexOf, hexLine, totalsLine, refusedLine};
 
 // The digit of a number below 16.
 fn glyph(d: u8) -> u8

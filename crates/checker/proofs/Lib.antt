@@ -12,6 +12,7 @@ mod Agree
 mod Order
 mod Reports
 mod Views
+mod Earlier
 mod Never
 mod Exactly
 mod Unchanged

@@ -5,7 +5,7 @@ use mathlib.Core.List.{List, [], map, List·Memᴰ}
 use mathlib.Core.Logic.{_↔_, _≢_}
 use Prim.Native.Nat.{ℕ, _+_, _*_, _≤_, _<_}
 use lib.IntN.{ℤ, pos}
-use lib.ListN.{length, take, getD}
+use lib.ListN.{length, take, getD, replicate}
 use Rattle.rule.specs.Limits.{frameBytes}
 use Rattle.rule.specs.Token.{tokens}
 use Rattle.rule.specs.Grammar.{Rule, yield, words}
@@ -39,6 +39,7 @@ use Rattle.checker.specs.Machine.{atFirst, tallyOf, machineFor}
 use Rattle.checker.specs.Demand.{Unrefused, fresh, answerOf, span, totalsOf, checkerAfter, machineAfter, handedOut, ThirdDemand, acceptedIn, Reordered}
 use Rattle.checker.specs.Demand.{reportsOut, Reported, ReportedTwice}
 use Rattle.checker.specs.View.{viewDef, viewsOut, reportedOut, seen}
+use Rattle.checker.specs.Earlier.{RaisedLog}
 use Rattle.checker.specs.declared.State.{State}
 use Rattle.checker.proofs.Lists
 use Rattle.checker.proofs.Final
@@ -50,6 +51,7 @@ use Rattle.checker.proofs.Agree
 use Rattle.checker.proofs.Order
 use Rattle.checker.proofs.Reports
 use Rattle.checker.proofs.Views
+use Rattle.checker.proofs.Earlier
 use Rattle.checker.proofs.Unchanged
 use Rattle.checker.proofs.GoodStays
 
@@ -176,6 +178,19 @@ views-seen = Views.views-seen
 pub view-after : (s : State) (win : List ℤ) (buffer : List ℕ) → pullDef s win buffer .answer ≡ verdict False
     → viewDef (pullDef s win buffer .report) ≡ record { number = 0; bytes = seen (record { instance = s .next .0; verdict = False }) }
 view-after = Views.view-after
+
+-- ---- document 02, point 8: for every list of calls whose lines are old ones, on the plain machine, the list with each line raised gives
+-- the same answers and verdicts; in place of a line that 23 names stand bytes that 15 refuses at 0
+pub raised-log : {frames : List ℕ} {w : ℕ} {win : List ℤ} → Unrefused frames w win
+    → (other : List ℕ) → lineOf other ≡ log.refused 15 0 → (cs : List Call) → RaisedLog frames w win other cs
+raised-log = Earlier.raised-log
+
+-- such are the zero bytes that raising hands back, and an empty line
+pub zeros-named : lineOf (replicate 34 0) ≡ log.refused 15 0
+zeros-named = Earlier.zeros-named
+
+pub empty-named : lineOf [] ≡ log.refused 15 0
+empty-named = Earlier.empty-named
 
 -- ---- opening is not refused exactly where the frames are a rule's within the limits, W is 1 to 256 and the window 32 × W words
 pub opens-exactly : {frames : List ℕ} (w : ℕ) (win : List ℤ) → Bytes frames

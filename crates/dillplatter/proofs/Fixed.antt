@@ -1,11 +1,18 @@
 -- The numbers of an answer fix the answer: it can be got back from them. Assumes nothing.
-use mathlib.Core.Path.{_≡_, refl, sym, ap, _∙_}
+use mathlib.Core.Path.{_≡_, refl, sym, ap, ap₂, _∙_}
+use mathlib.Core.Bool.{cond}
 use Prim.Native.Nat.{ℕ, zero, suc}
+use lib.Dec.{eqb}
 use Rattle.rule.specs.declared.Reading.{Reading}
 use Rattle.rule.specs.declared.Reading.the-variants.{Frames, Refused}
+use Rattle.log.specs.Earlier.{raiseTold, lowerTold}
+use Rattle.log.specs.declared.earlier.RaiseAnswer.{RaiseAnswer}
+use Rattle.log.specs.declared.earlier.RaiseAnswer.the-variants as raises
+use Rattle.log.specs.declared.earlier.LowerAnswer.{LowerAnswer}
+use Rattle.log.specs.declared.earlier.LowerAnswer.the-variants as lowers
 use Rattle.verdict.specs.declared.Truth.the-variants.{True, False, Unknown}
 use Rattle.checker.specs.Answer.{Answer, opened, accepted, ignored, waiting, verdict, refused}
-use Rattle.dillplatter.specs.Told.{Told, read, checked, readTold, answerOf, numberOf, placeOf, framesOf}
+use Rattle.dillplatter.specs.Told.{Told, read, checked, readTold, answerOf, numberOf, placeOf, framesOf, conversionNumber, conversionPlace}
 
 -- the answer with given numbers
 got : (answer number place frames : ℕ) → Told
@@ -58,3 +65,31 @@ heard-back (Refused r) = refl
 
 pub reading-fixed : (r s : Reading) → readTold r ≡ readTold s → r ≡ s
 reading-fixed r s e = sym (heard-back r) ∙ (ap heard e ∙ heard-back s)
+
+-- ---- conversions: the answer with a given number and place
+gotRaise : (number place : ℕ) → RaiseAnswer
+gotRaise zero p = raises.Raised
+gotRaise (suc n) p = raises.Bad p
+
+raise-back : (a : RaiseAnswer) → gotRaise (conversionNumber (raiseTold a)) (conversionPlace (raiseTold a)) ≡ a
+unfolding raiseTold gotRaise
+raise-back raises.Raised = refl
+raise-back (raises.Bad p) = refl
+
+pub raise-fixed : (a b : RaiseAnswer) → conversionNumber (raiseTold a) ≡ conversionNumber (raiseTold b)
+    → conversionPlace (raiseTold a) ≡ conversionPlace (raiseTold b) → a ≡ b
+raise-fixed a b h i = sym (raise-back a) ∙ ap₂ gotRaise h i ∙ raise-back b
+
+gotLower : (number place : ℕ) → LowerAnswer
+gotLower n p = cond (eqb n 0) lowers.Lowered (cond (eqb n 15) (lowers.Bad p) (cond (eqb n 24) lowers.Fourth (lowers.Wide p)))
+
+lower-back : (a : LowerAnswer) → gotLower (conversionNumber (lowerTold a)) (conversionPlace (lowerTold a)) ≡ a
+unfolding lowerTold gotLower
+lower-back lowers.Lowered = refl
+lower-back (lowers.Bad p) = refl
+lower-back lowers.Fourth = refl
+lower-back (lowers.Wide p) = refl
+
+pub lower-fixed : (a b : LowerAnswer) → conversionNumber (lowerTold a) ≡ conversionNumber (lowerTold b)
+    → conversionPlace (lowerTold a) ≡ conversionPlace (lowerTold b) → a ≡ b
+lower-fixed a b h i = sym (lower-back a) ∙ ap₂ gotLower h i ∙ lower-back b

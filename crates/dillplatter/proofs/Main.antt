@@ -1,7 +1,10 @@
 -- What is proved of the library's answers, beside the contracts of its calls. Assumes nothing.
 use mathlib.Core.Path.{_≡_}
 use Rattle.rule.specs.declared.Reading.{Reading}
-use Rattle.dillplatter.specs.Told.{Told, readTold, answerOf, numberOf, placeOf, framesOf}
+use Rattle.log.specs.Earlier.{raiseTold, lowerTold}
+use Rattle.log.specs.declared.earlier.RaiseAnswer.{RaiseAnswer}
+use Rattle.log.specs.declared.earlier.LowerAnswer.{LowerAnswer}
+use Rattle.dillplatter.specs.Told.{Told, readTold, answerOf, numberOf, placeOf, framesOf, conversionNumber, conversionPlace}
 use Rattle.dillplatter.proofs.Fixed as fixed
 
 -- The four numbers fix the answer: no two answers of any calls have the same numbers.
@@ -11,3 +14,12 @@ told-fixed = fixed.told-fixed
 -- What is told of a reading fixes the reading.
 pub reading-fixed : (r s : Reading) → readTold r ≡ readTold s → r ≡ s
 reading-fixed = fixed.reading-fixed
+
+-- The number and the place fix the answer to a conversion, up and down.
+pub raise-fixed : (a b : RaiseAnswer) → conversionNumber (raiseTold a) ≡ conversionNumber (raiseTold b)
+    → conversionPlace (raiseTold a) ≡ conversionPlace (raiseTold b) → a ≡ b
+raise-fixed = fixed.raise-fixed
+
+pub lower-fixed : (a b : LowerAnswer) → conversionNumber (lowerTold a) ≡ conversionNumber (lowerTold b)
+    → conversionPlace (lowerTold a) ≡ conversionPlace (lowerTold b) → a ≡ b
+lower-fixed = fixed.lower-fixed

@@ -3,6 +3,7 @@
 use Prim.Native.Nat.{ℕ}
 use Rattle.rule.specs.declared.Reading.{Reading}
 use Rattle.rule.specs.declared.Reading.the-variants.{Frames, Refused}
+use Rattle.log.specs.Earlier as log
 use Rattle.verdict.specs.declared.Truth.{Truth}
 use Rattle.verdict.specs.declared.Truth.the-variants.{True, False, Unknown}
 use Rattle.checker.specs.Answer.{Answer, opened, accepted, ignored, waiting, verdict, refused}
@@ -53,3 +54,13 @@ placeOf (checked (verdict v)) = 0
 abbrev pub framesOf : Told → ℕ
 framesOf (read n) = n
 framesOf (checked a) = 0
+
+-- of a conversion, which is done or refused: the refusal's number, 0 where it is done
+abbrev pub conversionNumber : log.Answer → ℕ
+conversionNumber log.done = 0
+conversionNumber (log.turned number place) = number
+
+-- the refusal's place, 0 where it is done
+abbrev pub conversionPlace : log.Answer → ℕ
+conversionPlace log.done = 0
+conversionPlace (log.turned number place) = place

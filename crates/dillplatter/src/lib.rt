@@ -1,16 +1,18 @@
-// The library for makers of controllers: the four calls of a checker and the view of a report as C has them, answers as numbers.
-// include/dillplatter.h declares them and says what each one does.
+// The library for makers of controllers: the four calls of a checker, the view of a report and the converter of lines, as C has
+// them, answers as numbers. include/dillplatter.h declares them and says what each one does.
 mod told; // told.rt: answers as numbers
 
 use checker::State;
 use told::ReadResult;
 ghost use mathlib.Core.Path.{_≡_};
 ghost use Rattle.rule.specs.Reading.{readOf};
+ghost use Rattle.log.specs.Earlier.{raisedDef, loweredDef};
 ghost use Rattle.checker.specs.Open.{openDef};
 ghost use Rattle.checker.specs.Feed.{feedDef};
 ghost use Rattle.checker.specs.Pull.{pullDef};
 ghost use Rattle.checker.specs.View.{viewDef};
 ghost use Rattle.dillplatter.specs.Told.{checked, readTold, answerOf, numberOf, placeOf, framesOf};
+ghost use Rattle.dillplatter.specs.Told.{conversionNumber, conversionPlace};
 
 // The state that a call hands back, its answer, and the number and place of a refusal, 0 where nothing is refused.
 #[repr(C)]
@@ -98,4 +100,56 @@ pub extern "C" fn dillplatter_view<'a>(part: &mut &'a [u8]) -> u32
     let mut number = 0;
     *part = checker::view(report, &mut number);
     number
+}
+
+// What bringing an old line up gives: the number and place of a refusal, 0 where nothing is refused, and the line.
+#[repr(C)]
+pub struct RaisedLine {
+    pub number: u32,
+    pub place: u32,
+    pub line: [u8; 34],
+}
+
+// What bringing a line down gives, in the same way.
+#[repr(C)]
+pub struct LoweredLine {
+    pub number: u32,
+    pub place: u32,
+    pub line: [u8; 14],
+}
+
+// Brings an old line up, for every slice.
+#[no_mangle]
+pub extern "C" fn dillplatter_raise(old: &[u8]) -> RaisedLine
+    ensures { λ r. ⌜ (r .number ≡ conversionNumber (raisedDef (now (old .entry)) .answer))
+        × ((r .place ≡ conversionPlace (raisedDef (now (old .entry)) .answer))
+        × (r .line ≡ raisedDef (now (old .entry)) .line)) ⌝ }
+{
+    let raised = log::raised(old);
+    let line = raised.line;
+    let a = raised.answer;
+    let raising = told::raising(a);
+    RaisedLine {
+        number: raising.number,
+        place: raising.place,
+        line,
+    }
+}
+
+// Brings a line down, for every slice.
+#[no_mangle]
+pub extern "C" fn dillplatter_lower(line: &[u8]) -> LoweredLine
+    ensures { λ r. ⌜ (r .number ≡ conversionNumber (loweredDef (now (line .entry)) .answer))
+        × ((r .place ≡ conversionPlace (loweredDef (now (line .entry)) .answer))
+        × (r .line ≡ loweredDef (now (line .entry)) .line)) ⌝ }
+{
+    let lowered = log::lowered(line);
+    let old = lowered.line;
+    let a = lowered.answer;
+    let lowering = told::lowering(a);
+    LoweredLine {
+        number: lowering.number,
+        place: lowering.place,
+        line: old,
+    }
 }

@@ -2,11 +2,15 @@
 use checker::FeedAnswer;
 use checker::OpenAnswer;
 use checker::PullAnswer;
+use log::LowerAnswer;
+use log::RaiseAnswer;
 use rule::Reading;
 use rule::Refusal;
 ghost use mathlib.Core.Path.{_≡_};
+ghost use Rattle.log.specs.Earlier.{raiseTold, lowerTold};
 ghost use Rattle.checker.specs.Answer.{openTold, feedTold, pullTold, refused};
 ghost use Rattle.dillplatter.specs.Told.{checked, readTold, answerOf, numberOf, placeOf, framesOf};
+ghost use Rattle.dillplatter.specs.Told.{conversionNumber, conversionPlace};
 
 // The numbers of the answers, as include/dillplatter.h has them.
 const REFUSED: u32 = 0;
@@ -115,5 +119,42 @@ pub fn reading(a: Reading) -> ReadResult
             place: r.place,
             frames: 0,
         },
+    }
+}
+
+// A conversion's refusal in numbers, both 0 where it is done.
+pub struct Conversion {
+    pub number: u32,
+    pub place: u32,
+}
+
+// An answer to bringing an old line up.
+pub fn raising(a: RaiseAnswer) -> Conversion
+    ensures { λ r. ⌜ (r .number ≡ conversionNumber (raiseTold a)) × (r .place ≡ conversionPlace (raiseTold a)) ⌝ }
+{
+    match a {
+        RaiseAnswer::Raised => Conversion {
+            number: 0,
+            place: 0,
+        },
+        RaiseAnswer::Bad(place) => Conversion { number: 23, place },
+    }
+}
+
+// An answer to bringing a line down.
+pub fn lowering(a: LowerAnswer) -> Conversion
+    ensures { λ r. ⌜ (r .number ≡ conversionNumber (lowerTold a)) × (r .place ≡ conversionPlace (lowerTold a)) ⌝ }
+{
+    match a {
+        LowerAnswer::Lowered => Conversion {
+            number: 0,
+            place: 0,
+        },
+        LowerAnswer::Bad(place) => Conversion { number: 15, place },
+        LowerAnswer::Fourth => Conversion {
+            number: 24,
+            place: 0,
+        },
+        LowerAnswer::Wide(place) => Conversion { number: 25, place },
     }
 }

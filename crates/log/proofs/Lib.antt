@@ -4,9 +4,16 @@ pub mod Main
 mod Values
 mod Digits
 mod Pairs
+mod Losses
+mod Copies
+mod Spelled
+mod Notes
+mod Converting
+mod Conversions
 mod Lines
 mod Exactly
 mod Cases
 mod Answers
 mod Walking
 mod Examples
+mod EarlierExamples

@@ -1,4 +1,4 @@
--- Laws of `lineOf`: which answer each line has. Assumes nothing.
+-- Laws of `areDigits` and `lineOf`: which answer each line has. Assumes nothing.
 use mathlib.Core.Path.{_≡_, refl, _∙_}
 use mathlib.Core.Bool.{Bool, true, false}
 use mathlib.Core.List.{List}
@@ -8,28 +8,36 @@ use borrow.Author.Tests.{eqb-true, eq-eqb}
 use lib.Dec.{eqb}
 use lib.IntN.{ℤ}
 use lib.ListN.{length}
-use Rattle.log.specs.Line.{digitsAtFront, badPlace, pairFrom, byteAt, noteAt, noted, line, refused, lineOf}
+use Rattle.log.specs.Line.{digitsAtFront, badPlace, areDigits, pairFrom, byteAt, noteAt, noted, line, refused, lineOf}
 use Rattle.log.specs.declared.digit.Pair.the-variants as pairs
 use Rattle.log.specs.declared.line.Noted.the-variants as noteds
 use Rattle.log.proofs.Digits.{reach, reach-later, front-within}
 use Rattle.log.proofs.Pairs.{pair-byte, pair-bad, note-word, note-bad}
 
+-- n digits
+pub digits-tested : (n : ℕ) (s : List ℕ) → length s ≡ n → n ≤ digitsAtFront s → areDigits n s ≡ true
+digits-tested n s h k = rw (eq-eqb (length s) n h, eq-eqb (digitsAtFront s) n (omega (arith, front-within s)))
+
+other : (n : ℕ) (s : List ℕ) (x y : Bool) → eqb (length s) n ≡ x → eqb (digitsAtFront s) n ≡ y
+    → (length s ≡ n → n ≤ digitsAtFront s → ⊥) → areDigits n s ≡ false
+other n s true true p q h = absurd (h (eqb-true _ _ p) (omega (arith, eqb-true (digitsAtFront s) n q)))
+other n s true false p q h = rw (p, q)
+other n s false y p q h = rw p
+
+-- anything else
+pub other-tested : (n : ℕ) (s : List ℕ) → (length s ≡ n → n ≤ digitsAtFront s → ⊥) → areDigits n s ≡ false
+other-tested n s h = other n s (eqb (length s) n) (eqb (digitsAtFront s) n) refl refl h
+
 -- 34 digits
 pub line-of-digits : (s : List ℕ) → length s ≡ 34 → 34 ≤ digitsAtFront s
     → lineOf s ≡ line (byteAt s 0) (noteAt s 0) (noteAt s 1) (noteAt s 2) (noteAt s 3)
 unfolding lineOf
-line-of-digits s h k = rw (eq-eqb (length s) 34 h, eq-eqb (digitsAtFront s) 34 (omega (arith, front-within s)))
-
-other : (s : List ℕ) (x y : Bool) → eqb (length s) 34 ≡ x → eqb (digitsAtFront s) 34 ≡ y
-    → (length s ≡ 34 → 34 ≤ digitsAtFront s → ⊥) → lineOf s ≡ refused 15 (badPlace s)
-unfolding lineOf
-other s true true p q h = absurd (h (eqb-true _ _ p) (omega (arith, eqb-true (digitsAtFront s) 34 q)))
-other s true false p q h = rw (p, q)
-other s false y p q h = rw p
+line-of-digits s h k = rw (digits-tested 34 s h k)
 
 -- anything else
 pub line-of-other : (s : List ℕ) → (length s ≡ 34 → 34 ≤ digitsAtFront s → ⊥) → lineOf s ≡ refused 15 (badPlace s)
-line-of-other s h = other s (eqb (length s) 34) (eqb (digitsAtFront s) 34) refl refl h
+unfolding lineOf
+line-of-other s h = rw (other-tested 34 s h)
 
 -- a pair and four notes
 pub line-of-notes : (s : List ℕ) {e : ℕ} {a b c d : ℤ} → length s ≡ 34 → pairFrom s 0 ≡ pairs.Byte e

@@ -19,3 +19,7 @@ isDigit b = ltb (digitValue b) 16
 -- document 02, point 7, "both cases": a letter a-f as its capital, any other byte as it is
 unfoldable pub capital : ℕ → ℕ
 capital b = cond (between 0x61 0x66 b) (b - 0x20) b
+
+-- "digits 0-9 A-F": the digit of a value below 16, a letter as a capital
+abbrev pub hexDigit : ℕ → ℕ
+hexDigit d = cond (ltb d 10) (0x30 + d) (0x41 + (d - 10))

@@ -20,9 +20,13 @@ unfoldable pub digitsAtFront : List ℕ → ℕ
 digitsAtFront [] = 0
 digitsAtFront (b ∷ bs) = cond (isDigit b) (suc (digitsAtFront bs)) 0
 
+-- the place of 15, and of 23 with 14 for 34: "the lower of the first non-digit and the shorter of length and" n
+abbrev pub badPlaceOf : ℕ → List ℕ → ℕ
+badPlaceOf n s = min (digitsAtFront s) (min (length s) n)
+
 -- refusal 15: "the lower of the first non-digit and the shorter of length and 34"
 unfoldable pub badPlace : List ℕ → ℕ
-badPlace s = min (digitsAtFront s) (min (length s) 34)
+badPlace s = badPlaceOf 34 s
 
 -- what the two bytes from a place on are as a pair
 abbrev pub pairFrom : List ℕ → ℕ → Pair
@@ -58,20 +62,32 @@ unfoldable pub told : Line → Told
 told (lines.Event e n) = line e (n .0) (n .1) (n .2) (n .3)
 told (lines.Bad p) = refused 15 p
 
--- "34 digits": no less, no more, and no other byte
+-- n digits: no less, no more, and no other byte
+abbrev pub areDigits : ℕ → List ℕ → Bool
+areDigits n s = eqb (length s) n && eqb (digitsAtFront s) n
+
+-- "34 digits"
 abbrev pub isLine : List ℕ → Bool
-isLine s = eqb (length s) 34 && eqb (digitsAtFront s) 34
+isLine s = areDigits 34 s
 
 -- "A log line is 34 digits .. event (1 byte), four notes"; refusal 15, "not 34 digits"
 unfoldable pub lineOf : List ℕ → Told
 lineOf s = cond (isLine s) (line (byteAt s 0) (noteAt s 0) (noteAt s 1) (noteAt s 2) (noteAt s 3)) (refused 15 (badPlace s))
 
+-- n digits, byte by byte
+abbrev pub AreDigits : ℕ → List ℕ → Type 0
+AreDigits n s = (length s ≡ n) × ((k : ℕ) → k < n → isDigit (getD s k 0) ≡ true)
+
 -- "34 digits", byte by byte
 abbrev pub AllDigits : List ℕ → Type 0
-AllDigits s = (length s ≡ 34) × ((k : ℕ) → k < 34 → isDigit (getD s k 0) ≡ true)
+AllDigits s = AreDigits 34 s
 
--- refusal 15's place, byte by byte: "the lower of the first non-digit and the shorter of length and 34"
-pub record PlaceOf15 (s : List ℕ) (p : ℕ) : Type 0 where
+-- the place of 15 and of 23, byte by byte: "the lower of the first non-digit and the shorter of length and" n
+pub record BadPlace (n : ℕ) (s : List ℕ) (p : ℕ) : Type 0 where
   pub before : (k : ℕ) → k < p → isDigit (getD s k 0) ≡ true
-  pub within : p ≤ min (length s) 34
-  pub stops : p < min (length s) 34 → isDigit (getD s p 0) ≡ false
+  pub within : p ≤ min (length s) n
+  pub stops : p < min (length s) n → isDigit (getD s p 0) ≡ false
+
+-- refusal 15's place, byte by byte
+abbrev pub PlaceOf15 : List ℕ → ℕ → Type 0
+PlaceOf15 s p = BadPlace 34 s p

@@ -5,7 +5,7 @@ use crate::digit::read_pair;
 ghost use mathlib.Core.Path.{_≡_};
 ghost use Prim.Native.Nat.{_+_, _≤_};
 ghost use lib.ListN.{length};
-ghost use Rattle.log.specs.Line.{pairFrom, noted, badPlace, told, lineOf};
+ghost use Rattle.log.specs.Line.{pairFrom, noted, badPlaceOf, badPlace, told, lineOf};
 
 // The four notes of a line. 'Note' is document 01's term for an event's annotation.
 pub struct Notes(pub i32, pub i32, pub i32, pub i32);
@@ -53,21 +53,29 @@ fn note_at(bytes: &[u8], at: usize) -> Noted
     Noted::Note(numbers::word(a, b, c, d))
 }
 
+// Where so many digits go wrong: the place of refusals 15 and 23.
+pub fn bad_place_of(digits: u32, bytes: &[u8]) -> u32
+    ensures { λ r. ⌜ r ≡ badPlaceOf digits (now (bytes .entry)) ⌝ }
+{
+    let mut i = 0;
+    while i < digits {
+        let k = i as usize;
+        if k == bytes.len() {
+            return i;
+        }
+        if digit(bytes[k]) >= 16 {
+            return i;
+        }
+        i += 1;
+    }
+    i
+}
+
 // The place of refusal 15, read only once a line is refused.
 fn bad_place(bytes: &[u8]) -> u32
     ensures { λ r. ⌜ r ≡ badPlace (now (bytes .entry)) ⌝ }
 {
-    let mut i = 0;
-    while i < DIGITS {
-        if i == bytes.len() {
-            return i as u32;
-        }
-        if digit(bytes[i]) >= 16 {
-            return i as u32;
-        }
-        i += 1;
-    }
-    i as u32
+    bad_place_of(DIGITS as u32, bytes)
 }
 
 // Reads one line, without its LF.

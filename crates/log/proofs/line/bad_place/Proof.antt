@@ -1,83 +1,18 @@
--- `log::line::bad_place` meets its contract. The invariant: each byte before `i` is a digit. The measure is what is left of 34.
--- Assumes nothing.
-use mathlib.Core.Path.{_≡_}
-use Prim.Native.Nat.{_-_, _≤_}
+-- `log::line::bad_place` meets its contract. Assumes nothing.
 use borrow.Author.Needs.{needs}
-use borrow.Author.Tests.{lt-ltb, le-ltb}
-use lib.ListN.{length, getD}
-use Rattle.log.specs.Digit.{digitValue}
-use Rattle.log.specs.Line.{digitsAtFront, badPlace}
-use Rattle.log.proofs.Digits.{reach, reach-digit, reach-other, front-within}
-use native.Mathlib.Omega.{arith}
+use Rattle.log.specs.Line.{badPlace}
 use Rattle.log.proofs.line.bad_place.Statement.{statement}
 use Rattle.log.proofs.line.bad_place.Tie as tie
 
-abbrev Inv-loop : tie.InvT-loop
-Inv-loop bytes i₀ i = (i ≤ 34) × (i ≤ length bytes) × (digitsAtFront bytes ≡ reach bytes i)
+cast-bad-place-of : tie.Need-cast-bad-place-of
+cast-bad-place-of c = search needs
 
-abbrev μ-loop : tie.MeasureT-loop
-μ-loop bytes i₀ i = 34 - i
+bad-place-of-requires : tie.Need-bad-place-of-requires
+bad-place-of-requires c κs = search needs
 
-loop-holds : tie.Need-loop-holds Inv-loop μ-loop
-loop-holds c = search needs
-
-cast-result : tie.Need-cast-result Inv-loop μ-loop
-cast-result c = search needs
-
-returns : tie.Need-returns Inv-loop μ-loop
+returns : tie.Need-returns
 unfolding badPlace
-returns c = omega (arith, front-within (c .before .before .before .before .args .bytes .now))
-
-shared-slice-read-digit : tie.Need-shared-slice-read-digit Inv-loop μ-loop
-shared-slice-read-digit c = search needs
-
-digit-requires : tie.Need-digit-requires Inv-loop μ-loop
-digit-requires c κs = search needs
-
-cast-result-2 : tie.Need-cast-result-2 Inv-loop μ-loop
-cast-result-2 c = search needs
-
-returns-2 : tie.Need-returns-2 Inv-loop μ-loop
-unfolding badPlace
-returns-2 c =
-    let s = c .before .before .before .before .before .before .before .args .bytes .now in
-    let i = c .before .before .before .before .before .loop .i in
-    omega (arith, reach-other s i (le-ltb (digitValue (getD s i 0)) 16 (omega arith)))
-
-add-i : tie.Need-add-i Inv-loop μ-loop
-add-i c = search needs
-
-loop-less : tie.Need-loop-less Inv-loop μ-loop
-loop-less c = search needs
-
-loop-again : tie.Need-loop-again Inv-loop μ-loop
-loop-again c =
-    let s = c .before .before .before .before .before .before .before .args .bytes .now in
-    let i = c .before .before .before .before .before .loop .i in
-    omega (arith, reach-digit s i (lt-ltb (digitValue (getD s i 0)) 16 (omega arith)))
-
-cast-result-3 : tie.Need-cast-result-3 Inv-loop μ-loop
-cast-result-3 c = search needs
-
-returns-3 : tie.Need-returns-3 Inv-loop μ-loop
-unfolding badPlace
-returns-3 c = search needs
+returns c = search needs
 
 pub bad-place-spec : {M : Type 1} → statement M
-bad-place-spec =
-    tie.close
-    (tie.spec
-    Inv-loop
-    μ-loop
-    loop-holds
-    cast-result
-    returns
-    shared-slice-read-digit
-    digit-requires
-    cast-result-2
-    returns-2
-    add-i
-    loop-less
-    loop-again
-    cast-result-3
-    returns-3)
+bad-place-spec = tie.close (tie.spec cast-bad-place-of bad-place-of-requires returns)
