@@ -1,6 +1,6 @@
 //! The C interface: its structs, its functions, and the numbers of its answers. All that is unsafe stands here.
 
-use super::{Refusal, State, Viewed};
+use super::{Lowered, Raised, Refusal, State, Viewed};
 
 /// What reading gives back.
 #[repr(C)]
@@ -29,6 +29,7 @@ struct Part {
 
 const _: () = assert!(size_of::<Reading>() == 16 && size_of::<Result>() == 580);
 const _: () = assert!(size_of::<Part>() == 16);
+const _: () = assert!(size_of::<Raised>() == 44 && size_of::<Lowered>() == 24);
 
 unsafe extern "C" {
     fn dillplatter_read(
@@ -59,6 +60,8 @@ unsafe extern "C" {
         report_len: usize,
     ) -> Result;
     fn dillplatter_view(part: *mut Part) -> u32;
+    fn dillplatter_raise(old_line: *const u8, old_len: usize) -> Raised;
+    fn dillplatter_lower(line: *const u8, line_len: usize) -> Lowered;
 }
 
 /// The answers, one enumeration for all calls.
@@ -166,4 +169,16 @@ pub fn view(report: &[u8]) -> Viewed {
         begin: part.bytes,
         len: part.len,
     }
+}
+
+/// Raises: the line that comes back is not looked at here.
+pub fn raise(old: &[u8]) -> Raised {
+    // SAFETY: the pointer comes with its slice's length, and the call only reads there.
+    unsafe { dillplatter_raise(old.as_ptr(), old.len()) }
+}
+
+/// Lowers: the line that comes back is not looked at here.
+pub fn lower(line: &[u8]) -> Lowered {
+    // SAFETY: as in `raise`.
+    unsafe { dillplatter_lower(line.as_ptr(), line.len()) }
 }

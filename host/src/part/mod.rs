@@ -1,10 +1,10 @@
 //! The proved part, called through its C interface, behind safe functions.
 //!
-//! [`read`], [`State::open`], [`State::feed`], [`State::pull`] and [`view`] are the five calls, one for one, on memory
-//! that the caller lends. [`Checker`] has a window of its own:
+//! [`read`], [`State::open`], [`State::feed`], [`State::pull`], [`view`], [`raise`] and [`lower`] are the seven calls, one
+//! for one, on memory that the caller lends. [`Checker`] has a window of its own:
 //!
 //! ```
-//! use dillplatter_host::part::{read_rule, view, Checker, Fed, Pulled};
+//! use dillplatter_host::part::{lower, raise, read_rule, view, Checker, Fed, Pulled};
 //!
 //! let frames = read_rule(b"events in out; notes t; t(out[i]) - t(in[i]) <= 25").unwrap();
 //! let mut checker = Checker::open(&frames, 64).unwrap();
@@ -15,6 +15,11 @@
 //! assert_eq!(report[..16], [0, 0, 0, 0, 0, 2, 0, 0, 0, 0, 40, 0, 0, 0, 0, 10]);
 //! assert_eq!(view(&report).unwrap(), [0, 0, 0, 0, 0]);
 //! assert_eq!(checker.state().totals.failed, 1);
+//!
+//! let line = raise(b"01004bfff60000").unwrap();
+//! assert_eq!(line, *b"010000004BFFFFFFF60000000000000000");
+//! assert_eq!(checker.feed(&line), Fed::Accepted);
+//! assert_eq!(lower(&line).unwrap(), *b"01004BFFF60000");
 //! ```
 
 mod calls;
@@ -31,6 +36,10 @@ pub const REPORT_BYTES: usize = 166;
 pub const VIEW_BYTES: usize = 5;
 /// Window words for each of W.
 pub const WINDOW_WORDS: usize = 32;
+/// Digits of a log line.
+pub const LINE_DIGITS: usize = 34;
+/// Digits of a log line of the earlier edition.
+pub const OLD_LINE_DIGITS: usize = 14;
 
 /// How many verdicts of each value were pulled.
 #[repr(C)]
@@ -59,7 +68,7 @@ pub struct State {
 
 const _: () = assert!(size_of::<Totals>() == 12 && size_of::<State>() == 568);
 
-/// A refusal: document 01's number, and its place (0 if none is named).
+/// A refusal: its number in the documents, and its place (0 if none is named).
 #[derive(Clone, Copy, Debug, PartialEq, Eq)]
 pub struct Refusal {
     pub number: u32,
@@ -97,6 +106,24 @@ pub struct Viewed {
     /// Its length.
     pub len: usize,
 }
+
+/// What converting a line gives back, as it comes and as the C interface lays it out.
+#[repr(C)]
+#[derive(Clone, Copy, Debug, PartialEq, Eq)]
+pub struct Converted<const DIGITS: usize> {
+    /// The refusal's, else 0.
+    pub number: u32,
+    /// The refusal's, else 0.
+    pub place: u32,
+    /// The digits, or zero bytes where there is a refusal.
+    pub line: [u8; DIGITS],
+}
+
+/// What raising gives back.
+pub type Raised = Converted<LINE_DIGITS>;
+
+/// What lowering gives back.
+pub type Lowered = Converted<OLD_LINE_DIGITS>;
 
 /// Reads a rule's text into a buffer of 512 bytes: the number of frames, or a refusal (1 to 8), which leaves the
 /// buffer as it was.
@@ -138,6 +165,46 @@ impl Viewed {
             (0, VIEW_BYTES) => Ok(&report[..VIEW_BYTES]),
             (number @ 1.., 0) => Err(Refusal { number, place: 0 }),
             _ => panic!("viewing answered {self:?}"),
+        }
+    }
+}
+
+/// The log line of a line of the earlier edition, its fourth note 0, in capitals; or a refusal (23).
+pub fn raise(old: &[u8]) -> Result<[u8; LINE_DIGITS], Refusal> {
+    Raised::of(old).answer()
+}
+
+/// The line of the earlier edition that a log line fits in, in capitals; or a refusal (15, 24, 25).
+pub fn lower(line: &[u8]) -> Result<[u8; OLD_LINE_DIGITS], Refusal> {
+    Lowered::of(line).answer()
+}
+
+impl Raised {
+    /// Raises a line of the earlier edition.
+    pub fn of(old: &[u8]) -> Raised {
+        calls::raise(old)
+    }
+}
+
+impl Lowered {
+    /// Lowers a log line.
+    pub fn of(line: &[u8]) -> Lowered {
+        calls::lower(line)
+    }
+}
+
+impl<const DIGITS: usize> Converted<DIGITS> {
+    /// The line, or the refusal. It panics where the answer is neither.
+    pub fn answer(self) -> Result<[u8; DIGITS], Refusal> {
+        let Converted {
+            number,
+            place,
+            line,
+        } = self;
+        match (number, place) {
+            (0, 0) => Ok(line),
+            (1.., _) if line == [0; DIGITS] => Err(Refusal { number, place }),
+            _ => panic!("converting answered {self:?}"),
         }
     }
 }

@@ -15,6 +15,20 @@ pub fn bench(rule: &[u8], log: &[u8]) -> String {
 
 /// The same, with a log that is fetched only if the rule is not refused.
 pub fn bench_with<L: AsRef<[u8]>>(rule: &[u8], log: impl FnOnce() -> L) -> String {
+    output(rule, log, Machine::feed)
+}
+
+/// The output for a rule text and a log of the earlier edition, whose lines are fed as they are.
+pub fn bench_old(rule: &[u8], log: &[u8]) -> String {
+    output(rule, || log, Machine::feed_old)
+}
+
+/// The output, with each line fed by some call.
+fn output<L: AsRef<[u8]>>(
+    rule: &[u8],
+    log: impl FnOnce() -> L,
+    feed: fn(&mut Machine, &[u8]) -> Fed,
+) -> String {
     let opened = read(rule, BUFFER).and_then(|frames| open(&frames, W, WORDS * W as usize));
     let mut machine = match opened {
         Ok(machine) => machine,
@@ -24,7 +38,7 @@ pub fn bench_with<L: AsRef<[u8]>>(rule: &[u8], log: impl FnOnce() -> L) -> Strin
     let (mut accepted, mut ignored, mut refused) = (0_u32, 0_u32, 0_u32);
     pull_all(&mut machine, &mut out);
     for line in lines(log().as_ref()) {
-        let counter = match machine.feed(line) {
+        let counter = match feed(&mut machine, line) {
             Fed::Accepted => &mut accepted,
             Fed::Ignored => &mut ignored,
             Fed::Refused(_) => &mut refused,

@@ -1,5 +1,6 @@
 //! The plain machine: opening, feeding and pulling with whole lists.
 
+use super::earlier::read_old;
 use super::frames::{check, Reference, Rule};
 use super::line::{read_line, Notes};
 use super::state::State;
@@ -93,10 +94,22 @@ pub fn window_fits(w: u32, window_len: usize) -> bool {
 impl Machine {
     /// Takes one line: 15, ignored, 16, 17, or accepted.
     pub fn feed(&mut self, line: &[u8]) -> Fed {
-        let (event, notes) = match read_line(line) {
-            Ok(read) => read,
-            Err(place) => return Fed::Refused(Refusal::at(15, place)),
-        };
+        match read_line(line) {
+            Ok((event, notes)) => self.take(event, notes),
+            Err(place) => Fed::Refused(Refusal::at(15, place)),
+        }
+    }
+
+    /// Takes one line of the earlier edition, with 0 as its fourth note: 23, else as feeding.
+    pub fn feed_old(&mut self, old: &[u8]) -> Fed {
+        match read_old(old) {
+            Ok((event, [a, b, c])) => self.take(event.into(), [a.into(), b.into(), c.into(), 0]),
+            Err(refusal) => Fed::Refused(refusal),
+        }
+    }
+
+    /// Takes a line as read: ignored, 16, 17, or accepted.
+    fn take(&mut self, event: usize, notes: Notes) -> Fed {
         let Some(base) = self.base(event) else {
             return Fed::Ignored;
         };

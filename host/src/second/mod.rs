@@ -3,11 +3,13 @@
 //!
 //! A rule flows `text` -> `grammar` -> `names`, `numbers` -> `postfix` -> `frames`; a log flows `line` ->
 //! `machine`, which asks `verdict`. `state` answers calls on a state and a window that a caller hands in, forged ones
-//! too; `view` has what machine hands see of a report; `bench` has the output of the bench program.
+//! too; `view` has what machine hands see of a report; `earlier` reads log lines of the earlier edition, which `machine`
+//! takes too, and converts them to log lines and back; `bench` has the output of the bench program.
 
 #![forbid(unsafe_code)]
 
 pub mod bench;
+pub mod earlier;
 pub mod frames;
 pub mod grammar;
 pub mod line;
@@ -21,14 +23,15 @@ pub mod text;
 pub mod verdict;
 pub mod view;
 
-pub use bench::{bench, bench_with};
+pub use bench::{bench, bench_old, bench_with};
+pub use earlier::{lower, raise, read_old, Line, OldLine};
 pub use machine::{open, Fed, Machine, Pulled, Totals};
 pub use reading::{read, read_into};
 pub use state::State;
 pub use verdict::Truth;
 pub use view::{view, Reported, View};
 
-/// A refusal: document 01's number, and its place (0 if none is named).
+/// A refusal: its number in the documents, and its place (0 if none is named).
 #[derive(Clone, Copy, Debug, PartialEq, Eq)]
 pub struct Refusal {
     pub number: u8,

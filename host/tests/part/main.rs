@@ -4,6 +4,7 @@
 mod shared;
 
 mod damage;
+mod earlier;
 mod examples;
 mod forged;
 mod limits;

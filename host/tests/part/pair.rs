@@ -4,8 +4,9 @@
 
 use crate::quota::count;
 use crate::shared::driven::{Driven, Twin};
-use dillplatter_host::part::{self, Viewed};
-use dillplatter_host::second::{Fed, Machine, Pulled, Refusal, State, Totals, Truth, View};
+use dillplatter_host::part::{self, Converted, Lowered, Raised, Viewed};
+use dillplatter_host::second::{Fed, Line, Machine, OldLine, Pulled, Refusal, State, Totals};
+use dillplatter_host::second::{Truth, View};
 use std::fmt::Debug;
 use std::ops::Range;
 
@@ -69,6 +70,33 @@ fn pulled(answer: part::Pulled) -> Pulled {
         part::Pulled::Waiting => Pulled::Waiting,
         part::Pulled::Refused(told) => Pulled::Refused(refusal(told)),
     }
+}
+
+/// A conversion of the part: number, place and line are as expected, zero bytes where it is refused, and no byte of
+/// the given line changes. The edges are digits.
+#[track_caller]
+fn converted<const DIGITS: usize>(
+    given: &[u8],
+    call: fn(&[u8]) -> Converted<DIGITS>,
+    expected: Result<[u8; DIGITS], Refusal>,
+) -> Result<[u8; DIGITS], Refusal> {
+    count();
+    let lent = edged(given, b'7');
+    let part = call(&lent[inside(&lent)]);
+    same("given line", &lent, &edged(given, b'7'));
+    let (number, place, line) = match expected {
+        Ok(line) => (0, 0, line),
+        Err(refusal) => (refusal.number.into(), refusal.place as u32, [0; DIGITS]),
+    };
+    let words = Converted {
+        number,
+        place,
+        line,
+    };
+    assert_eq!(part, words, "{}", given.escape_ascii());
+    let answer = part.answer().map_err(refusal);
+    assert_eq!(answer, expected);
+    answer
 }
 
 /// A state of the part as the second checker writes it.
@@ -184,6 +212,16 @@ impl Driven for Pair {
     #[track_caller]
     fn view(report: &[u8]) -> Result<View, Refusal> {
         Pair::view_lent(&Lent::of(report))
+    }
+
+    #[track_caller]
+    fn raise(old: &[u8]) -> Result<Line, Refusal> {
+        converted(old, Raised::of, Twin::raise(old))
+    }
+
+    #[track_caller]
+    fn lower(line: &[u8]) -> Result<OldLine, Refusal> {
+        converted(line, Lowered::of, Twin::lower(line))
     }
 
     fn state(&self) -> &State {

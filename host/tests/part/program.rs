@@ -1,9 +1,11 @@
 //! The bench program beside what the second checker prints.
 
-use crate::shared::log::{line, random_line};
+use crate::shared::log::{line, random_line, random_old_line};
 use crate::shared::random::{rule, text, Random};
 use crate::shared::vectors::bench_cases;
-use dillplatter_host::second::{bench, read};
+use dillplatter_host::part::raise;
+use dillplatter_host::second::line::lines;
+use dillplatter_host::second::{bench, bench_old, read};
 use std::fs::File;
 use std::io::{Seek, Write};
 use std::os::fd::OwnedFd;
@@ -105,6 +107,9 @@ fn same(printed: &str, expected: &str, case: &str) {
     }
 }
 
+/// A random line, mostly of one of some events.
+type LineOf = fn(&mut Random, &[usize]) -> Vec<u8>;
+
 /// The text of a random rule that is read.
 fn random_rule(random: &mut Random) -> String {
     loop {
@@ -117,11 +122,11 @@ fn random_rule(random: &mut Random) -> String {
     }
 }
 
-/// A random log of some lines, the last with or without its LF.
-fn random_log(random: &mut Random, lines: usize) -> Vec<u8> {
+/// A random log of some lines of one edition, the last with or without its LF.
+fn random_log(random: &mut Random, lines: usize, line: LineOf) -> Vec<u8> {
     let mut log = Vec::new();
     for _ in 0..lines {
-        log.extend(random_line(random, &[0, 0, 1, 1, 2, 3, 4, 5, 6, 7]));
+        log.extend(line(random, &[0, 0, 1, 1, 2, 3, 4, 5, 6, 7]));
         log.push(b'\n');
         if random.once_in(60) {
             log.push(b'\n');
@@ -179,11 +184,43 @@ fn random_logs() {
         let random = &mut Random::new(seed + 80_000_000);
         let rule = random_rule(random);
         let lines = random.pick(&[0, 1, 2, 20, 200, 2_000]);
-        let log = random_log(random, lines);
+        let log = random_log(random, lines, random_line);
         let printed = room.run(rule.as_bytes(), &log);
         same(
             &printed,
             &bench(rule.as_bytes(), &log),
+            &format!("seed {seed}"),
+        );
+        printed_lines += printed.lines().count();
+    }
+    assert!(printed_lines > 1_000, "{printed_lines}");
+}
+
+/// The raised lines of an old log; a refused one becomes an empty line.
+fn raised_log(old_log: &[u8]) -> Vec<u8> {
+    let mut log = Vec::new();
+    for old in lines(old_log) {
+        if let Ok(line) = raise(old) {
+            log.extend(line);
+        }
+        log.push(b'\n');
+    }
+    log
+}
+
+#[test]
+fn raised_logs_of_the_earlier_edition() {
+    let room = Room::new("raised");
+    let mut printed_lines = 0;
+    for seed in 0..150 {
+        let random = &mut Random::new(seed + 200_000_000);
+        let rule = random_rule(random);
+        let lines = random.pick(&[0, 1, 2, 20, 200, 2_000]);
+        let old_log = random_log(random, lines, random_old_line);
+        let printed = room.run(rule.as_bytes(), &raised_log(&old_log));
+        same(
+            &printed,
+            &bench_old(rule.as_bytes(), &old_log),
             &format!("seed {seed}"),
         );
         printed_lines += printed.lines().count();
@@ -197,7 +234,7 @@ fn logs_in_pieces() {
     for seed in 0..80 {
         let random = &mut Random::new(seed + 90_000_000);
         let rule = random_rule(random);
-        let log = random_log(random, 150);
+        let log = random_log(random, 150, random_line);
         let pieces = pieces(random, &log);
         let expected = bench(rule.as_bytes(), &log);
         let printed = room.run_pipe(rule.as_bytes(), &pieces);

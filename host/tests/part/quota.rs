@@ -6,8 +6,8 @@ use std::cell::Cell;
 const LEAST: usize = 200_000;
 
 /// The fewest calls of each test that makes many.
-const OF_TESTS: [(&str, usize); 16] = [
-    ("vectors", 9_900),
+const OF_TESTS: [(&str, usize); 22] = [
+    ("vectors", 10_300),
     ("random texts", 9_000),
     ("damaged texts", 20_000),
     ("bytes of a text", 12_000),
@@ -23,6 +23,12 @@ const OF_TESTS: [(&str, usize); 16] = [
     ("views after reports", 180_000),
     ("views of two logs", 400_000),
     ("a million lines", 2_000_000),
+    ("bytes of converted lines", 12_200),
+    ("lengths of converted lines", 7_100),
+    ("every old note", 393_000),
+    ("notes of lowered lines", 48_000),
+    ("random conversions", 520_000),
+    ("old logs", 180_000),
 ];
 
 const _: () = {

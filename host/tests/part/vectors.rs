@@ -2,7 +2,7 @@
 
 use crate::pair::Pair;
 use crate::quota::Quota;
-use crate::shared::vectors::{calls, opening, reading};
+use crate::shared::vectors::{calls, converting, opening, reading};
 
 #[test]
 fn stored_answers() {
@@ -10,5 +10,6 @@ fn stored_answers() {
     reading::<Pair>();
     opening::<Pair>();
     calls::<Pair>();
+    converting::<Pair>();
     quota.end();
 }

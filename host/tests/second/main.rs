@@ -6,6 +6,7 @@ mod shared;
 mod bench;
 mod calls;
 mod common;
+mod earlier;
 mod examples;
 mod logs;
 mod opening;

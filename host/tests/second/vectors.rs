@@ -20,6 +20,11 @@ fn calls() {
 }
 
 #[test]
+fn converting() {
+    vectors::converting::<Twin>();
+}
+
+#[test]
 fn bench_program() {
     for case in bench_cases() {
         let printed = bench(&case.rule, &case.log);

@@ -1,6 +1,7 @@
 //! A checker as tests drive it, and the second checker in this form.
 
 use dillplatter_host::second::{self, Fed, Machine, Pulled, Refusal, State, Truth, View};
+use dillplatter_host::second::{Line, OldLine};
 
 pub const TRUE: Pulled = Pulled::Verdict(Truth::True);
 pub const FALSE: Pulled = Pulled::Verdict(Truth::False);
@@ -30,6 +31,12 @@ pub trait Driven: Sized {
 
     /// Views a report buffer.
     fn view(report: &[u8]) -> Result<View, Refusal>;
+
+    /// Raises a line of the earlier edition.
+    fn raise(old: &[u8]) -> Result<Line, Refusal>;
+
+    /// Lowers a line to the earlier edition.
+    fn lower(line: &[u8]) -> Result<OldLine, Refusal>;
 
     /// The state.
     fn state(&self) -> &State;
@@ -127,6 +134,14 @@ impl Driven for Twin {
 
     fn view(report: &[u8]) -> Result<View, Refusal> {
         second::view(report)
+    }
+
+    fn raise(old: &[u8]) -> Result<Line, Refusal> {
+        second::raise(old)
+    }
+
+    fn lower(line: &[u8]) -> Result<OldLine, Refusal> {
+        second::lower(line)
     }
 
     fn state(&self) -> &State {

@@ -1,4 +1,4 @@
-//! Every refusal, 1 to 17, by a call of any checker.
+//! Every refusal, 1 to 17 and 23 to 25, by a call of any checker.
 
 use super::driven::Driven;
 use super::log::line;
@@ -12,11 +12,17 @@ type Row = (u8, usize, Refusal);
 
 pub fn each_number_is_seen<C: Driven>() {
     let mut numbers = BTreeSet::new();
-    for (number, place, refusal) in [reading::<C>(), opening::<C>(), calls::<C>()].concat() {
+    let rows = [
+        reading::<C>(),
+        opening::<C>(),
+        calls::<C>(),
+        converting::<C>(),
+    ];
+    for (number, place, refusal) in rows.concat() {
         assert_eq!(refusal, Refusal { number, place });
         numbers.insert(number);
     }
-    assert_eq!(numbers, (1..=17).collect());
+    assert_eq!(numbers, (1..=17).chain(23..=25).collect());
 }
 
 fn reading<C: Driven>() -> Vec<Row> {
@@ -64,6 +70,16 @@ fn calls<C: Driven>() -> Vec<Row> {
         (15, 33, feeding(full(), &good[..33])),
         (16, 0, feeding(forged(state::<C>(1_000_000), 32), &good)),
         (17, 0, feeding(full(), &good)),
+    ]
+}
+
+fn converting<C: Driven>() -> Vec<Row> {
+    let down = |notes: [i32; 4]| C::lower(&line(0, notes)).unwrap_err();
+    vec![
+        (15, 33, C::lower(&line(0, [0; 4])[..33]).unwrap_err()),
+        (23, 13, C::raise(&[b'0'; 13]).unwrap_err()),
+        (24, 0, down([40_000, 0, 0, 1])),
+        (25, 10, down([0, 40_000, 40_000, 0])),
     ]
 }
 

@@ -111,6 +111,40 @@ fn calls_of<C: Driven>(name: &str) -> [usize; 3] {
     [rules, feeds, pulls]
 }
 
+/// points/08/converting.txt.
+pub fn converting<C: Driven>() {
+    let name = "points/08/converting.txt";
+    let lines = vector_lines(name);
+    assert_eq!(lines.len(), 400);
+    let (mut raised, mut lowered) = (0, 0);
+    for (at, line) in lines {
+        let mut fields = line.splitn(3, ' ');
+        let mut field = || fields.next().unwrap();
+        let (way, bytes) = (field(), unhex(field()));
+        let words = match way {
+            "up" => converted_words(C::raise(&bytes), &mut raised),
+            "down" => converted_words(C::lower(&bytes), &mut lowered),
+            other => panic!("{name} line {at}: {other}"),
+        };
+        assert_eq!(words, field(), "{name} line {at}");
+    }
+    assert_eq!((raised, lowered), (145, 18));
+}
+
+/// An answer as the file of conversions writes it; a line is counted.
+fn converted_words<const DIGITS: usize>(
+    answer: Result<[u8; DIGITS], Refusal>,
+    lines: &mut usize,
+) -> String {
+    match answer {
+        Ok(line) => {
+            *lines += 1;
+            format!("line {}", hex(&line))
+        }
+        Err(refusal) => refusal_words(refusal),
+    }
+}
+
 /// The answer of a pull with a buffer of some length, and the report; all other bytes of the buffer keep.
 fn pull(checker: &mut impl Driven, length: usize) -> String {
     let mut report = vec![0xA5; length];
