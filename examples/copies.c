@@ -11,6 +11,9 @@
 /* The frames, once to be lent and once into the result. */
 #define MOST (2 * DILLPLATTER_FRAME_BUFFER)
 
+/* A line once into the result. */
+#define MOST_CONVERTED DILLPLATTER_LINE_BYTES
+
 /* What takes the place of the library's memcpy. */
 void *__wrap_memcpy(void *to, const void *from, size_t len);
 
@@ -25,6 +28,8 @@ void *__wrap_memcpy(void *to, const void *from, size_t len) {
 static uint8_t report[DILLPLATTER_REPORT_BYTES];
 static int32_t window[WORDS];
 static dillplatter_result result;
+static dillplatter_raised raised;
+static dillplatter_lowered lowered;
 
 static void note(void) {
     if (most_copied < copied)
@@ -65,6 +70,23 @@ static int views_copy(void) {
     return copied != 0 || whole.bytes != report || none.bytes != report;
 }
 
+/* Lines raised and lowered, done and refused. Gives the most bytes that one of these calls copies. */
+static size_t conversions(void) {
+    static const char *const lines[] = {"ab80007FFFffff", "abffff800000007FFFffffffff00000000", "abffff800000007FFFffffffff00000001",
+                                        "abffff800000007FFF0000800000000000"};
+    size_t most = 0;
+    for (size_t k = 0; k < sizeof lines / sizeof *lines; k++) {
+        const uint8_t *line = (const uint8_t *)lines[k];
+        copied = 0;
+        raised = dillplatter_raise(line, strlen(lines[k]));
+        most = most < copied ? copied : most;
+        copied = 0;
+        lowered = dillplatter_lower(line, strlen(lines[k]));
+        most = most < copied ? copied : most;
+    }
+    return most;
+}
+
 /* Lines and pulls of every answer; the first pull of each rule is of an instance that is not settled. */
 static void run(void) {
     pull(sizeof report);
@@ -87,5 +109,6 @@ int main(void) {
     for (int answer = DILLPLATTER_REFUSED; answer <= DILLPLATTER_UNKNOWN; answer++)
         good &= answer == DILLPLATTER_READ || seen[answer];
     printf("open, feed, pull: %zu bytes copied, at most %d\n", most_copied, MOST);
-    return !(good && most_copied <= MOST) || views_copy();
+    printf("raise, lower: %zu bytes copied, at most %d\n", conversions(), MOST_CONVERTED);
+    return !(good && most_copied <= MOST) || views_copy() || conversions() > MOST_CONVERTED;
 }

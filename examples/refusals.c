@@ -1,5 +1,5 @@
 /* Every refusal of the library once, by its name in the header: what provokes it, its number and its place. Fails where a refused
- * call wrote to lent memory or handed back another state than it should. */
+ * call wrote to lent memory or handed back another state or line than it should. */
 #include <inttypes.h>
 #include <stdio.h>
 #include <string.h>
@@ -26,17 +26,25 @@ static void expect(int fact, const char *what) {
     }
 }
 
-static void say(const char *what, uint32_t want, uint32_t answer, uint32_t number, uint32_t place) {
+/* Of a call with no field `answer`. */
+static void say_number(const char *what, uint32_t want, uint32_t number, uint32_t place) {
     printf("%2" PRIu32 " at %" PRIu32 ": %s\n", number, place, what);
-    expect(answer == DILLPLATTER_REFUSED && number == want, what);
+    expect(number == want, what);
 }
 
-static int all_seven(const uint8_t *bytes, size_t len) {
+static void say(const char *what, uint32_t want, uint32_t answer, uint32_t number, uint32_t place) {
+    say_number(what, want, number, place);
+    expect(answer == DILLPLATTER_REFUSED, what);
+}
+
+static int all_are(uint8_t value, const uint8_t *bytes, size_t len) {
     for (size_t k = 0; k < len; k++)
-        if (bytes[k] != 7)
+        if (bytes[k] != value)
             return 0;
     return 1;
 }
+
+static int all_seven(const uint8_t *bytes, size_t len) { return all_are(7, bytes, len); }
 
 /* A text that is refused, or a buffer. */
 static void refuse_read(const char *what, uint32_t want, const char *rule, size_t len, size_t buffer) {
@@ -79,11 +87,40 @@ static void refuse_pull(const char *what, uint32_t want, dillplatter_state s, si
 static void refuse_view(const char *what, uint32_t want, size_t buffer) {
     memset(report, 7, sizeof report);
     dillplatter_part part = {report, buffer};
-    uint32_t number = dillplatter_view(&part);
-    printf("%2" PRIu32 " at 0: %s\n", number, what);
-    expect(number == want, what);
+    say_number(what, want, dillplatter_view(&part), 0);
     expect(part.bytes == report && part.len == 0, "a refused view is empty");
     expect(all_seven(report, sizeof report), "a refused view leaves the report");
+}
+
+static void refuse_raise(const char *what, uint32_t want, const char *old_line) {
+    dillplatter_raised r = dillplatter_raise((const uint8_t *)old_line, strlen(old_line));
+    say_number(what, want, r.number, r.place);
+    expect(all_are(0, r.line, sizeof r.line), "a refused old line gives zero bytes");
+}
+
+static void refuse_lower(const char *what, uint32_t want, const char *line) {
+    dillplatter_lowered r = dillplatter_lower((const uint8_t *)line, strlen(line));
+    say_number(what, want, r.number, r.place);
+    expect(all_are(0, r.line, sizeof r.line), "a refused line gives zero bytes");
+}
+
+/* Old lines and log lines that are not refused: up and then down, and down and then up. */
+static void up_and_down(const char *old_line, const char *up, const char *down) {
+    dillplatter_raised raised = dillplatter_raise((const uint8_t *)old_line, strlen(old_line));
+    dillplatter_lowered lowered = dillplatter_lower(raised.line, sizeof raised.line);
+    expect(raised.number == DILLPLATTER_NO_REFUSAL && raised.place == 0, "an old line is raised");
+    expect(lowered.number == DILLPLATTER_NO_REFUSAL && lowered.place == 0, "a raised line is lowered");
+    expect(memcmp(raised.line, up, sizeof raised.line) == 0, "raised, the fourth note is 0 and the others keep");
+    expect(memcmp(lowered.line, down, sizeof lowered.line) == 0, "up and then down gives the old line in capitals");
+}
+
+static void down_and_up(const char *line, const char *down, const char *up) {
+    dillplatter_lowered lowered = dillplatter_lower((const uint8_t *)line, strlen(line));
+    dillplatter_raised raised = dillplatter_raise(lowered.line, sizeof lowered.line);
+    expect(lowered.number == DILLPLATTER_NO_REFUSAL && lowered.place == 0, "a line that 16 bits hold is lowered");
+    expect(raised.number == DILLPLATTER_NO_REFUSAL && raised.place == 0, "a lowered line is raised");
+    expect(memcmp(lowered.line, down, sizeof lowered.line) == 0, "lowered, the notes keep");
+    expect(memcmp(raised.line, up, sizeof raised.line) == 0, "down and then up gives the line in capitals");
 }
 
 static void read_good(const char *rule) {
@@ -149,9 +186,23 @@ static void running(void) {
     refuse_feed("line 1,000,000 of an event", DILLPLATTER_LINES_MOST, state, WORDS, line);
 }
 
+static void converting(void) {
+    dillplatter_raised none = dillplatter_raise(NULL, 0);
+    expect(none.number == DILLPLATTER_BAD_OLD_LINE && none.place == 0, "no memory is no old line");
+    refuse_raise("an old line with a letter past f", DILLPLATTER_BAD_OLD_LINE, "01000fg0000000");
+    refuse_raise("an old line of 13 digits", DILLPLATTER_BAD_OLD_LINE, "0100010002000");
+    refuse_lower("a line of 33 digits, to be lowered", DILLPLATTER_BAD_LINE, "010000000100000002000000030000000");
+    refuse_lower("a fourth note of 1", DILLPLATTER_FOURTH_NOTE, "0100008000000000020000000300000001");
+    refuse_lower("a first note of 32,768", DILLPLATTER_WIDE_NOTE, "0100008000000000020001000000000000");
+    refuse_lower("a third note of -32,769", DILLPLATTER_WIDE_NOTE, "0100007FFFFFFF8000FFFF7FFF00000000");
+    up_and_down("fe7Fff8000fFfE", "FE00007FFFFFFF8000FFFFFFFE00000000", "FE7FFF8000FFFE");
+    down_and_up("fe00007fFFffff8000FfffffFe00000000", "FE7FFF8000FFFE", "FE00007FFFFFFF8000FFFFFFFE00000000");
+}
+
 int main(void) {
     reading();
     opening();
     running();
+    converting();
     return wrong;
 }

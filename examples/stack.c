@@ -19,11 +19,14 @@ static ucontext_t here, there;
 /* The arguments and results of the calls, away from the stack that is measured. */
 static uint8_t text[DILLPLATTER_TEXT_MOST], frames[DILLPLATTER_FRAME_BUFFER], report[DILLPLATTER_REPORT_BYTES];
 static uint8_t line[DILLPLATTER_LINE_BYTES];
-static size_t text_len, frames_len;
+static const uint8_t *given;
+static size_t text_len, frames_len, given_len;
 static int32_t window[DILLPLATTER_WINDOW_WORDS(WIDTH)];
 static dillplatter_reading reading;
 static dillplatter_result result;
 static dillplatter_part part;
+static dillplatter_raised raised;
+static dillplatter_lowered lowered;
 
 static void nothing(void) {}
 static void do_read(void) { reading = dillplatter_read(text, text_len, frames, sizeof frames); }
@@ -31,6 +34,8 @@ static void do_open(void) { result = dillplatter_open(frames, frames_len, WIDTH,
 static void do_feed(void) { result = dillplatter_feed(result.state, window, WORDS, line, sizeof line); }
 static void do_pull(void) { result = dillplatter_pull(result.state, window, WORDS, report, sizeof report); }
 static void do_view(void) { dillplatter_view(&part); }
+static void do_raise(void) { raised = dillplatter_raise(given, given_len); }
+static void do_lower(void) { lowered = dillplatter_lower(given, given_len); }
 
 /* The bytes of stack that a function takes. */
 static size_t taken(void (*call)(void)) {
@@ -133,13 +138,32 @@ static size_t viewing(size_t len) {
     return cost(do_view);
 }
 
+/* Raising or lowering a line. */
+static size_t converting(void (*call)(void), const char *one) {
+    given = (const uint8_t *)one;
+    given_len = strlen(one);
+    return cost(call);
+}
+
+/* Old lines that are raised or refused with 23, lines that are lowered or refused with 15, 24 and 25. */
+static void converting_most(size_t *raising, size_t *lowering) {
+    static const char *const old_lines[] = {"ab80007FFFffff", "ab80007FFFfff", "ab80007FFFfffg"};
+    static const char *const lines[] = {"abffff800000007FFFffffffff00000000", "abffff800000007FFFffffffff0000000",
+                                        "abffff800000007FFFffffffff0000000g", "abffff800000007FFFffffffff00000001",
+                                        "abffff7FFF00007FFFffffffff00000000", "abffff800000007FFF0000800000000000"};
+    for (size_t k = 0; k < sizeof old_lines / sizeof *old_lines; k++)
+        more(raising, converting(do_raise, old_lines[k]));
+    for (size_t k = 0; k < sizeof lines / sizeof *lines; k++)
+        more(lowering, converting(do_lower, lines[k]));
+}
+
 static int within(const char *name, size_t bytes, size_t limit) {
     printf("%s: %zu bytes, at most %zu\n", name, bytes, limit);
     return bytes <= limit;
 }
 
 int main(void) {
-    size_t opening, feeding = 0, pulling = 0;
+    size_t opening, feeding = 0, pulling = 0, raising = 0, lowering = 0;
     int good = within("read, any text", reading_most(sizeof text), 1200000);
     good &= within("read, depth at most 16", reading_most(16), 40960);
     if (!widest())
@@ -151,6 +175,9 @@ int main(void) {
     good &= within("pull", pulling, 8192);
     good &= within("view", viewing(sizeof report), 256);
     good &= within("view, refused", viewing(0), 256);
+    converting_most(&raising, &lowering);
+    good &= within("raise", raising, 512);
+    good &= within("lower", lowering, 512);
     good &= result.state.totals.held > 0 && result.state.totals.failed > 0;
     return !good;
 }

@@ -2,12 +2,14 @@
  *
  * A rule's text is read into frames (dillplatter_read), frames open a checker (dillplatter_open), log lines are fed to it
  * (dillplatter_feed) and verdicts are pulled from it (dillplatter_pull). Of a violation's report an operator panel gets the view
- * (dillplatter_view). docs/RULES.md teaches rules, docs/MAKERS.md shows how to link, how much memory to lend and what to do on each
- * refusal.
+ * (dillplatter_view). Lines of the earlier edition, with 14 digits, are raised to log lines (dillplatter_raise), and log lines are
+ * lowered to them where nothing is lost (dillplatter_lower). docs/RULES.md teaches rules, docs/MAKERS.md shows how to link, how
+ * much memory to lend and what to do on each refusal.
  *
  * For every argument each call ends, and answers as its proved contract says; a refusal changes nothing, but that a refused view
  * is an empty part. The library has no memory of its own and allocates none: what a checker carries from call to call is the state,
- * by value, and the window, which the caller lends. So calls on different checkers may run at the same time.
+ * by value, and the window, which the caller lends. So calls on different checkers may run at the same time. Raising and lowering
+ * take no checker, and nothing is kept between them.
  *
  * What the caller keeps to, and nobody checks:
  * - a pointer and a length stand for that many elements that may be read, and written where the pointer is not to const; the
@@ -46,6 +48,9 @@ extern "C" {
 /* Bytes of a log line, without its line feed. */
 #define DILLPLATTER_LINE_BYTES 34
 
+/* Bytes of an old line, one of the earlier edition's logs, without its line feed. */
+#define DILLPLATTER_OLD_LINE_BYTES 14
+
 /* Bytes of a report buffer: at least so many, which is what the longest report has. */
 #define DILLPLATTER_REPORT_BYTES 166
 
@@ -54,9 +59,10 @@ extern "C" {
 
 /* ---- answers and refusals ---- */
 
-/* The field `answer` of every result. */
+/* The field `answer` of what read, open, feed and pull give. View, raise and lower have none: they are refused where their number
+ * is not 0. */
 enum dillplatter_answer {
-    DILLPLATTER_REFUSED = 0,  /* any call: `number` and `place` say why and where; lent memory is unchanged */
+    DILLPLATTER_REFUSED = 0,  /* any of them: `number` and `place` say why and where; lent memory is unchanged */
     DILLPLATTER_READ = 1,     /* read: the buffer holds the frames */
     DILLPLATTER_OPENED = 2,   /* open: the state is that of a fresh checker, the window is cleared */
     DILLPLATTER_ACCEPTED = 3, /* feed: the line is counted */
@@ -90,12 +96,17 @@ enum dillplatter_refusal {
                                       rule does not reference, or a count above that event's base plus W */
     DILLPLATTER_WINDOW_SIZE = 13,  /* feed, pull: a window not 32 * W words, with the W of the state */
     DILLPLATTER_REPORT_SIZE = 14,  /* pull, view: a report buffer under 166 bytes */
-    DILLPLATTER_BAD_LINE = 15,     /* feed: not 34 digits 0-9, A-F or a-f; place: the lower of the first byte that is none and the
-                                      shorter of the length and 34 */
+    DILLPLATTER_BAD_LINE = 15,     /* feed, lower: not 34 digits 0-9, A-F or a-f; place: the lower of the first byte that is none
+                                      and the shorter of the length and 34 */
     DILLPLATTER_LINES_MOST = 16,   /* feed: that event has 1,000,000 lines already */
-    DILLPLATTER_WINDOW_FULL = 17   /* feed: the count of that event has reached its base plus W: no room for another line of it
+    DILLPLATTER_WINDOW_FULL = 17,  /* feed: the count of that event has reached its base plus W: no room for another line of it
                                       until more verdicts are pulled. An event's base is the smallest line number of it that
                                       instance `next` refers to, 0 where that is negative */
+    DILLPLATTER_BAD_OLD_LINE = 23, /* raise: not 14 digits 0-9, A-F or a-f; place: the lower of the first byte that is none and the
+                                      shorter of the length and 14 */
+    DILLPLATTER_FOURTH_NOTE = 24,  /* lower: a fourth note other than 0 */
+    DILLPLATTER_WIDE_NOTE = 25     /* lower: one of the first three notes that 16 bits can't hold, so one below -32,768 or above
+                                      32,767; place: the first digit of the first such note, 2, 10 or 18 */
 };
 
 /* ---- what calls take and give ---- */
@@ -137,6 +148,20 @@ typedef struct dillplatter_part {
     const uint8_t *bytes;
     size_t len;
 } dillplatter_part;
+
+/* What dillplatter_raise gives. */
+typedef struct dillplatter_raised {
+    uint32_t number;                      /* the refusal's, else 0 */
+    uint32_t place;                       /* the refusal's, else 0 */
+    uint8_t line[DILLPLATTER_LINE_BYTES]; /* the log line, in capitals; bytes of value 0 if refused */
+} dillplatter_raised;
+
+/* What dillplatter_lower gives. */
+typedef struct dillplatter_lowered {
+    uint32_t number;                          /* the refusal's, else 0 */
+    uint32_t place;                           /* the refusal's, else 0 */
+    uint8_t line[DILLPLATTER_OLD_LINE_BYTES]; /* the old line, in capitals; bytes of value 0 if refused */
+} dillplatter_lowered;
 
 /* ---- the calls ---- */
 
@@ -194,6 +219,23 @@ dillplatter_result dillplatter_pull(dillplatter_state state, const int32_t *wind
  * else of the log: for one rule, two logs give the same views in the same order exactly where the same instances were reported with
  * the same verdicts. C does not hold a panel to the length: to one that is not trusted, send a copy of the 5 bytes. */
 uint32_t dillplatter_view(dillplatter_part *part);
+
+/* Raises an old line to a log line. An old line is 14 digits 0-9, A-F or a-f, the event (2 digits) and three notes (4 digits each,
+ * signed, the most significant first). The case of a letter never counts. The line feed is not part of it.
+ * Answers: `number` DILLPLATTER_NO_REFUSAL; or refused with 23.
+ * Gives: where not refused, the 34 digits of the log line with the same event, the same three notes, signed, and the fourth note 0,
+ * in capitals. Where refused, 34 bytes of value 0, which are no line. Lowered again, a raised line gives the old line in capitals.
+ * Writes: no lent byte.
+ * Memory: `old_line` is only read, and not needed after the call. */
+dillplatter_raised dillplatter_raise(const uint8_t *old_line, size_t old_len);
+
+/* Lowers a log line, as dillplatter_feed takes it, to an old line, where nothing is lost.
+ * Answers: `number` DILLPLATTER_NO_REFUSAL; or refused with 15, 24 or 25, checked in this order.
+ * Gives: where not refused, the 14 digits of the old line with the same event and the same first three notes, in capitals. Where
+ * refused, 14 bytes of value 0, which are no line. Raised again, a lowered line gives the log line in capitals.
+ * Writes: no lent byte.
+ * Memory: `line` is only read, and not needed after the call. */
+dillplatter_lowered dillplatter_lower(const uint8_t *line, size_t line_len);
 
 /* ---- the same with a pointer to the state ----
  * Each replaces *state by the state that the call gives back, and returns the rest. After a refused opening *state is zero
@@ -297,6 +339,14 @@ DILLPLATTER_HOLDS(offsetof(dillplatter_result, place) == 576);
 DILLPLATTER_HOLDS(sizeof(dillplatter_part) == 16);
 DILLPLATTER_HOLDS(offsetof(dillplatter_part, bytes) == 0);
 DILLPLATTER_HOLDS(offsetof(dillplatter_part, len) == 8);
+DILLPLATTER_HOLDS(sizeof(dillplatter_raised) == 44);
+DILLPLATTER_HOLDS(offsetof(dillplatter_raised, number) == 0);
+DILLPLATTER_HOLDS(offsetof(dillplatter_raised, place) == 4);
+DILLPLATTER_HOLDS(offsetof(dillplatter_raised, line) == 8);
+DILLPLATTER_HOLDS(sizeof(dillplatter_lowered) == 24);
+DILLPLATTER_HOLDS(offsetof(dillplatter_lowered, number) == 0);
+DILLPLATTER_HOLDS(offsetof(dillplatter_lowered, place) == 4);
+DILLPLATTER_HOLDS(offsetof(dillplatter_lowered, line) == 8);
 DILLPLATTER_HOLDS(sizeof(size_t) == 8 && sizeof(void *) == 8);
 
 #undef DILLPLATTER_HOLDS
