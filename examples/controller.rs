@@ -1,5 +1,5 @@
 //! The library from Rust, with nothing but rustc: reads a rule, opens a checker, feeds four lines and pulls after each; the
-//! operator panel sees the view of each report.
+//! operator panel sees the view of each report. The last two lines come from a table of the earlier edition, and are raised.
 //! host/ has a wrapper with types of its own; this shows the calls themselves.
 
 const WIDTH: usize = 64;
@@ -45,6 +45,20 @@ struct Part {
     len: usize,
 }
 
+#[repr(C)]
+struct Raised {
+    number: u32,
+    place: u32,
+    line: [u8; 34],
+}
+
+#[repr(C)]
+struct Lowered {
+    number: u32,
+    place: u32,
+    line: [u8; 14],
+}
+
 // Nothing checks these against the library: they are include/dillplatter.h, word for word.
 extern "C" {
     fn dillplatter_read(text: *const u8, text_len: usize, frames: *mut u8, frames_len: usize) -> Reading;
@@ -52,6 +66,8 @@ extern "C" {
     fn dillplatter_feed(state: State, window: *mut i32, window_len: usize, line: *const u8, line_len: usize) -> Outcome;
     fn dillplatter_pull(state: State, window: *const i32, window_len: usize, report: *mut u8, report_len: usize) -> Outcome;
     fn dillplatter_view(part: *mut Part) -> u32;
+    fn dillplatter_raise(old_line: *const u8, old_len: usize) -> Raised;
+    fn dillplatter_lower(line: *const u8, line_len: usize) -> Lowered;
 }
 
 // A slice is a pointer and a length; the borrow checker sees to it that what is written overlaps nothing.
@@ -76,6 +92,24 @@ fn view(report: &[u8]) -> (u32, &[u8]) {
     let mut part = Part { bytes: report.as_ptr(), len: report.len() };
     let number = unsafe { dillplatter_view(&mut part) };
     (number, unsafe { std::slice::from_raw_parts(part.bytes, part.len) })
+}
+
+fn raise(old: &[u8]) -> Raised {
+    unsafe { dillplatter_raise(old.as_ptr(), old.len()) }
+}
+
+fn lower(line: &[u8]) -> Lowered {
+    unsafe { dillplatter_lower(line.as_ptr(), line.len()) }
+}
+
+// The log line of an old line. Lowered again, it is the old line in capitals.
+fn from_old(old: &[u8]) -> [u8; 34] {
+    let raised = raise(old);
+    assert_eq!(raised.number, 0, "an old line is refused at {}", raised.place);
+    let lowered = lower(&raised.line);
+    assert_eq!((lowered.number, lowered.place), (0, 0), "a raised line can be lowered");
+    assert_eq!(&lowered.line, old.to_ascii_uppercase().as_slice());
+    raised.line
 }
 
 fn say_false(instance: u32, report: &[u8]) {
@@ -103,6 +137,7 @@ fn pull_all(mut state: State, window: &[i32], report: &mut [u8]) -> State {
 
 fn main() {
     assert_eq!((std::mem::size_of::<State>(), std::mem::size_of::<Outcome>(), std::mem::size_of::<Part>()), (568, 580, 16));
+    assert_eq!((std::mem::size_of::<Raised>(), std::mem::size_of::<Lowered>()), (44, 24));
     let (mut frames, mut window, mut report) = ([0u8; 512], [0i32; 32 * WIDTH], [0u8; 166]);
     let reading = read(b"events in out; notes t; t(out[i]) - t(in[i]) <= 25", &mut frames);
     if reading.answer != 1 {
@@ -115,8 +150,10 @@ fn main() {
         return;
     }
     let mut state = pull_all(opened.state, &window, &mut report);
-    for line in ["000000000A", "0100000028", "0000000032", "010000004B"] {
-        let fed = feed(state, &mut window, format!("{line:0<34}").as_bytes());
+    let today = [*b"000000000A000000000000000000000000", *b"0100000028000000000000000000000000"];
+    let raised = [from_old(b"00003200000000"), from_old(b"01004b00000000")];
+    for line in today.iter().chain(&raised) {
+        let fed = feed(state, &mut window, line);
         println!("fed: answer {}, number {}, place {}", fed.answer, fed.number, fed.place);
         assert_ne!(fed.answer, 0, "a refused line is not counted: mend it, or open anew");
         state = pull_all(fed.state, &window, &mut report);
