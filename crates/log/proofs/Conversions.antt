@@ -88,22 +88,22 @@ old-back e a b c h i j k =
     old-of-digits (oldLine e a b c) (are-digits oldDigits (oldLine e a b c) refl (old-front e a b c)) ∙ cc
 
 -- ---- answers
-clash : {A : Type 0} {n p : ℕ} → done ≡ turned n p → A
+pub clash : {A : Type 0} {n p : ℕ} → done ≡ turned n p → A
 clash h = absurd (let y : _≡_ {A = ℕ} 0 1 = cc in omega arith)
 
-numbers : {n m p q : ℕ} → turned n p ≡ turned m q → (n ≡ m) × (p ≡ q)
+pub numbers : {n m p q : ℕ} → turned n p ≡ turned m q → (n ≡ m) × (p ≡ q)
 numbers h = (cc, cc)
 
 other-number : {A : Type 0} {n m p q : ℕ} → turned n p ≡ turned m q → (n ≡ m → ⊥) → A
 other-number h f = absurd (f (numbers h .0))
 
 -- ---- what 16 bits hold, as a test and as a fact
-within-16 : {z : ℤ} → holds16 z ≡ true → In16 z
+pub within-16 : {z : ℤ} → holds16 z ≡ true → In16 z
 within-16 {z} e =
     let t = and-true (leZ (negsuc 32767) z) (leZ z (pos 32767)) e in
     (leZ-yes (rw (t .0) tt), leZ-yes (rw (t .1) tt))
 
-held-16 : {z : ℤ} → In16 z → holds16 z ≡ true
+pub held-16 : {z : ℤ} → In16 z → holds16 z ≡ true
 held-16 {z} h =
     let low = T-true (leZ (negsuc 32767) z) (h .0 .le) in
     let high = T-true (leZ z (pos 32767)) (h .1 .le) in
@@ -114,7 +114,7 @@ zeros-read : lineOf (replicate lineDigits 0) ≡ refused 15 0
 unfolding digitValue digitsAtFront badPlace lineOf
 zeros-read = refl
 
-zero-note : (z : ℤ) → natAbs z ≡ 0 → z ≡ pos 0
+pub zero-note : (z : ℤ) → natAbs z ≡ 0 → z ≡ pos 0
 zero-note (pos n) e = ap pos e
 zero-note (negsuc n) e = absurd (omega arith)
 

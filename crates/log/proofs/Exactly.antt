@@ -85,7 +85,7 @@ place-unique s p q u v = one-place u v
 refusal : {n m p q : ℕ} → refused n p ≡ refused m q → (n ≡ m) × (p ≡ q)
 refusal h = (cc, cc)
 
-placed : (s : List ℕ) → PlaceOf15 s (badPlace s)
+pub placed : (s : List ℕ) → PlaceOf15 s (badPlace s)
 unfolding badPlace
 placed s = place
 

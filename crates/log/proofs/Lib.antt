@@ -14,6 +14,7 @@ mod Losses
 mod Copies
 mod Converting
 mod Conversions
+mod Refusals
 mod Walking
 mod Examples
 mod EarlierExamples

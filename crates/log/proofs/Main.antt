@@ -9,6 +9,7 @@ use Rattle.log.specs.Digit.{digitValue, capital, hexDigit}
 use Rattle.log.specs.Line.{digitsAtFront, badPlaceOf, badPlace, byteAt, noteAt, line, refused, told, lineOf}
 use Rattle.log.specs.Line.{AreDigits, AllDigits, BadPlace, PlaceOf15}
 use Rattle.log.specs.Earlier.{oldDigits, oldNoteAt, oldLineOf, done, turned, converted, raiseTold, raisedDef, In16, lowerTold, loweredDef}
+use Rattle.log.specs.Earlier.{LowerRefused}
 use Rattle.log.specs.Walk.{linesOf, endOf, lineAt, walked}
 use Rattle.log.specs.declared.line.Line.{Line}
 use Rattle.log.specs.declared.earlier.RaiseAnswer.{RaiseAnswer}
@@ -19,6 +20,7 @@ use Rattle.log.proofs.Exactly as exactly
 use Rattle.log.proofs.Cases as cases
 use Rattle.log.proofs.Answers as answers
 use Rattle.log.proofs.Conversions as conversions
+use Rattle.log.proofs.Refusals as refusals
 use Rattle.log.proofs.Values as values
 use Rattle.log.proofs.Walking as walking
 
@@ -82,6 +84,10 @@ pub lowers-exactly : (s : List ℕ)
     → loweredDef s .answer ≡ done
     ↔ AllDigits s × (noteAt s 3 ≡ pos 0) × In16 (noteAt s 0) × In16 (noteAt s 1) × In16 (noteAt s 2)
 lowers-exactly = conversions.lowers-exactly
+
+-- Any other is refused as its digits and notes say: 15 with its place, 24, or 25 with its place, in this order.
+pub lower-refused : (s : List ℕ) (n p : ℕ) → loweredDef s .answer ≡ turned n p ↔ LowerRefused s n p
+lower-refused = refusals.lower-refused
 
 -- Up and then down gives the old line in capitals.
 pub up-down : (s : List ℕ) → raisedDef s .answer ≡ done → loweredDef (raisedDef s .line) ≡ converted (map capital s)

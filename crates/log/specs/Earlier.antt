@@ -1,8 +1,9 @@
 -- Lines of the earlier edition, and the converter between them and today's. From document 02, point 8; old line and raised line are
 -- its terms. Assumes nothing: definitions.
+use mathlib.Core.Path.{_≡_}
 use mathlib.Core.Bool.{Bool, true, false, cond, _&&_}
 use mathlib.Core.List.{List, [], _∷_}
-use Prim.Native.Nat.{ℕ, zero, suc, _+_, _*_, _/_, _%_}
+use Prim.Native.Nat.{ℕ, zero, suc, _+_, _*_, _/_, _%_, _<_}
 use lib.IntN.{ℤ, pos, negsuc, natAbs}
 use lib.Signed.{leZ, _≤ℤ_}
 use lib.Dec.{eqb}
@@ -11,7 +12,8 @@ use mir.Syntax.{w16, w32}
 use mir.Val.{ofZ}
 use Rattle.numbers.specs.Word.{signedHalf}
 use Rattle.log.specs.Digit.{hexDigit}
-use Rattle.log.specs.Line.{byteFrom, byteAt, areDigits, badPlaceOf, Told, line, refused, lineOf}
+use Rattle.log.specs.Line.{byteFrom, byteAt, noteAt, areDigits, badPlaceOf, Told, line, refused, lineOf}
+use Rattle.log.specs.Line.{AllDigits, PlaceOf15}
 use Rattle.log.specs.declared.earlier.RaiseAnswer.{RaiseAnswer}
 use Rattle.log.specs.declared.earlier.RaiseAnswer.the-variants as raises
 use Rattle.log.specs.declared.earlier.LowerAnswer.{LowerAnswer}
@@ -142,3 +144,17 @@ loweredBy (line e a b c d) = unlessLost (lossOf a b c d) (oldLine e a b c)
 -- "brings new lines down where nothing is lost": every line, with 15, 24 and 25
 unfoldable pub loweredDef : List ℕ → Converted
 loweredDef s = loweredBy (lineOf s)
+
+-- 25's place, note by note: "one of the first three notes that 16 bits can't hold, place the first such note's first digit"
+pub record PlaceOf25 (s : List ℕ) (p : ℕ) : Type 0 where
+  pub note : ℕ
+  pub among : note < 3
+  pub wide : In16 (noteAt s note) → ⊥
+  pub first : (n : ℕ) → n < note → In16 (noteAt s n)
+  pub begins : p ≡ notePlace note
+
+-- "24 .. 25 .. in this order after 15": what each refusal of a line to be brought down says of it
+pub data LowerRefused (s : List ℕ) : ℕ → ℕ → Type 0 where
+  not-a-line : (p : ℕ) → (AllDigits s → ⊥) → PlaceOf15 s p → LowerRefused s 15 p
+  fourth : AllDigits s → (noteAt s 3 ≡ pos 0 → ⊥) → LowerRefused s 24 0
+  wide : (p : ℕ) → AllDigits s → noteAt s 3 ≡ pos 0 → PlaceOf25 s p → LowerRefused s 25 p
