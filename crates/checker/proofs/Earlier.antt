@@ -5,11 +5,9 @@ use mathlib.Core.Logic.{⊎-elim}
 use Prim.Native.Nat.{ℕ, _+_}
 use lib.Dec.{leb, eqb}
 use lib.IntN.{ℤ}
-use lib.ListN.{replicate}
 use Rattle.rule.specs.Tree.{Reference, references}
 use Rattle.rule.specs.Build.{treeOf}
-use Rattle.log.specs.Digit.{digitValue}
-use Rattle.log.specs.Line.{Told, digitsAtFront, badPlace, lineOf}
+use Rattle.log.specs.Line.{Told, lineOf}
 use Rattle.log.specs.Line as line
 use Rattle.log.specs.Earlier.{oldLineOf, raisedDef}
 use Rattle.log.specs.Earlier as log
@@ -128,12 +126,3 @@ raised-log {frames} {w} o other named cs =
       verdicts-same = ap verdicts same ∙ verdicts-kept (outs (oldMachineFor frames w) cs atFirst);
       state = Lists.state o (map (raisedCall other) cs) ∙ ap tallyOf (all-end frames w other named cs atFirst);
     }
-
--- ---- the bytes in place of a line that 23 names: those that raising hands back, or none
-pub zeros-named : lineOf (replicate 34 0) ≡ line.refused 15 0
-unfolding digitValue digitsAtFront badPlace lineOf
-zeros-named = refl
-
-pub empty-named : lineOf [] ≡ line.refused 15 0
-unfolding digitValue digitsAtFront badPlace lineOf
-empty-named = refl

@@ -18,6 +18,7 @@ use Rattle.rule.specs.Meaning.{meaning}
 use Rattle.rule.specs.declared.Reading.the-variants as reading
 use Rattle.log.specs.Line.{lineOf}
 use Rattle.log.specs.Line as log
+use Rattle.log.proofs.Main.{zeros-refused, empty-refused}
 use Rattle.verdict.specs.Found.{foundIn}
 use Rattle.verdict.specs.Value.{value}
 use Rattle.verdict.specs.Settled.{settled, judgement}
@@ -187,10 +188,10 @@ raised-log = Earlier.raised-log
 
 -- such are the zero bytes that raising hands back, and an empty line
 pub zeros-named : lineOf (replicate 34 0) ≡ log.refused 15 0
-zeros-named = Earlier.zeros-named
+zeros-named = zeros-refused
 
 pub empty-named : lineOf [] ≡ log.refused 15 0
-empty-named = Earlier.empty-named
+empty-named = empty-refused
 
 -- ---- opening is not refused exactly where the frames are a rule's within the limits, W is 1 to 256 and the window 32 × W words
 pub opens-exactly : {frames : List ℕ} (w : ℕ) (win : List ℤ) → Bytes frames

@@ -110,7 +110,7 @@ held-16 {z} h =
     true-and (leZ (negsuc 32767) z) (leZ z (pos 32767)) low high
 
 -- 34 zero bytes are no digits
-zeros-read : lineOf (replicate lineDigits 0) ≡ refused 15 0
+pub zeros-read : lineOf (replicate lineDigits 0) ≡ refused 15 0
 unfolding digitValue digitsAtFront badPlace lineOf
 zeros-read = refl
 

@@ -35,7 +35,7 @@ unfolding digitValue digitsAtFront badPlace lineOf
 extremes = refl
 
 -- no byte at all
-empty : lineOf [] ≡ refused 15 0
+pub empty : lineOf [] ≡ refused 15 0
 unfolding digitValue digitsAtFront badPlace lineOf
 empty = refl
 

@@ -1,14 +1,14 @@
 -- What is proved of log lines, beside the contracts. Assumes nothing.
 use mathlib.Core.Path.{_≡_}
 use mathlib.Core.Logic.{_↔_, _⊎_}
-use mathlib.Core.List.{List, map}
+use mathlib.Core.List.{List, [], map}
 use Prim.Native.Nat.{ℕ, _≤_, _<_}
 use lib.IntN.{ℤ, pos}
-use lib.ListN.{length}
+use lib.ListN.{length, replicate}
 use Rattle.log.specs.Digit.{digitValue, capital, hexDigit}
 use Rattle.log.specs.Line.{digitsAtFront, badPlaceOf, badPlace, byteAt, noteAt, line, refused, told, lineOf}
 use Rattle.log.specs.Line.{AreDigits, AllDigits, BadPlace, PlaceOf15}
-use Rattle.log.specs.Earlier.{oldDigits, oldNoteAt, oldLineOf, done, turned, converted, raiseTold, raisedDef, In16, lowerTold, loweredDef}
+use Rattle.log.specs.Earlier.{oldDigits, lineDigits, oldNoteAt, oldLineOf, done, turned, converted, raiseTold, raisedDef, In16, lowerTold, loweredDef}
 use Rattle.log.specs.Earlier.{LowerRefused}
 use Rattle.log.specs.Walk.{linesOf, endOf, lineAt, walked}
 use Rattle.log.specs.declared.line.Line.{Line}
@@ -23,6 +23,7 @@ use Rattle.log.proofs.Conversions as conversions
 use Rattle.log.proofs.Refusals as refusals
 use Rattle.log.proofs.Values as values
 use Rattle.log.proofs.Walking as walking
+use Rattle.log.proofs.Examples as examples
 
 -- A line is read exactly where 34 digits stand, and then as its event and its four notes.
 pub line-exactly : (s : List ℕ) (e : ℕ) (a b c d : ℤ)
@@ -71,6 +72,13 @@ same-reading = conversions.same-reading
 -- The zero bytes that any other line gives are refused with 15, at 0.
 pub refused-reading : (s : List ℕ) → (AreDigits oldDigits s → ⊥) → lineOf (raisedDef s .line) ≡ refused 15 0
 refused-reading = conversions.refused-reading
+
+-- So are zero bytes by themselves, and an empty line.
+pub zeros-refused : lineOf (replicate lineDigits 0) ≡ refused 15 0
+zeros-refused = conversions.zeros-read
+
+pub empty-refused : lineOf [] ≡ refused 15 0
+empty-refused = examples.empty
 
 -- Both together: an old line is raised, and its raised line reads as it does; or 23 names it, read and raised.
 pub raised-or-refused : (s : List ℕ)

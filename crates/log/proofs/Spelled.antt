@@ -88,11 +88,6 @@ front-spelled (suc k) n rest =
     let d : isDigit (hexDigit (n % 16)) ≡ true = rw (digit-back (n % 16) r) (lt-ltb (n % 16) 16 r) in
     i ∙ rw d (omega arith)
 
-pub length-spelled : (k n : ℕ) (rest : List ℕ) → length (digitsOf k n rest) ≡ k + length rest
-unfolding digitsOf
-length-spelled zero n rest = omega arith
-length-spelled (suc k) n rest = length-spelled k (n / 16) (hexDigit (n % 16) ∷ rest) ∙ omega arith
-
 -- ---- and is read again
 -- two digits of a number
 abbrev pub byteIn : ℕ → ℕ
