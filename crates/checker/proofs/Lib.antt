@@ -18,6 +18,8 @@ mod Exactly
 mod Unchanged
 mod Marked
 mod ViewExamples
+mod Prices
+mod Charges
 mod CodeCopy
 mod CodeBase
 mod CodeRing

@@ -1,5 +1,5 @@
 -- What a buyer reads: limits and answers, bases, the state and the window, the report, the three calls, the plain machine, the
--- words of the third demand, the view of a report, and logs of the earlier edition.
+-- words of the third demand, the view of a report, logs of the earlier edition, and the rework tariff.
 pub mod Limits
 pub mod Answer
 pub mod Base
@@ -16,6 +16,7 @@ pub mod Machine
 pub mod Demand
 pub mod View
 pub mod Earlier
+pub mod Tariff
 -- What the contracts of inner functions are said by; no contract of open, feed or pull cites it. Crates bench and dillplatter call
 -- by Parts, and bench by Ready too.
 pub mod Parts

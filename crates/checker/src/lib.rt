@@ -1,10 +1,12 @@
-// Opening, feeding and pulling over a state by value and a lent window; the view of a report.
+// Opening, feeding and pulling over a state by value and a lent window; the view of a report; the charge for rework.
 mod apart; // apart.rt: a state as frames and the rest
 mod base; // base.rt: the base of each event
+mod charging; // charging.rt: 28, 29, 12, the charge for rework
 mod feeding; // feeding.rt: 12, 13, 15, ignored, 16, 17
 mod found; // found.rt: marks and notes of references
 mod good; // good.rt: 12
 mod opening; // opening.rt: 9, 10, 7, 8, 11; a fresh checker
+mod pricing; // pricing.rt: what violations cost by a tariff
 mod pulling; // pulling.rt: 12, 13, 14, the next verdict or waiting
 mod report; // report.rt: the report of a false verdict
 mod viewing; // viewing.rt: 14, the view of a report
@@ -14,6 +16,7 @@ pub use apart::Rest;
 pub use apart::rest_of;
 pub use apart::with_counts;
 pub use apart::with_turn;
+pub use charging::charge;
 pub use feeding::Way;
 pub use feeding::feed;
 pub use feeding::feed_good;
@@ -86,4 +89,21 @@ pub enum PullAnswer {
 pub struct Pulled {
     pub answer: PullAnswer,
     pub state: State,
+}
+
+// A rework tariff: how many bands there are, at most four, the last number and the price of each, the price of all violations
+// beyond them, in cents, and the surcharge in percent. Entries of bands that there are not are not looked at.
+#[repr(C)]
+pub struct Tariff {
+    pub bands: u32,
+    pub lasts: [u32; 4],
+    pub prices: [u32; 4],
+    pub beyond: u32,
+    pub surcharge: u32,
+}
+
+// What charging answers: cents, or refused with a number.
+pub enum ChargeAnswer {
+    Cents(u64),
+    Refused(Refusal),
 }

@@ -1,6 +1,6 @@
 -- The numbers of an answer fix the answer: it can be got back from them. Assumes nothing.
 use mathlib.Core.Path.{_≡_, refl, sym, ap, ap₂, _∙_}
-use mathlib.Core.Bool.{cond}
+use mathlib.Core.Bool.{Bool, true, false, cond}
 use Prim.Native.Nat.{ℕ, zero, suc}
 use lib.Dec.{eqb}
 use Rattle.rule.specs.declared.Reading.{Reading}
@@ -12,7 +12,12 @@ use Rattle.log.specs.declared.earlier.LowerAnswer.{LowerAnswer}
 use Rattle.log.specs.declared.earlier.LowerAnswer.the-variants as lowers
 use Rattle.verdict.specs.declared.Truth.the-variants.{True, False, Unknown}
 use Rattle.checker.specs.Answer.{Answer, opened, accepted, ignored, waiting, verdict, refused}
+use Rattle.checker.specs.Good.{goodState}
+use Rattle.checker.specs.Tariff.{bandsFit, pricesFit, centsOf, Charge, cents, turned, chargeDef}
+use Rattle.checker.specs.declared.State.{State}
+use Rattle.checker.specs.declared.Tariff.{Tariff}
 use Rattle.dillplatter.specs.Told.{Told, read, checked, readTold, answerOf, numberOf, placeOf, framesOf, conversionNumber, conversionPlace}
+use Rattle.dillplatter.specs.Told.{chargeNumber, chargePlace, chargeCents}
 
 -- the answer with given numbers
 got : (answer number place frames : ℕ) → Told
@@ -93,3 +98,32 @@ lower-back (lowers.Wide p) = refl
 pub lower-fixed : (a b : LowerAnswer) → conversionNumber (lowerTold a) ≡ conversionNumber (lowerTold b)
     → conversionPlace (lowerTold a) ≡ conversionPlace (lowerTold b) → a ≡ b
 lower-fixed a b h i = sym (lower-back a) ∙ ap₂ gotLower h i ∙ lower-back b
+
+-- ---- charges: the answer with given numbers; no refusal's number is 0
+gotCharge : (number place cents : ℕ) → Charge
+gotCharge zero p c = cents c
+gotCharge (suc n) p c = turned (suc n) p
+
+abbrev Back : Charge → Type 0
+Back a = gotCharge (chargeNumber a) (chargePlace a) (chargeCents a) ≡ a
+
+-- by what 28, 29 and 12 say
+back-by : (x y z : Bool) (c : ℕ) → Back (cond x (cond y (cond z (cents c) (turned 12 0)) (turned 29 0)) (turned 28 0))
+unfolding gotCharge
+back-by true true true c = refl
+back-by true true false c = refl
+back-by true false z c = refl
+back-by false y z c = refl
+
+charge-back : (s : State) (t : Tariff) → Back (chargeDef s t)
+unfolding chargeDef
+charge-back s t = back-by (bandsFit t) (pricesFit t) (goodState s) (centsOf t (s .totals .failed))
+
+pub charge-fixed : (s s′ : State) (t t′ : Tariff) → chargeNumber (chargeDef s t) ≡ chargeNumber (chargeDef s′ t′)
+    → chargePlace (chargeDef s t) ≡ chargePlace (chargeDef s′ t′) → chargeCents (chargeDef s t) ≡ chargeCents (chargeDef s′ t′)
+    → chargeDef s t ≡ chargeDef s′ t′
+charge-fixed s s′ t t′ n p c =
+    sym (charge-back s t)
+    ∙ (ap (λ x. gotCharge x (chargePlace (chargeDef s t)) (chargeCents (chargeDef s t))) n
+    ∙ (ap₂ (gotCharge (chargeNumber (chargeDef s′ t′))) p c
+    ∙ charge-back s′ t′))

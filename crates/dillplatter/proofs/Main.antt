@@ -4,7 +4,11 @@ use Rattle.rule.specs.declared.Reading.{Reading}
 use Rattle.log.specs.Earlier.{raiseTold, lowerTold}
 use Rattle.log.specs.declared.earlier.RaiseAnswer.{RaiseAnswer}
 use Rattle.log.specs.declared.earlier.LowerAnswer.{LowerAnswer}
+use Rattle.checker.specs.Tariff.{chargeDef}
+use Rattle.checker.specs.declared.State.{State}
+use Rattle.checker.specs.declared.Tariff.{Tariff}
 use Rattle.dillplatter.specs.Told.{Told, readTold, answerOf, numberOf, placeOf, framesOf, conversionNumber, conversionPlace}
+use Rattle.dillplatter.specs.Told.{chargeNumber, chargePlace, chargeCents}
 use Rattle.dillplatter.proofs.Fixed as fixed
 
 -- The four numbers fix the answer: no two answers of any calls have the same numbers.
@@ -23,3 +27,9 @@ raise-fixed = fixed.raise-fixed
 pub lower-fixed : (a b : LowerAnswer) → conversionNumber (lowerTold a) ≡ conversionNumber (lowerTold b)
     → conversionPlace (lowerTold a) ≡ conversionPlace (lowerTold b) → a ≡ b
 lower-fixed = fixed.lower-fixed
+
+-- The number, the place and the cents fix the answer to a charge.
+pub charge-fixed : (s s′ : State) (t t′ : Tariff) → chargeNumber (chargeDef s t) ≡ chargeNumber (chargeDef s′ t′)
+    → chargePlace (chargeDef s t) ≡ chargePlace (chargeDef s′ t′) → chargeCents (chargeDef s t) ≡ chargeCents (chargeDef s′ t′)
+    → chargeDef s t ≡ chargeDef s′ t′
+charge-fixed = fixed.charge-fixed

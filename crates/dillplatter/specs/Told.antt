@@ -7,6 +7,7 @@ use Rattle.log.specs.Earlier as log
 use Rattle.verdict.specs.declared.Truth.{Truth}
 use Rattle.verdict.specs.declared.Truth.the-variants.{True, False, Unknown}
 use Rattle.checker.specs.Answer.{Answer, opened, accepted, ignored, waiting, verdict, refused}
+use Rattle.checker.specs.Tariff.{Charge, cents, turned}
 
 -- an answer of any call: a text was read into so many frames, or an answer of the checker
 pub data Told : Type 0 where
@@ -64,3 +65,18 @@ conversionNumber (log.turned number place) = number
 abbrev pub conversionPlace : log.Answer → ℕ
 conversionPlace log.done = 0
 conversionPlace (log.turned number place) = place
+
+-- of a charge, which is cents or refused: the refusal's number, 0 where it is cents
+abbrev pub chargeNumber : Charge → ℕ
+chargeNumber (cents c) = 0
+chargeNumber (turned number place) = number
+
+-- the refusal's place, 0 where it is cents
+abbrev pub chargePlace : Charge → ℕ
+chargePlace (cents c) = 0
+chargePlace (turned number place) = place
+
+-- the cents, 0 where it is refused
+abbrev pub chargeCents : Charge → ℕ
+chargeCents (cents c) = c
+chargeCents (turned number place) = 0

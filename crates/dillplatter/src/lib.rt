@@ -1,8 +1,10 @@
-// The library for makers of controllers: the four calls of a checker, the view of a report and the converter of lines, as C has
-// them, answers as numbers. include/dillplatter.h declares them and says what each one does.
+// The library for makers of controllers: the four calls of a checker, the view of a report, the converter of lines and the charge
+// for rework, as C has them, answers as numbers. include/dillplatter.h declares them and says what each one does.
 mod told; // told.rt: answers as numbers
 
 use checker::State;
+use checker::Tariff;
+use told::ChargeResult;
 use told::ReadResult;
 ghost use mathlib.Core.Path.{_≡_};
 ghost use Rattle.rule.specs.Reading.{readOf};
@@ -11,8 +13,9 @@ ghost use Rattle.checker.specs.Open.{openDef};
 ghost use Rattle.checker.specs.Feed.{feedDef};
 ghost use Rattle.checker.specs.Pull.{pullDef};
 ghost use Rattle.checker.specs.View.{viewDef};
+ghost use Rattle.checker.specs.Tariff.{chargeDef};
 ghost use Rattle.dillplatter.specs.Told.{checked, readTold, answerOf, numberOf, placeOf, framesOf};
-ghost use Rattle.dillplatter.specs.Told.{conversionNumber, conversionPlace};
+ghost use Rattle.dillplatter.specs.Told.{conversionNumber, conversionPlace, chargeNumber, chargePlace, chargeCents};
 
 // The state that a call hands back, its answer, and the number and place of a refusal, 0 where nothing is refused.
 #[repr(C)]
@@ -152,4 +155,15 @@ pub extern "C" fn dillplatter_lower(line: &[u8]) -> LoweredLine
         place: lowering.place,
         line: old,
     }
+}
+
+// Charges the violations that a state counts, for every state and every tariff.
+#[no_mangle]
+pub extern "C" fn dillplatter_charge(state: State, tariff: Tariff) -> ChargeResult
+    ensures { λ r. ⌜ (r .number ≡ chargeNumber (chargeDef state tariff))
+        × ((r .place ≡ chargePlace (chargeDef state tariff))
+        × (r .cents ≡ chargeCents (chargeDef state tariff))) ⌝ }
+{
+    let a = checker::charge(state, tariff);
+    told::charging(a)
 }

@@ -1,4 +1,5 @@
 // Answers as numbers: which answer, and the number and place of a refusal.
+use checker::ChargeAnswer;
 use checker::FeedAnswer;
 use checker::OpenAnswer;
 use checker::PullAnswer;
@@ -10,7 +11,8 @@ ghost use mathlib.Core.Path.{_≡_};
 ghost use Rattle.log.specs.Earlier.{raiseTold, lowerTold};
 ghost use Rattle.checker.specs.Answer.{openTold, feedTold, pullTold, refused};
 ghost use Rattle.dillplatter.specs.Told.{checked, readTold, answerOf, numberOf, placeOf, framesOf};
-ghost use Rattle.dillplatter.specs.Told.{conversionNumber, conversionPlace};
+ghost use Rattle.checker.specs.Tariff.{chargeTold};
+ghost use Rattle.dillplatter.specs.Told.{conversionNumber, conversionPlace, chargeNumber, chargePlace, chargeCents};
 
 // The numbers of the answers, as include/dillplatter.h has them.
 const REFUSED: u32 = 0;
@@ -156,5 +158,32 @@ pub fn lowering(a: LowerAnswer) -> Conversion
             place: 0,
         },
         LowerAnswer::Wide(place) => Conversion { number: 25, place },
+    }
+}
+
+// What charging gives: the number and place of a refusal, 0 where nothing is refused, and the cents, 0 where it is refused.
+#[repr(C)]
+pub struct ChargeResult {
+    pub number: u32,
+    pub place: u32,
+    pub cents: u64,
+}
+
+// An answer to charging.
+pub fn charging(a: ChargeAnswer) -> ChargeResult
+    ensures { λ r. ⌜ (r .number ≡ chargeNumber (chargeTold a))
+        × ((r .place ≡ chargePlace (chargeTold a)) × (r .cents ≡ chargeCents (chargeTold a))) ⌝ }
+{
+    match a {
+        ChargeAnswer::Cents(cents) => ChargeResult {
+            number: 0,
+            place: 0,
+            cents,
+        },
+        ChargeAnswer::Refused(r) => ChargeResult {
+            number: r.number as u32,
+            place: r.place,
+            cents: 0,
+        },
     }
 }

@@ -1,0 +1,109 @@
+-- `checker::charging::charge` meets its contract. Assumes nothing.
+use mathlib.Core.Path.{_≡_, sym, _∙_, ap}
+use mathlib.Core.Bool.{true, false}
+use native.Mathlib.Omega.{arith}
+use borrow.Author.Needs.{needs}
+use Rattle.checker.specs.Good.{goodState}
+use Rattle.checker.specs.Tariff.{bandsFit, pricesFit, cents, chargeTold}
+use Rattle.checker.proofs.Charges.{rise-facts, charged-by, turned-28, turned-29, turned-12, failed-most}
+use Rattle.checker.proofs.charging.charge.Statement.{statement}
+use Rattle.checker.proofs.charging.charge.Tie as tie
+
+bands-fit-requires : tie.Need-bands-fit-requires
+bands-fit-requires c κs = search needs
+
+prices-fit-requires : tie.Need-prices-fit-requires
+prices-fit-requires c κs =
+    let b = c .before in
+    rise-facts (b .before .args .t) (sym (b .bands-fit .ensures) ∙ c .if1 .taken) .few
+
+rest-of-requires : tie.Need-rest-of-requires
+rest-of-requires c κs = search needs
+
+slice-aggregate-good : tie.Need-slice-aggregate-good
+slice-aggregate-good c = search needs
+
+good-requires : tie.Need-good-requires
+good-requires c κs = search needs
+
+cents-requires : tie.Need-cents-requires
+cents-requires c κs =
+    let r = c .before .before .before in
+    let p = r .before .before .before in
+    let b = p .before .before in
+    let a = b .before .args in
+    let bands : bandsFit (a .t) ≡ true = sym (b .bands-fit .ensures) ∙ p .before .if1 .taken in
+    let prices : pricesFit (a .t) ≡ true = sym (p .prices-fit .ensures) ∙ r .before .before .if2 .taken in
+    let good : goodState (a .state) ≡ true = sym (ap goodState (r .rest-of .ensures)) ∙ sym (c .before .good2 .ensures .0) ∙ c .if3 .taken in
+    (bands, (prices, omega (arith, failed-most (a .state) good)))
+
+refuse-requires : tie.Need-refuse-requires
+refuse-requires c κs = search needs
+
+refuse-requires-2 : tie.Need-refuse-requires-2
+refuse-requires-2 c κs = search needs
+
+refuse-requires-3 : tie.Need-refuse-requires-3
+refuse-requires-3 c κs = search needs
+
+-- charged
+returns : tie.Need-returns
+returns c =
+    let g = c .before .before in
+    let r = g .before .before in
+    let p = r .before .before .before in
+    let b = p .before .before in
+    let a = b .before .args in
+    let bands : bandsFit (a .t) ≡ true = sym (b .bands-fit .ensures) ∙ p .before .if1 .taken in
+    let prices : pricesFit (a .t) ≡ true = sym (p .prices-fit .ensures) ∙ r .before .before .if2 .taken in
+    let good : goodState (a .state) ≡ true = sym (ap goodState (r .rest-of .ensures)) ∙ sym (g .good2 .ensures .0) ∙ c .before .if3 .taken in
+    ap cents (c .cents .ensures) ∙ sym (charged-by (a .state) (a .t) bands prices good)
+
+-- 12
+returns-2 : tie.Need-returns-2
+returns-2 c =
+    let g = c .before .before in
+    let r = g .before .before in
+    let p = r .before .before .before in
+    let b = p .before .before in
+    let a = b .before .args in
+    let bands : bandsFit (a .t) ≡ true = sym (b .bands-fit .ensures) ∙ p .before .if1 .taken in
+    let prices : pricesFit (a .t) ≡ true = sym (p .prices-fit .ensures) ∙ r .before .before .if2 .taken in
+    let bad : goodState (a .state) ≡ false = sym (ap goodState (r .rest-of .ensures)) ∙ sym (g .good2 .ensures .0) ∙ c .before .if3 .left in
+    ap chargeTold (c .refuse .ensures) ∙ sym (turned-12 (a .state) (a .t) bands prices bad)
+
+-- 29
+returns-3 : tie.Need-returns-3
+returns-3 c =
+    let p = c .before .before in
+    let b = p .before .before in
+    let a = b .before .args in
+    let bands : bandsFit (a .t) ≡ true = sym (b .bands-fit .ensures) ∙ p .before .if1 .taken in
+    let prices : pricesFit (a .t) ≡ false = sym (p .prices-fit .ensures) ∙ c .before .if2 .left in
+    ap chargeTold (c .refuse2 .ensures) ∙ sym (turned-29 (a .state) (a .t) bands prices)
+
+-- 28
+returns-4 : tie.Need-returns-4
+returns-4 c =
+    let b = c .before .before in
+    let a = b .before .args in
+    let bands : bandsFit (a .t) ≡ false = sym (b .bands-fit .ensures) ∙ c .before .if1 .left in
+    ap chargeTold (c .refuse3 .ensures) ∙ sym (turned-28 (a .state) (a .t) bands)
+
+pub charge-spec : {M : Type 1} → statement M
+charge-spec =
+    tie.close
+    (tie.spec
+    bands-fit-requires
+    prices-fit-requires
+    rest-of-requires
+    slice-aggregate-good
+    good-requires
+    cents-requires
+    refuse-requires
+    refuse-requires-2
+    refuse-requires-3
+    returns
+    returns-2
+    returns-3
+    returns-4)
