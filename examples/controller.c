@@ -1,5 +1,6 @@
 /* A controller's loop over the library: reads a rule, opens a checker with a lent window, feeds each line as it comes, pulls
- * until the checker waits, says each violation in words, and hands the operator panel its view. docs/MAKERS.md explains it. */
+ * until the checker waits, says each violation in words, hands the operator panel its view, and charges rework before it lets a
+ * checker go. docs/MAKERS.md explains it. */
 #include <inttypes.h>
 #include <stdio.h>
 #include <string.h>
@@ -10,6 +11,9 @@
 static const char rule[] = "events down up; notes t; t(up[i]) - t(down[i]) <= 25";
 static const char *const events[] = {"down", "up"};
 static const char *const notes[] = {"t"};
+
+/* The service contract's rework tariff: 45 cents for each violation to the 10th, 30 to the 100th, 12 beyond, and 7 percent. */
+static const dillplatter_tariff tariff = {.bands = 2, .lasts = {10, 100}, .prices = {45, 30}, .beyond = 12, .surcharge = 7};
 
 /* How many lines of an event may come before the next instance's other lines do. */
 #define WIDTH 4
@@ -77,6 +81,21 @@ static void say_totals(void) {
            state.totals.failed, state.totals.unknown, state.next);
 }
 
+/* What the violations cost that this checker has found. */
+static void say_charge(void) {
+    dillplatter_charged charged = dillplatter_charge(state, tariff);
+    if (charged.number == DILLPLATTER_NO_REFUSAL)
+        printf("rework, violations %" PRIu32 ": %" PRIu64 " cents\n", state.totals.failed, charged.cents);
+    else
+        printf("charge refused with %" PRIu32 "\n", charged.number);
+}
+
+/* Before a checker is let go: a fresh one counts from 0 again, and begins with the first band. */
+static void finish(void) {
+    say_totals();
+    say_charge();
+}
+
 /* Opens a fresh checker for the rule that was read. */
 static int begin(void) {
     dillplatter_told told = dillplatter_open_at(&state, frames, frames_len, WIDTH, window, DILLPLATTER_WINDOW_WORDS(WIDTH));
@@ -97,7 +116,7 @@ static void take(const uint8_t *line, size_t len) {
     } else if (told.answer == DILLPLATTER_REFUSED) {
         printf("line refused with %" PRIu32 " at %" PRIu32 ", %s %" PRIu32 ", %s %" PRIu32 "; beginning anew\n", told.number, told.place,
                events[0], state.counts[0], events[1], state.counts[1]);
-        say_totals();
+        finish();
         begin();
     }
 }
@@ -137,6 +156,6 @@ int main(void) {
     happened_often(5, 0, 100, 1); /* the fifth down with no up finds the window full: 17 */
     happened_often(4, 0, 200, 1);
     happened_often(4, 1, 200, 10); /* the last of these is 27 units after its down: false */
-    say_totals();
+    finish();
     return 0;
 }

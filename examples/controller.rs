@@ -1,6 +1,6 @@
 //! The library from Rust, with nothing but rustc: reads a rule, opens a checker, feeds four lines and pulls after each; the
-//! operator panel sees the view of each report. The last two lines come from a table of the earlier edition, and are raised.
-//! host/ has a wrapper with types of its own; this shows the calls themselves.
+//! operator panel sees the view of each report. The last two lines come from a table of the earlier edition, and are raised. At
+//! the end rework is charged. host/ has a wrapper with types of its own; this shows the calls themselves.
 
 const WIDTH: usize = 64;
 
@@ -59,6 +59,22 @@ struct Lowered {
     line: [u8; 14],
 }
 
+#[repr(C)]
+struct Tariff {
+    bands: u32,
+    lasts: [u32; 4],
+    prices: [u32; 4],
+    beyond: u32,
+    surcharge: u32,
+}
+
+#[repr(C)]
+struct Charged {
+    number: u32,
+    place: u32,
+    cents: u64,
+}
+
 // Nothing checks these against the library: they are include/dillplatter.h, word for word.
 extern "C" {
     fn dillplatter_read(text: *const u8, text_len: usize, frames: *mut u8, frames_len: usize) -> Reading;
@@ -68,6 +84,7 @@ extern "C" {
     fn dillplatter_view(part: *mut Part) -> u32;
     fn dillplatter_raise(old_line: *const u8, old_len: usize) -> Raised;
     fn dillplatter_lower(line: *const u8, line_len: usize) -> Lowered;
+    fn dillplatter_charge(state: State, tariff: Tariff) -> Charged;
 }
 
 // A slice is a pointer and a length; the borrow checker sees to it that what is written overlaps nothing.
@@ -102,6 +119,10 @@ fn lower(line: &[u8]) -> Lowered {
     unsafe { dillplatter_lower(line.as_ptr(), line.len()) }
 }
 
+fn charge(state: State, tariff: Tariff) -> Charged {
+    unsafe { dillplatter_charge(state, tariff) }
+}
+
 // The log line of an old line. Lowered again, it is the old line in capitals.
 fn from_old(old: &[u8]) -> [u8; 34] {
     let raised = raise(old);
@@ -110,6 +131,14 @@ fn from_old(old: &[u8]) -> [u8; 34] {
     assert_eq!((lowered.number, lowered.place), (0, 0), "a raised line can be lowered");
     assert_eq!(&lowered.line, old.to_ascii_uppercase().as_slice());
     raised.line
+}
+
+// What the violations cost that this checker has found: 45 cents each to the 10th, 30 to the 100th, 12 beyond, and 7 percent. The
+// entries of bands that there are not are not looked at.
+fn say_charge(state: State) {
+    let charged = charge(state, Tariff { bands: 2, lasts: [10, 100, 0, 0], prices: [45, 30, 0, 0], beyond: 12, surcharge: 7 });
+    assert_eq!((charged.number, charged.place), (0, 0), "the tariff and the state are good");
+    println!("rework, violations {}: {} cents", state.totals.failed, charged.cents);
 }
 
 fn say_false(instance: u32, report: &[u8]) {
@@ -138,6 +167,7 @@ fn pull_all(mut state: State, window: &[i32], report: &mut [u8]) -> State {
 fn main() {
     assert_eq!((std::mem::size_of::<State>(), std::mem::size_of::<Outcome>(), std::mem::size_of::<Part>()), (568, 580, 16));
     assert_eq!((std::mem::size_of::<Raised>(), std::mem::size_of::<Lowered>()), (44, 24));
+    assert_eq!((std::mem::size_of::<Tariff>(), std::mem::size_of::<Charged>()), (44, 16));
     let (mut frames, mut window, mut report) = ([0u8; 512], [0i32; 32 * WIDTH], [0u8; 166]);
     let reading = read(b"events in out; notes t; t(out[i]) - t(in[i]) <= 25", &mut frames);
     if reading.answer != 1 {
@@ -159,4 +189,5 @@ fn main() {
         state = pull_all(fed.state, &window, &mut report);
     }
     println!("true {}, false {}, unknown {}", state.totals.held, state.totals.failed, state.totals.unknown);
+    say_charge(state);
 }

@@ -1,5 +1,6 @@
 /* Counts the bytes that each call of the library copies by memcpy, whatever it answers. The library is linked with its memcpy
  * renamed, so that copies of the caller's own do not count. Fails where a call copies more than docs/DECISIONS.md says. */
+#include <inttypes.h>
 #include <stdio.h>
 #include <string.h>
 
@@ -10,6 +11,9 @@
 
 /* The frames, once to be lent and once into the result. */
 #define MOST (2 * DILLPLATTER_FRAME_BUFFER)
+
+/* Charging gives no state back: the frames, once to be lent. */
+#define MOST_CHARGING DILLPLATTER_FRAME_BUFFER
 
 /* What takes the place of the library's memcpy. */
 void *__wrap_memcpy(void *to, const void *from, size_t len);
@@ -27,6 +31,7 @@ static int32_t window[WORDS];
 static dillplatter_result result;
 static dillplatter_raised raised;
 static dillplatter_lowered lowered;
+static dillplatter_charged charged;
 
 static void note(void) {
     if (most_copied < copied)
@@ -80,6 +85,23 @@ static int conversions_copy(void) {
     return copied != 0;
 }
 
+/* A charge by a tariff of so many bands and this surcharge: whether it answers otherwise, or copies more than it may. */
+static int charge_copies(dillplatter_state state, uint32_t bands, uint32_t surcharge, uint32_t want) {
+    const dillplatter_tariff tariff = {bands, {1, 2, 3, 4}, {45, 30, 12, 0}, 1, surcharge};
+    copied = 0;
+    charged = dillplatter_charge(state, tariff);
+    printf("charge, number %" PRIu32 ": %zu bytes copied, at most %d\n", charged.number, copied, MOST_CHARGING);
+    return charged.number != want || copied > MOST_CHARGING;
+}
+
+/* Charges, done and refused with 28, 29 and 12. */
+static int charges_copy(void) {
+    dillplatter_state bad = result.state;
+    bad.next++;
+    return charge_copies(result.state, 4, 7, DILLPLATTER_NO_REFUSAL) || charge_copies(bad, 4, 7, DILLPLATTER_BAD_STATE) ||
+           charge_copies(bad, 5, 101, DILLPLATTER_TARIFF_BANDS) || charge_copies(bad, 4, 101, DILLPLATTER_TARIFF_PRICES);
+}
+
 /* Lines and pulls of every answer; the first pull of each rule is of an instance that is not settled. */
 static void run(void) {
     pull(sizeof report);
@@ -102,5 +124,5 @@ int main(void) {
     for (int answer = DILLPLATTER_REFUSED; answer <= DILLPLATTER_UNKNOWN; answer++)
         good &= answer == DILLPLATTER_READ || seen[answer];
     printf("open, feed, pull: %zu bytes copied, at most %d\n", most_copied, MOST);
-    return !(good && most_copied <= MOST) || views_copy() || conversions_copy();
+    return !(good && most_copied <= MOST) || views_copy() || conversions_copy() || charges_copy();
 }

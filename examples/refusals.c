@@ -1,5 +1,5 @@
 /* Every refusal of the library once, by its name in the header: what provokes it, its number and its place. Fails where a refused
- * call wrote to lent memory or handed back another state or line than it should. */
+ * call wrote to lent memory or handed back another state, line or price than it should. Then what some violations cost. */
 #include <inttypes.h>
 #include <stdio.h>
 #include <string.h>
@@ -11,6 +11,9 @@
 
 static const char good_rule[] = "events a b; notes t; t(a[i]) > t(b[i])";
 static const char one_event[] = "events a; notes t; t(a[i]) > 0";
+
+/* 45 cents to 10, 30 to 100, 12 beyond and 7 percent. */
+static const dillplatter_tariff good_tariff = {2, {10, 100, 0, 0}, {45, 30, 0, 0}, 12, 7};
 
 /* Lent memory: at the start of each call it is filled with 7, or is what the call before left. */
 static uint8_t frames[DILLPLATTER_FRAME_BUFFER], report[DILLPLATTER_REPORT_BYTES], text[DILLPLATTER_TEXT_MOST + 1];
@@ -104,6 +107,20 @@ static void refuse_lower(const char *what, uint32_t want, const char *line) {
     expect(all_are(0, r.line, sizeof r.line), "a refused line gives zero bytes");
 }
 
+static void refuse_charge(const char *what, uint32_t want, dillplatter_state s, dillplatter_tariff tariff) {
+    dillplatter_charged r = dillplatter_charge(s, tariff);
+    say_number(what, want, r.number, r.place);
+    expect(r.cents == 0, "a refused charge has 0 cents");
+}
+
+/* A charge that is not refused. */
+static void costs(dillplatter_state s, dillplatter_tariff tariff, uint64_t cents) {
+    dillplatter_charged r = dillplatter_charge(s, tariff);
+    printf("%" PRIu32 " violations cost %" PRIu64 " cents\n", s.totals.failed, r.cents);
+    expect(r.number == DILLPLATTER_NO_REFUSAL && r.place == 0, "violations are charged");
+    expect(r.cents == cents, "violations cost what the tariff says");
+}
+
 /* Old lines and log lines that are not refused: up and then down, and down and then up. */
 static void up_and_down(const char *old_line, const char *up, const char *down) {
     dillplatter_raised raised = dillplatter_raise((const uint8_t *)old_line, strlen(old_line));
@@ -134,9 +151,9 @@ static void open_good(const char *rule) {
     expect(dillplatter_open_at(&state, frames, frames_len, WIDTH, window, WORDS).answer == DILLPLATTER_OPENED, "opened");
 }
 
-/* Lines of event 0, and a pull after each. */
-static void feed_many(int n) {
-    const int32_t notes[4] = {1, 0, 0, 0};
+/* Lines of event 0 with this note, and a pull after each. */
+static void feed_many(int n, int32_t note) {
+    const int32_t notes[4] = {note, 0, 0, 0};
     uint8_t line[DILLPLATTER_LINE_BYTES];
     dillplatter_line(line, 0, notes);
     for (int k = 0; k < n; k++) {
@@ -179,10 +196,10 @@ static void running(void) {
     expect(dillplatter_view(&none) == DILLPLATTER_REPORT_SIZE && !none.bytes && none.len == 0, "no memory has no view");
     refuse_feed("a line with a letter past f", DILLPLATTER_BAD_LINE, state, WORDS, "00000000fg000000000000000000000000");
     refuse_feed("a line of 33 digits", DILLPLATTER_BAD_LINE, state, WORDS, line + 1);
-    feed_many(WIDTH);
+    feed_many(WIDTH, 1);
     refuse_feed("a fifth line with W 4 and no partner", DILLPLATTER_WINDOW_FULL, state, WORDS, line);
     open_good(one_event);
-    feed_many(1000000);
+    feed_many(1000000, 1);
     refuse_feed("line 1,000,000 of an event", DILLPLATTER_LINES_MOST, state, WORDS, line);
 }
 
@@ -199,10 +216,74 @@ static void converting(void) {
     down_and_up("fe00007fFFffff8000FfffffFe00000000", "FE7FFF8000FFFE", "FE00007FFFFFFF8000FFFFFFFE00000000");
 }
 
+/* Each way of 28 and of 29. */
+static void bad_tariffs(void) {
+    enum { dear = DILLPLATTER_PRICE_MOST + 1, much = DILLPLATTER_SURCHARGE_MOST + 1 };
+    static const struct {
+        const char *what;
+        uint32_t want;
+        dillplatter_tariff tariff;
+    } bad[] = {
+        {"five bands", DILLPLATTER_TARIFF_BANDS, {DILLPLATTER_BANDS_MOST + 1, {1, 2, 3, 4}, {45, 30, 0, 0}, 12, 7}},
+        {"a first band to 0", DILLPLATTER_TARIFF_BANDS, {2, {0, 100, 0, 0}, {45, 30, 0, 0}, 12, 7}},
+        {"two bands to 100", DILLPLATTER_TARIFF_BANDS, {4, {1, 10, 100, 100}, {45, 30, 0, 0}, 12, 7}},
+        {"a band to 100, then one to 10", DILLPLATTER_TARIFF_BANDS, {2, {100, 10, 0, 0}, {45, 30, 0, 0}, 12, 7}},
+        {"a band to 1,010,001", DILLPLATTER_TARIFF_BANDS, {2, {10, DILLPLATTER_LAST_MOST + 1, 0, 0}, {45, 30, 0, 0}, 12, 7}},
+        {"a price of 10,001 cents", DILLPLATTER_TARIFF_PRICES, {4, {1, 2, 3, 4}, {45, 30, 0, dear}, 12, 7}},
+        {"a price beyond of 10,001 cents", DILLPLATTER_TARIFF_PRICES, {2, {10, 100, 0, 0}, {45, 30, 0, 0}, dear, 7}},
+        {"a surcharge of 101 percent", DILLPLATTER_TARIFF_PRICES, {2, {10, 100, 0, 0}, {45, 30, 0, 0}, 12, much}},
+    };
+    for (size_t k = 0; k < sizeof bad / sizeof *bad; k++)
+        refuse_charge(bad[k].what, bad[k].want, state, bad[k].tariff);
+}
+
+/* 28 comes before 29, and both before 12. */
+static void charging(void) {
+    dillplatter_tariff tariff = good_tariff;
+    dillplatter_state changed;
+    open_good(one_event);
+    bad_tariffs();
+    refuse_charge("a state that is zero throughout, charged", DILLPLATTER_BAD_STATE, zero, tariff);
+    changed = state;
+    changed.totals.failed++;
+    refuse_charge("a false total of 1 before the first verdict", DILLPLATTER_BAD_STATE, changed, tariff);
+    tariff.surcharge = 101;
+    refuse_charge("that surcharge, with a state that is zero throughout", DILLPLATTER_TARIFF_PRICES, zero, tariff);
+    tariff.bands = 5;
+    refuse_charge("five bands too", DILLPLATTER_TARIFF_BANDS, zero, tariff);
+}
+
+/* Violations to the end of a band and beyond it, with halves of a cent; then the most that 12 lets pass. */
+static void costing(void) {
+    enum { most = DILLPLATTER_PRICE_MOST };
+    const dillplatter_tariff no_band = {0, {1010001, 1010001, 0, 0}, {10001, 10001, 0, 0}, most, 0};
+    const dillplatter_tariff dearest = {
+        DILLPLATTER_BANDS_MOST, {1, 2, 3, DILLPLATTER_LAST_MOST}, {most, most, most, most}, most, DILLPLATTER_SURCHARGE_MOST};
+    open_good(one_event);
+    feed_many(3, 1);
+    costs(state, good_tariff, 0);
+    feed_many(10, 0);
+    costs(state, good_tariff, 482); /* 481.5, rounded half up */
+    feed_many(2, 0);
+    costs(state, good_tariff, 546); /* 545.7 */
+    feed_many(88, 0);
+    costs(state, good_tariff, 3371); /* 3,370.5 */
+    feed_many(1, 0);
+    costs(state, good_tariff, 3383); /* 3,383.34, rounded once: a sum for each band, rounded, would make 3,384 */
+    costs(state, no_band, 1010000);
+    state.next = state.totals.failed = 1009999;
+    state.totals.held = 0;
+    costs(state, dearest, 20199980000);
+    state.next = state.totals.failed = 1010000;
+    refuse_charge("1,010,000 violations", DILLPLATTER_BAD_STATE, state, dearest);
+}
+
 int main(void) {
     reading();
     opening();
     running();
     converting();
+    charging();
+    costing();
     return wrong;
 }

@@ -1,6 +1,6 @@
-/* Measures how much stack each call of the library takes, over texts, frames, lines and states that take the most: each call runs
- * on a stack of its own that was painted before, and the lowest byte that lost its paint is looked up after. Fails where a call
- * takes more than docs/MAKERS.md promises. */
+/* Measures how much stack each call of the library takes, over texts, frames, lines, states and tariffs that take the most: each
+ * call runs on a stack of its own that was painted before, and the lowest byte that lost its paint is looked up after. Fails where
+ * a call takes more than docs/MAKERS.md promises. */
 #define _XOPEN_SOURCE 700
 #include <stdio.h>
 #include <string.h>
@@ -27,6 +27,8 @@ static dillplatter_result result;
 static dillplatter_part part;
 static dillplatter_raised raised;
 static dillplatter_lowered lowered;
+static dillplatter_tariff tariff;
+static dillplatter_charged charged;
 
 static void nothing(void) {}
 static void do_read(void) { reading = dillplatter_read(text, text_len, frames, sizeof frames); }
@@ -36,6 +38,7 @@ static void do_pull(void) { result = dillplatter_pull(result.state, window, WORD
 static void do_view(void) { dillplatter_view(&part); }
 static void do_raise(void) { raised = dillplatter_raise(given, given_len); }
 static void do_lower(void) { lowered = dillplatter_lower(given, given_len); }
+static void do_charge(void) { charged = dillplatter_charge(result.state, tariff); }
 
 /* The bytes of stack that a function takes. */
 static size_t taken(void (*call)(void)) {
@@ -157,13 +160,33 @@ static void converting_most(size_t *raising, size_t *lowering) {
         more(lowering, converting(do_lower, lines[k]));
 }
 
+/* Charging what was pulled, and with 28, 29 and 12. Whether each answers so. */
+static int charging_most(size_t *charging) {
+    static const dillplatter_tariff good = {4, {1, 2, 3, 4}, {10000, 1, 9999, 0}, 10000, 100};
+    static const uint32_t numbers[] = {DILLPLATTER_NO_REFUSAL, DILLPLATTER_TARIFF_BANDS, DILLPLATTER_TARIFF_PRICES,
+                                       DILLPLATTER_BAD_STATE};
+    int as_wanted = 1;
+    for (size_t k = 0; k < sizeof numbers / sizeof *numbers; k++) {
+        tariff = good;
+        if (numbers[k] == DILLPLATTER_TARIFF_BANDS)
+            tariff.lasts[3] = 3;
+        if (numbers[k] == DILLPLATTER_TARIFF_PRICES)
+            tariff.surcharge = 101;
+        if (numbers[k] == DILLPLATTER_BAD_STATE)
+            result.state.next++;
+        more(charging, cost(do_charge));
+        as_wanted &= charged.number == numbers[k];
+    }
+    return as_wanted;
+}
+
 static int within(const char *name, size_t bytes, size_t limit) {
     printf("%s: %zu bytes, at most %zu\n", name, bytes, limit);
     return bytes <= limit;
 }
 
 int main(void) {
-    size_t opening, feeding = 0, pulling = 0, raising = 0, lowering = 0;
+    size_t opening, feeding = 0, pulling = 0, raising = 0, lowering = 0, charging = 0;
     int good = within("read, any text", reading_most(sizeof text), 1200000);
     good &= within("read, depth at most 16", reading_most(16), 40960);
     if (!widest())
@@ -178,6 +201,8 @@ int main(void) {
     converting_most(&raising, &lowering);
     good &= within("raise", raising, 512);
     good &= within("lower", lowering, 512);
+    good &= charging_most(&charging);
+    good &= within("charge", charging, 8192);
     good &= result.state.totals.held > 0 && result.state.totals.failed > 0;
     return !good;
 }

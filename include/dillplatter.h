@@ -3,13 +3,14 @@
  * A rule's text is read into frames (dillplatter_read), frames open a checker (dillplatter_open), log lines are fed to it
  * (dillplatter_feed) and verdicts are pulled from it (dillplatter_pull). Of a violation's report an operator panel gets the view
  * (dillplatter_view). Lines of the earlier edition, with 14 digits, are raised to log lines (dillplatter_raise), and log lines are
- * lowered to them where nothing is lost (dillplatter_lower). docs/RULES.md teaches rules, docs/MAKERS.md shows how to link, how
- * much memory to lend and what to do on each refusal.
+ * lowered to them where nothing is lost (dillplatter_lower). Rework is charged by the number of violations and the tariff of a
+ * service contract (dillplatter_charge). docs/RULES.md teaches rules, docs/MAKERS.md shows how to link, how much memory to lend and
+ * what to do on each refusal.
  *
  * For every argument each call ends, and answers as its proved contract says; a refusal changes nothing, but that a refused view
  * is an empty part. The library has no memory of its own and allocates none: what a checker carries from call to call is the state,
  * by value, and the window, which the caller lends. So calls on different checkers may run at the same time. Raising and lowering
- * take no checker, and nothing is kept between them.
+ * take no checker, and nothing is kept between them. Of a checker charging takes the state only, and changes nothing.
  *
  * What the caller keeps to, and nobody checks:
  * - a pointer and a length stand for that many elements that may be read, and written where the pointer is not to const; the
@@ -57,10 +58,22 @@ extern "C" {
 /* Bytes of a view: the first so many of a report. */
 #define DILLPLATTER_VIEW_BYTES 5
 
+/* A tariff has 0 to so many bands. */
+#define DILLPLATTER_BANDS_MOST 4
+
+/* The last number of a band is 1 to so many. */
+#define DILLPLATTER_LAST_MOST 1010000
+
+/* A price is 0 to so many cents. */
+#define DILLPLATTER_PRICE_MOST 10000
+
+/* A surcharge is 0 to so many percent. */
+#define DILLPLATTER_SURCHARGE_MOST 100
+
 /* ---- answers and refusals ---- */
 
-/* The field `answer` of what read, open, feed and pull give. View, raise and lower have none: they are refused where their number
- * is not 0. */
+/* The field `answer` of what read, open, feed and pull give. View, raise, lower and charge have none: they are refused where their
+ * number is not 0. */
 enum dillplatter_answer {
     DILLPLATTER_REFUSED = 0,  /* any of them: `number` and `place` say why and where; lent memory is unchanged */
     DILLPLATTER_READ = 1,     /* read: the buffer holds the frames */
@@ -91,9 +104,9 @@ enum dillplatter_refusal {
     DILLPLATTER_FRAMES_ORDER = 10, /* open: not a rule in postfix order with fields within the limits; place: the first frame that
                                       does not fit, the number of frames if only the end is wrong */
     DILLPLATTER_WINDOW_WIDTH = 11, /* open: W outside 1 to 256, or a window not 32 * W words */
-    DILLPLATTER_BAD_STATE = 12,    /* feed, pull: a state whose frames or W open would refuse, a count over 1,000,000, `next` over
-                                      1,009,999, totals that do not sum to `next`, a count other than 0 of an event that the
-                                      rule does not reference, or a count above that event's base plus W */
+    DILLPLATTER_BAD_STATE = 12,    /* feed, pull, charge: a state whose frames or W open would refuse, a count over 1,000,000,
+                                      `next` over 1,009,999, totals that do not sum to `next`, a count other than 0 of an event that
+                                      the rule does not reference, or a count above that event's base plus W */
     DILLPLATTER_WINDOW_SIZE = 13,  /* feed, pull: a window not 32 * W words, with the W of the state */
     DILLPLATTER_REPORT_SIZE = 14,  /* pull, view: a report buffer under 166 bytes */
     DILLPLATTER_BAD_LINE = 15,     /* feed, lower: not 34 digits 0-9, A-F or a-f; place: the lower of the first byte that is none
@@ -105,8 +118,11 @@ enum dillplatter_refusal {
     DILLPLATTER_BAD_OLD_LINE = 23, /* raise: not 14 digits 0-9, A-F or a-f; place: the lower of the first byte that is none and the
                                       shorter of the length and 14 */
     DILLPLATTER_FOURTH_NOTE = 24,  /* lower: a fourth note other than 0 */
-    DILLPLATTER_WIDE_NOTE = 25     /* lower: one of the first three notes that 16 bits can't hold, so one below -32,768 or above
+    DILLPLATTER_WIDE_NOTE = 25,    /* lower: one of the first three notes that 16 bits can't hold, so one below -32,768 or above
                                       32,767; place: the first digit of the first such note, 2, 10 or 18 */
+    DILLPLATTER_TARIFF_BANDS = 28, /* charge: more than four bands, or last numbers that don't rise strictly from above 0 or exceed
+                                      1,010,000 */
+    DILLPLATTER_TARIFF_PRICES = 29 /* charge: a price over 10,000 or a surcharge over 100 */
 };
 
 /* ---- what calls take and give ---- */
@@ -163,6 +179,23 @@ typedef struct dillplatter_lowered {
     uint8_t line[DILLPLATTER_OLD_LINE_BYTES]; /* the old line, in capitals; bytes of value 0 if refused */
 } dillplatter_lowered;
 
+/* The rework tariff of a service contract, which dillplatter_charge takes. Of `lasts` and `prices` the first `bands` entries count;
+ * the others are not looked at. */
+typedef struct dillplatter_tariff {
+    uint32_t bands;                          /* how many bands there are, 0 to 4 */
+    uint32_t lasts[DILLPLATTER_BANDS_MOST];  /* the last number of each band, rising strictly, 1 to 1,010,000 */
+    uint32_t prices[DILLPLATTER_BANDS_MOST]; /* the price of each violation in the band, in cents, 0 to 10,000 */
+    uint32_t beyond;                         /* the price of each violation after the last band, in cents, 0 to 10,000 */
+    uint32_t surcharge;                      /* in percent, 0 to 100 */
+} dillplatter_tariff;
+
+/* What dillplatter_charge gives. */
+typedef struct dillplatter_charged {
+    uint32_t number; /* the refusal's, else 0 */
+    uint32_t place;  /* 0: none of its refusals names one */
+    uint64_t cents;  /* what the violations cost; 0 if refused */
+} dillplatter_charged;
+
 /* ---- the calls ---- */
 
 /* Reads a rule's text.
@@ -177,7 +210,7 @@ dillplatter_reading dillplatter_read(const uint8_t *text, size_t text_len, uint8
  * copied into the state, and are checked whether or not they come from dillplatter_read.
  * Answers: opened; or refused with 9, 10, 7, 8 or 11, checked in this order.
  * Gives: where opened, the state of a fresh checker: no line, instance 0 next. Where refused, the state that is zero throughout,
- * which feed and pull refuse with 12.
+ * which feed, pull and charge refuse with 12.
  * Writes: where opened, all words of `window`, to 0. Where refused, none.
  * Memory: `frames` is only read, and not needed after the call. The window stays the caller's; between the calls on this checker
  * nobody may change it. They must not overlap. */
@@ -236,6 +269,23 @@ dillplatter_raised dillplatter_raise(const uint8_t *old_line, size_t old_len);
  * Writes: no lent byte.
  * Memory: `line` is only read, and not needed after the call. */
 dillplatter_lowered dillplatter_lower(const uint8_t *line, size_t line_len);
+
+/* Charges rework: tells what the violations that a checker has found cost by a tariff. Their count is `state.totals.failed`.
+ * The price of violation k, from 1, is that of the first band whose last number is at least k, else the price beyond. With no band
+ * at all, each has the price beyond. The prices of all violations are summed, the surcharge is added, which makes
+ * sum * (100 + surcharge) / 100, and this is rounded half up to the cent, once. With 45 cents to 10, 30 to 100, 12 beyond and
+ * 7 percent, 12 violations cost 546 cents. More violations never cost less.
+ * Answers: `number` DILLPLATTER_NO_REFUSAL; or refused with 28, 29 or 12, checked in this order. None of these has a place.
+ * Gives: where not refused, the cents, at most 20,199,980,000, which 32 bits do not hold. Where refused, 0 cents; violations may
+ * cost 0 cents too, so look at `number`.
+ * Writes: no lent byte.
+ * Memory: none is lent. The state is only read, and serves the next call.
+ *
+ * What a controller has to see to: the count is that of all violations since the checker was opened, so one that charges twice
+ * charges the earlier violations twice. A fresh checker, such as one opened after a refused line, begins at 0 again: charge each
+ * checker before it is let go; the bands begin anew with each. Where a contract has bands that go on over several checkers, the
+ * controller adds their counts and computes the price itself. */
+dillplatter_charged dillplatter_charge(dillplatter_state state, dillplatter_tariff tariff);
 
 /* ---- the same with a pointer to the state ----
  * Each replaces *state by the state that the call gives back, and returns the rest. After a refused opening *state is zero
@@ -347,6 +397,16 @@ DILLPLATTER_HOLDS(sizeof(dillplatter_lowered) == 24);
 DILLPLATTER_HOLDS(offsetof(dillplatter_lowered, number) == 0);
 DILLPLATTER_HOLDS(offsetof(dillplatter_lowered, place) == 4);
 DILLPLATTER_HOLDS(offsetof(dillplatter_lowered, line) == 8);
+DILLPLATTER_HOLDS(sizeof(dillplatter_tariff) == 44);
+DILLPLATTER_HOLDS(offsetof(dillplatter_tariff, bands) == 0);
+DILLPLATTER_HOLDS(offsetof(dillplatter_tariff, lasts) == 4);
+DILLPLATTER_HOLDS(offsetof(dillplatter_tariff, prices) == 20);
+DILLPLATTER_HOLDS(offsetof(dillplatter_tariff, beyond) == 36);
+DILLPLATTER_HOLDS(offsetof(dillplatter_tariff, surcharge) == 40);
+DILLPLATTER_HOLDS(sizeof(dillplatter_charged) == 16);
+DILLPLATTER_HOLDS(offsetof(dillplatter_charged, number) == 0);
+DILLPLATTER_HOLDS(offsetof(dillplatter_charged, place) == 4);
+DILLPLATTER_HOLDS(offsetof(dillplatter_charged, cents) == 8);
 DILLPLATTER_HOLDS(sizeof(size_t) == 8 && sizeof(void *) == 8);
 
 #undef DILLPLATTER_HOLDS
