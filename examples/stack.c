@@ -202,7 +202,7 @@ int main(void) {
     good &= within("raise", raising, 512);
     good &= within("lower", lowering, 512);
     good &= charging_most(&charging);
-    good &= within("charge", charging, 8192);
+    good &= within("charge", charging, 4096);
     good &= result.state.totals.held > 0 && result.state.totals.failed > 0;
     return !good;
 }
