@@ -12,8 +12,8 @@
 /* The frames, once to be lent and once into the result. */
 #define MOST (2 * DILLPLATTER_FRAME_BUFFER)
 
-/* Charging gives no state back: the state, once to be lent. */
-#define MOST_CHARGING sizeof(dillplatter_state)
+/* Charging gives no state back: the frames, once to be lent. */
+#define MOST_CHARGING DILLPLATTER_FRAME_BUFFER
 
 /* What takes the place of the library's memcpy. */
 void *__wrap_memcpy(void *to, const void *from, size_t len);
@@ -90,7 +90,7 @@ static int charge_copies(dillplatter_state state, uint32_t bands, uint32_t surch
     const dillplatter_tariff tariff = {bands, {1, 2, 3, 4}, {45, 30, 12, 0}, 1, surcharge};
     copied = 0;
     charged = dillplatter_charge(state, tariff);
-    printf("charge, number %" PRIu32 ": %zu bytes copied, at most %zu\n", charged.number, copied, MOST_CHARGING);
+    printf("charge, number %" PRIu32 ": %zu bytes copied, at most %d\n", charged.number, copied, MOST_CHARGING);
     return charged.number != want || copied > MOST_CHARGING;
 }
 

@@ -13,7 +13,9 @@ use lib.IntN.{ℤ}
 use Rattle.numbers.proofs.Bools.{true-false, and-true, true-and}
 use Rattle.verdict.specs.Found.{instanceLimit}
 use Rattle.verdict.specs.declared.Truth.the-variants.{False}
-use Rattle.checker.specs.Good.{goodState}
+use Rattle.rule.specs.Check.{checkedOf}
+use Rattle.checker.specs.State.{zeroState}
+use Rattle.checker.specs.Good.{goodRule, goodState}
 use Rattle.checker.specs.Calls.{Call}
 use Rattle.checker.specs.Demand.{Unrefused, fresh, countIn, checkerAfter, machineAfter, handedOut}
 use Rattle.checker.specs.Tariff.{bandLimit, lastLimit, priceLimit, surchargeLimit}
@@ -191,6 +193,11 @@ pub charge-refused : (s : State) (t : Tariff) (number place : ℕ) → (chargeDe
 unfolding chargeDef
 charge-refused s t number place =
     (refused-by s t (bandsFit t) (pricesFit t) (goodState s) (centsOf t (s .totals .failed)) number place refl refl refl, refused-back s t number place)
+
+-- the state that a refused opening hands back
+pub zero-charge : (t : Tariff) → BandsRise t → PricesInRange t → chargeDef zeroState t ≡ turned 12 0
+unfolding goodState goodRule checkedOf
+zero-charge t r p = turned-12 zeroState t (rise-fits t r) (range-fits t p) refl
 
 -- ---- the greatest charge
 cents-most : (t : Tariff) → Fits t → (n : ℕ) → n ≤ instanceLimit → centsOf t n ≤ instanceLimit * priceLimit * 2

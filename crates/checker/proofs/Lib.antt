@@ -18,6 +18,7 @@ mod Exactly
 mod Unchanged
 mod Marked
 mod ViewExamples
+mod TariffExamples
 mod Prices
 mod Charges
 mod CodeCopy

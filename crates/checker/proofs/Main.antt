@@ -19,7 +19,7 @@ use Rattle.rule.specs.declared.Reading.the-variants as reading
 use Rattle.log.specs.Line.{lineOf}
 use Rattle.log.specs.Line as log
 use Rattle.log.proofs.Main.{zeros-refused, empty-refused}
-use Rattle.verdict.specs.Found.{foundIn}
+use Rattle.verdict.specs.Found.{instanceLimit, foundIn}
 use Rattle.verdict.specs.Value.{value}
 use Rattle.verdict.specs.Settled.{settled, judgement}
 use Rattle.verdict.specs.Settled as settling
@@ -37,11 +37,13 @@ use Rattle.checker.specs.Feed.{feedDef}
 use Rattle.checker.specs.Pull.{pullDef}
 use Rattle.checker.specs.Calls.{Call, Out, outs, checker}
 use Rattle.checker.specs.Machine.{atFirst, tallyOf, machineFor}
-use Rattle.checker.specs.Demand.{Unrefused, fresh, answerOf, span, totalsOf, checkerAfter, machineAfter, handedOut, ThirdDemand, acceptedIn, Reordered}
+use Rattle.checker.specs.Demand.{Unrefused, fresh, answerOf, span, countIn, totalsOf, checkerAfter, machineAfter, handedOut, ThirdDemand, acceptedIn, Reordered}
 use Rattle.checker.specs.Demand.{reportsOut, Reported, ReportedTwice}
 use Rattle.checker.specs.View.{viewDef, viewsOut, reportedOut, seen}
 use Rattle.checker.specs.Earlier.{RaisedLog}
+use Rattle.checker.specs.Tariff.{priceLimit, bandsOf, priceSum, centsOf, cents, turned, chargeDef, BandsRise, PricesInRange, ChargeRefused}
 use Rattle.checker.specs.declared.State.{State}
+use Rattle.checker.specs.declared.Tariff.{Tariff}
 use Rattle.checker.proofs.Lists
 use Rattle.checker.proofs.Final
 use Rattle.checker.proofs.Sums
@@ -53,6 +55,9 @@ use Rattle.checker.proofs.Order
 use Rattle.checker.proofs.Reports
 use Rattle.checker.proofs.Views
 use Rattle.checker.proofs.Earlier
+use Rattle.checker.proofs.Charges
+use Rattle.checker.proofs.TariffExamples.{state, example}
+use Rattle.checker.proofs.TariffExamples
 use Rattle.checker.proofs.Unchanged
 use Rattle.checker.proofs.GoodStays
 
@@ -192,6 +197,48 @@ zeros-named = zeros-refused
 
 pub empty-named : lineOf [] ≡ log.refused 15 0
 empty-named = empty-refused
+
+-- ---- document 02, point 13: charging, whatever the state and the tariff
+-- cents exactly where 28, 29 and 12 let both through, and then what the false total costs
+pub charges-exactly : (s : State) (t : Tariff) (c : ℕ) → (chargeDef s t ≡ cents c)
+    ↔ (BandsRise t × (PricesInRange t × ((goodState s ≡ true) × (c ≡ centsOf t (s .totals .failed)))))
+charges-exactly = Charges.charges-exactly
+
+-- else the first of 28, 29 and 12 that holds, and no place
+pub charge-refused : (s : State) (t : Tariff) (number place : ℕ) → (chargeDef s t ≡ turned number place) ↔ ChargeRefused s t number place
+charge-refused = Charges.charge-refused
+
+-- "More violations never cost less": by every tariff, those that 28 and 29 let through among them
+pub more-never-less : (t : Tariff) (m n : ℕ) → m ≤ n → centsOf t m ≤ centsOf t n
+more-never-less = Charges.more
+
+-- so it is of any two states that are charged by one tariff
+pub more-never-less-charged : (s s′ : State) (t : Tariff) (c c′ : ℕ) → chargeDef s t ≡ cents c → chargeDef s′ t ≡ cents c′
+    → s .totals .failed ≤ s′ .totals .failed → c ≤ c′
+more-never-less-charged = Charges.more-charged
+
+-- the most that is charged, 20,199,980,000 cents: 1,009,999 violations, 10,000 cents each, doubled
+pub cents-bound : (s : State) (t : Tariff) (c : ℕ) → chargeDef s t ≡ cents c → c ≤ instanceLimit * priceLimit * 2
+cents-bound = Charges.cents-bound
+
+-- "rounded half up to the cent, once": the cents differ from the sum with its surcharge by at most half a cent, upwards at a half
+pub cents-nearest : (t : Tariff) (n : ℕ)
+    → (200 * centsOf t n ≤ 2 * (priceSum (bandsOf t) (t .beyond) n * (100 + t .surcharge)) + 100)
+    × (2 * (priceSum (bandsOf t) (t .beyond) n * (100 + t .surcharge)) + 100 < 200 * centsOf t n + 200)
+cents-nearest = Charges.cents-nearest
+
+-- after every list of calls: the false verdicts that it handed out are charged
+pub charged-after : {frames : List ℕ} {w : ℕ} {win : List ℤ} → Unrefused frames w win → (cs : List Call) (t : Tariff) → BandsRise t → PricesInRange t
+    → chargeDef (checkerAfter frames w win cs .state) t ≡ cents (centsOf t (countIn (handedOut frames w win cs) False))
+charged-after = Charges.charged-after
+
+-- the document's example, computed: 12 violations beside 3 true verdicts and an unknown one
+pub tariff-example : chargeDef (state 3 12 1) example ≡ cents 546
+tariff-example = TariffExamples.document-example
+
+-- the state that a refused opening hands back is refused with 12
+pub zero-charge : (t : Tariff) → BandsRise t → PricesInRange t → chargeDef zeroState t ≡ turned 12 0
+zero-charge = Charges.zero-charge
 
 -- ---- opening is not refused exactly where the frames are a rule's within the limits, W is 1 to 256 and the window 32 × W words
 pub opens-exactly : {frames : List ℕ} (w : ℕ) (win : List ℤ) → Bytes frames
