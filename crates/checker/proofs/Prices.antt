@@ -95,6 +95,12 @@ sum-flat bs beyond price d (suc m) h =
     let p = h (suc (d + m)) (omega arith) (omega arith) in
     rw (add-suc d m, suc-mul m price) (omega (arith, s, p))
 
+-- with no band
+pub sum-none : (beyond n : ℕ) → priceSum [] beyond n ≡ n * beyond
+unfolding priceSum priceOf
+sum-none beyond zero = omega arith
+sum-none beyond (suc n) = rw (suc-mul n beyond) (omega (arith, sum-none beyond n))
+
 -- each price that 29 lets through, and the sum of n
 pub price-bound : (bs : List Band) (beyond k : ℕ) → inRange bs ≡ true → beyond ≤ priceLimit → priceOf bs beyond k ≤ priceLimit
 unfolding inRange priceOf

@@ -21,7 +21,7 @@ use Rattle.checker.specs.Tariff.{cents, turned, chargeDef}
 use Rattle.checker.specs.declared.State.{State}
 use Rattle.checker.specs.declared.Tariff.{Tariff}
 use Rattle.checker.proofs.Marked.{latency}
-use Rattle.checker.proofs.Prices.{sum-flat}
+use Rattle.checker.proofs.Prices.{sum-none}
 
 -- a tariff with these bands, where each violation beyond them costs 12 cents and the surcharge is 7 percent
 abbrev of : ℕ → List ℕ → List ℕ → Tariff
@@ -130,10 +130,8 @@ around = (refl, refl, refl, refl, refl, refl, refl)
 
 -- the greatest charge that a state can have
 greatest : centsOf noBand 1009999 ≡ 20199980000
-unfolding bandsFrom priceOf priceSum surcharged
-greatest =
-    let all = sum-flat [] 10000 10000 0 1009999 (λ k l u. refl) in
-    ap (λ (sum : ℕ). surcharged sum 100) all
+unfolding bandsFrom surcharged
+greatest = ap (λ (sum : ℕ). surcharged sum 100) (sum-none 10000 1009999)
 
 -- ---- the call: a state of document 01's first rule with these totals
 abbrev pub state : ℕ → ℕ → ℕ → State
