@@ -1,6 +1,6 @@
 //! The C interface: its structs, its functions, and the numbers of its answers. All that is unsafe stands here.
 
-use super::{Lowered, Raised, Refusal, State, Viewed};
+use super::{Charged, Lowered, Raised, Refusal, State, Tariff, Viewed};
 
 /// What reading gives back.
 #[repr(C)]
@@ -30,6 +30,7 @@ struct Part {
 const _: () = assert!(size_of::<Reading>() == 16 && size_of::<Result>() == 580);
 const _: () = assert!(size_of::<Part>() == 16);
 const _: () = assert!(size_of::<Raised>() == 44 && size_of::<Lowered>() == 24);
+const _: () = assert!(size_of::<Tariff>() == 44 && size_of::<Charged>() == 16);
 
 unsafe extern "C" {
     fn dillplatter_read(
@@ -62,6 +63,7 @@ unsafe extern "C" {
     fn dillplatter_view(part: *mut Part) -> u32;
     fn dillplatter_raise(old_line: *const u8, old_len: usize) -> Raised;
     fn dillplatter_lower(line: *const u8, line_len: usize) -> Lowered;
+    fn dillplatter_charge(state: State, tariff: Tariff) -> Charged;
 }
 
 /// The answers, one enumeration for all calls.
@@ -181,4 +183,10 @@ pub fn raise(old: &[u8]) -> Raised {
 pub fn lower(line: &[u8]) -> Lowered {
     // SAFETY: as in `raise`.
     unsafe { dillplatter_lower(line.as_ptr(), line.len()) }
+}
+
+/// Charges: what comes back is not looked at here.
+pub fn charge(state: &State, tariff: &Tariff) -> Charged {
+    // SAFETY: both go by value, and each of their values is taken.
+    unsafe { dillplatter_charge(*state, *tariff) }
 }

@@ -1,10 +1,10 @@
 //! The proved part, called through its C interface, behind safe functions.
 //!
-//! [`read`], [`State::open`], [`State::feed`], [`State::pull`], [`view`], [`raise`] and [`lower`] are the seven calls, one
-//! for one, on memory that the caller lends. [`Checker`] has a window of its own:
+//! [`read`], [`State::open`], [`State::feed`], [`State::pull`], [`view`], [`raise`], [`lower`] and [`charge`] are the eight
+//! calls, one for one, on memory that the caller lends. [`Checker`] has a window of its own:
 //!
 //! ```
-//! use dillplatter_host::part::{lower, raise, read_rule, view, Checker, Fed, Pulled};
+//! use dillplatter_host::part::{lower, raise, read_rule, view, Checker, Fed, Pulled, Tariff};
 //!
 //! let frames = read_rule(b"events in out; notes t; t(out[i]) - t(in[i]) <= 25").unwrap();
 //! let mut checker = Checker::open(&frames, 64).unwrap();
@@ -15,6 +15,15 @@
 //! assert_eq!(report[..16], [0, 0, 0, 0, 0, 2, 0, 0, 0, 0, 40, 0, 0, 0, 0, 10]);
 //! assert_eq!(view(&report).unwrap(), [0, 0, 0, 0, 0]);
 //! assert_eq!(checker.state().totals.failed, 1);
+//!
+//! let tariff = Tariff {
+//!     bands: 2,
+//!     lasts: [10, 100, 0, 0],
+//!     prices: [45, 30, 0, 0],
+//!     beyond: 12,
+//!     surcharge: 7,
+//! };
+//! assert_eq!(checker.charge(&tariff), Ok(48));
 //!
 //! let line = raise(b"01004bfff60000").unwrap();
 //! assert_eq!(line, *b"010000004BFFFFFFF60000000000000000");
@@ -40,6 +49,8 @@ pub const WINDOW_WORDS: usize = 32;
 pub const LINE_DIGITS: usize = 34;
 /// Digits of a log line of the earlier edition.
 pub const OLD_LINE_DIGITS: usize = 14;
+/// The most bands of a tariff.
+pub const TARIFF_BANDS: usize = 4;
 
 /// How many verdicts of each value were pulled.
 #[repr(C)]
@@ -125,6 +136,34 @@ pub type Raised = Converted<LINE_DIGITS>;
 /// What lowering gives back.
 pub type Lowered = Converted<OLD_LINE_DIGITS>;
 
+/// A rework tariff, as the C interface lays it out. Entries after the last band are not looked at.
+#[repr(C)]
+#[derive(Clone, Copy, Debug, PartialEq, Eq)]
+pub struct Tariff {
+    /// How many bands there are.
+    pub bands: u32,
+    /// The last number of each band.
+    pub lasts: [u32; TARIFF_BANDS],
+    /// The price of each band, in cents.
+    pub prices: [u32; TARIFF_BANDS],
+    /// The price of every violation after the last band, in cents.
+    pub beyond: u32,
+    /// In percent.
+    pub surcharge: u32,
+}
+
+/// What charging gives back, as it comes and as the C interface lays it out.
+#[repr(C)]
+#[derive(Clone, Copy, Debug, PartialEq, Eq)]
+pub struct Charged {
+    /// The refusal's, else 0.
+    pub number: u32,
+    /// 0: no refusal names one.
+    pub place: u32,
+    /// 0 where there is a refusal.
+    pub cents: u64,
+}
+
 /// Reads a rule's text into a buffer of 512 bytes: the number of frames, or a refusal (1 to 8), which leaves the
 /// buffer as it was.
 pub fn read(text: &[u8], frames: &mut [u8]) -> Result<u32, Refusal> {
@@ -209,6 +248,32 @@ impl<const DIGITS: usize> Converted<DIGITS> {
     }
 }
 
+/// What the violations that a state has counted cost by a tariff, in cents; or a refusal (28, 29, 12).
+pub fn charge(state: &State, tariff: &Tariff) -> Result<u64, Refusal> {
+    Charged::of(state, tariff).answer()
+}
+
+impl Charged {
+    /// Charges.
+    pub fn of(state: &State, tariff: &Tariff) -> Charged {
+        calls::charge(state, tariff)
+    }
+
+    /// The cents, or the refusal. It panics where the answer is neither.
+    pub fn answer(self) -> Result<u64, Refusal> {
+        let Charged {
+            number,
+            place,
+            cents,
+        } = self;
+        match (number, place, cents) {
+            (0, 0, cents) => Ok(cents),
+            (1.., 0, 0) => Err(Refusal { number, place }),
+            _ => panic!("charging answered {self:?}"),
+        }
+    }
+}
+
 impl State {
     /// Opens a checker for frames and W, with a window of 32 x W words that is set to 0. The state is zero throughout
     /// where there is a refusal (9, 10, 7, 8, 11), which leaves the window as it was.
@@ -272,6 +337,11 @@ impl Checker {
     /// Pulls the next verdict: one, waiting, or refused (14). A false one fills the report.
     pub fn pull(&mut self, report: &mut [u8]) -> Pulled {
         self.state.pull(&self.window, report)
+    }
+
+    /// What the violations so far cost by a tariff, in cents; or a refusal (28, 29).
+    pub fn charge(&self, tariff: &Tariff) -> Result<u64, Refusal> {
+        charge(&self.state, tariff)
     }
 
     /// The state as it is.

@@ -4,6 +4,7 @@ use super::earlier::read_old;
 use super::frames::{check, Reference, Rule};
 use super::line::{read_line, Notes};
 use super::state::State;
+use super::tariff::Tariff;
 use super::verdict::{verdict, Status, Truth};
 use super::view::Reported;
 use super::Refusal;
@@ -185,6 +186,11 @@ impl Machine {
     /// The instance and the verdict of each report.
     pub fn reported(&self) -> &[Reported] {
         &self.reported
+    }
+
+    /// What the reported violations cost in cents, unless 28 or 29 refuses.
+    pub fn charge(&self, tariff: &Tariff) -> Result<u64, Refusal> {
+        tariff.cents(self.reported.len() as u32)
     }
 
     /// What a checker's state carries after the same calls.

@@ -4,7 +4,8 @@
 //! A rule flows `text` -> `grammar` -> `names`, `numbers` -> `postfix` -> `frames`; a log flows `line` ->
 //! `machine`, which asks `verdict`. `state` answers calls on a state and a window that a caller hands in, forged ones
 //! too; `view` has what machine hands see of a report; `earlier` reads log lines of the earlier edition, which `machine`
-//! takes too, and converts them to log lines and back; `bench` has the output of the bench program.
+//! takes too, and converts them to log lines and back; `tariff` has what violations cost; `bench` has the output of the
+//! bench program.
 
 #![forbid(unsafe_code)]
 
@@ -19,6 +20,7 @@ pub mod numbers;
 pub mod postfix;
 pub mod reading;
 pub mod state;
+pub mod tariff;
 pub mod text;
 pub mod verdict;
 pub mod view;
@@ -28,6 +30,7 @@ pub use earlier::{lower, raise, read_old, Line, OldLine};
 pub use machine::{open, Fed, Machine, Pulled, Totals};
 pub use reading::{read, read_into};
 pub use state::State;
+pub use tariff::{Band, Tariff};
 pub use verdict::Truth;
 pub use view::{view, Reported, View};
 

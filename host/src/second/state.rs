@@ -1,9 +1,10 @@
-//! A state that a caller hands in with a window: 12 and 13, and what the calls answer if these let it pass.
+//! A state that a caller hands in: 12, and 13 with a window, and what the calls answer if these let it pass.
 
 use super::frames::{check, Reference, Rule};
 use super::line::read_line;
 use super::machine::{fill, open, width_fits, window_fits, Fed, Pulled, Totals};
 use super::machine::{EVENTS, MOST_LINES, REPORT};
+use super::tariff::Tariff;
 use super::verdict::{verdict, Status, Truth};
 use super::Refusal;
 
@@ -100,6 +101,13 @@ impl State {
         self.p += 1;
         self.totals.count(verdict);
         Pulled::Verdict(verdict)
+    }
+
+    /// Charging: what the false verdicts cost in cents, unless 28, 29 or 12 refuses, in this order.
+    pub fn charge(&self, tariff: &Tariff) -> Result<u64, Refusal> {
+        tariff.check()?;
+        self.rule_in_order().ok_or(Refusal::of(12))?;
+        tariff.cents(self.totals.failed)
     }
 
     /// The window word of an occurrence's note.

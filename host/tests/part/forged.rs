@@ -7,6 +7,7 @@ use crate::shared::driven::Driven;
 use crate::shared::log::{events, random_line};
 use crate::shared::random::{frames, Random};
 use crate::shared::seen::Seen;
+use crate::shared::tariff::example;
 use dillplatter_host::second::{Fed, Pulled, State, Totals};
 
 fn word(random: &mut Random) -> u32 {
@@ -43,7 +44,7 @@ fn near(random: &mut Random, value: u32) -> u32 {
 }
 
 /// A state that calls on a fresh checker gave.
-fn honest(random: &mut Random) -> (State, Vec<usize>) {
+pub fn honest(random: &mut Random) -> (State, Vec<usize>) {
     let frames = frames(random);
     let w = random.pick(&[1, 2, 3, 5, 16, 64]);
     let mut pair = Pair::open(&frames, w, &vec![0; 32 * w as usize]).unwrap();
@@ -59,7 +60,7 @@ fn honest(random: &mut Random) -> (State, Vec<usize>) {
 }
 
 /// Moves p, and the totals and counts with it, so that the state may still pass.
-fn move_on(random: &mut Random, state: &mut State, events: &[usize]) {
+pub fn move_on(random: &mut Random, state: &mut State, events: &[usize]) {
     state.p = random.pick(&[
         1, 7, 1_000, 9_999, 10_000, 111_111, 500_000, 999_999, 1_000_000, 1_009_998, 1_009_999,
     ]);
@@ -79,7 +80,7 @@ fn move_on(random: &mut Random, state: &mut State, events: &[usize]) {
 }
 
 /// Changes one field.
-fn change(random: &mut Random, state: &mut State) {
+pub fn change(random: &mut Random, state: &mut State) {
     match random.below(9) {
         0 => state.frames[random.below(512)] = random.below(256) as u8,
         1 => {
@@ -102,7 +103,7 @@ fn change(random: &mut Random, state: &mut State) {
 }
 
 /// A state of random bytes.
-fn noise(random: &mut Random) -> State {
+pub fn noise(random: &mut Random) -> State {
     let mut state = State::zero();
     for byte in &mut state.frames {
         *byte = random.below(256) as u8;
@@ -183,18 +184,22 @@ fn state(p: u32, counts: [u32; 3]) -> State {
     state
 }
 
-/// The refusal of both calls before they look at their own arguments; 0 if there is none.
+/// The refusal of feeding and pulling before they look at their own arguments; 0 if there is none. Charging gets no
+/// window, so of 12 and 13 it has only 12.
 fn number(state: &State, words: usize) -> u8 {
     let mut pair = Pair::forged(state.clone(), vec![1; words]);
     let (fed, pulled) = (pair.feed(b""), pair.pull(&mut []));
-    match (fed, pulled) {
+    let number = match (fed, pulled) {
         (Fed::Refused(one), Pulled::Refused(other)) if one == other => one.number,
         (Fed::Refused(one), Pulled::Refused(other)) => {
             assert_eq!((one.number, other.number), (15, 14));
             0
         }
         other => panic!("{other:?}"),
-    }
+    };
+    let charged = pair.charge(&example()).map_err(|refusal| refusal.number);
+    assert_eq!(charged, if number == 12 { Err(12) } else { Ok(0) });
+    number
 }
 
 /// A state at p 7, where the bases are a 15 and c 4.

@@ -3,6 +3,7 @@
 #[path = "../shared/mod.rs"]
 mod shared;
 
+mod charges;
 mod damage;
 mod earlier;
 mod examples;
@@ -15,6 +16,7 @@ mod pair;
 mod program;
 mod quota;
 mod refusals;
+mod tariff;
 mod texts;
 mod vectors;
 mod view;

@@ -4,9 +4,9 @@
 
 use crate::quota::count;
 use crate::shared::driven::{Driven, Twin};
-use dillplatter_host::part::{self, Converted, Lowered, Raised, Viewed};
+use dillplatter_host::part::{self, Charged, Converted, Lowered, Raised, Viewed};
 use dillplatter_host::second::{Fed, Line, Machine, OldLine, Pulled, Refusal, State, Totals};
-use dillplatter_host::second::{Truth, View};
+use dillplatter_host::second::{Tariff, Truth, View};
 use std::fmt::Debug;
 use std::ops::Range;
 
@@ -116,7 +116,7 @@ fn model_of(state: &part::State) -> State {
 }
 
 /// A state of the second checker as the part takes it.
-fn state_of(model: &State) -> part::State {
+pub fn state_of(model: &State) -> part::State {
     part::State {
         frames: model.frames,
         len: model.len,
@@ -128,6 +128,17 @@ fn state_of(model: &State) -> part::State {
             failed: model.totals.failed,
             unknown: model.totals.unknown,
         },
+    }
+}
+
+/// A tariff of the second checker as the part takes it.
+pub fn tariff_of(model: &Tariff) -> part::Tariff {
+    part::Tariff {
+        bands: model.len,
+        lasts: model.bands.map(|band| band.last),
+        prices: model.bands.map(|band| band.price),
+        beyond: model.beyond,
+        surcharge: model.surcharge,
     }
 }
 
@@ -222,6 +233,27 @@ impl Driven for Pair {
     #[track_caller]
     fn lower(line: &[u8]) -> Result<OldLine, Refusal> {
         converted(line, Lowered::of, Twin::lower(line))
+    }
+
+    #[track_caller]
+    fn charge(&self, tariff: &Tariff) -> Result<u64, Refusal> {
+        count();
+        let expected = self.twin.charge(tariff);
+        let (number, cents) = match expected {
+            Ok(cents) => (0, cents),
+            Err(refusal) => (refusal.number.into(), 0),
+        };
+        let words = Charged {
+            number,
+            place: 0,
+            cents,
+        };
+        let charged = Charged::of(&self.state, &tariff_of(tariff));
+        assert_eq!(charged, words, "{tariff:?}");
+        self.agree();
+        let answer = charged.answer().map_err(refusal);
+        assert_eq!(answer, expected);
+        answer
     }
 
     fn state(&self) -> &State {

@@ -6,8 +6,8 @@ use std::cell::Cell;
 const LEAST: usize = 200_000;
 
 /// The fewest calls of each test that makes many.
-const OF_TESTS: [(&str, usize); 22] = [
-    ("vectors", 10_300),
+const OF_TESTS: [(&str, usize); 30] = [
+    ("vectors", 10_600),
     ("random texts", 9_000),
     ("damaged texts", 20_000),
     ("bytes of a text", 12_000),
@@ -29,6 +29,14 @@ const OF_TESTS: [(&str, usize); 22] = [
     ("notes of lowered lines", 48_000),
     ("random conversions", 520_000),
     ("old logs", 180_000),
+    ("short lists of bands", 18_700),
+    ("entries that are no bands", 8_100),
+    ("fractions of a cent", 25_300),
+    ("charges in lists of calls", 200_000),
+    ("charges of forged states", 350_000),
+    ("random tariffs", 253_000),
+    ("more violations", 157_000),
+    ("every count", 1_010_000),
 ];
 
 const _: () = {

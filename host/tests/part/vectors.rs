@@ -2,7 +2,7 @@
 
 use crate::pair::Pair;
 use crate::quota::Quota;
-use crate::shared::vectors::{calls, converting, opening, reading};
+use crate::shared::vectors::{calls, charging, converting, opening, reading};
 
 #[test]
 fn stored_answers() {
@@ -11,5 +11,6 @@ fn stored_answers() {
     opening::<Pair>();
     calls::<Pair>();
     converting::<Pair>();
+    charging::<Pair>();
     quota.end();
 }

@@ -13,6 +13,7 @@ mod opening;
 mod places;
 mod refusals;
 mod states;
+mod tariff;
 mod texts;
 mod trees;
 mod vectors;

@@ -1,7 +1,7 @@
-//! Every stored vector: answers, numbers, places, frames, reports.
+//! Every stored vector: answers, numbers, places, frames, reports, cents.
 
 use crate::shared::driven::Twin;
-use crate::shared::vectors::{self, bench_cases};
+use crate::shared::vectors::{self, bench_cases, charged_words, charges};
 use dillplatter_host::second::bench;
 
 #[test]
@@ -22,6 +22,26 @@ fn calls() {
 #[test]
 fn converting() {
     vectors::converting::<Twin>();
+}
+
+#[test]
+fn charging() {
+    vectors::charging::<Twin>();
+}
+
+#[test]
+fn charging_of_any_number_of_violations() {
+    // Cents, 28, 29; and violations that no state can have.
+    let mut answers = [0; 3];
+    let mut impossible = 0;
+    for case in charges() {
+        let answer = case.tariff.cents(case.violations);
+        let kind = answer.map_or_else(|refusal| usize::from(refusal.number) - 27, |_| 0);
+        answers[kind] += 1;
+        impossible += usize::from(case.violations == 1_010_000);
+        assert_eq!(charged_words(answer), case.words, "line {}", case.at);
+    }
+    assert_eq!((answers, impossible), ([225, 25, 51], 21));
 }
 
 #[test]

@@ -1,7 +1,7 @@
 //! A checker as tests drive it, and the second checker in this form.
 
 use dillplatter_host::second::{self, Fed, Machine, Pulled, Refusal, State, Truth, View};
-use dillplatter_host::second::{Line, OldLine};
+use dillplatter_host::second::{Line, OldLine, Tariff};
 
 pub const TRUE: Pulled = Pulled::Verdict(Truth::True);
 pub const FALSE: Pulled = Pulled::Verdict(Truth::False);
@@ -37,6 +37,9 @@ pub trait Driven: Sized {
 
     /// Lowers a line to the earlier edition.
     fn lower(line: &[u8]) -> Result<OldLine, Refusal>;
+
+    /// Charges for the false verdicts so far.
+    fn charge(&self, tariff: &Tariff) -> Result<u64, Refusal>;
 
     /// The state.
     fn state(&self) -> &State;
@@ -142,6 +145,15 @@ impl Driven for Twin {
 
     fn lower(line: &[u8]) -> Result<OldLine, Refusal> {
         second::lower(line)
+    }
+
+    #[track_caller]
+    fn charge(&self, tariff: &Tariff) -> Result<u64, Refusal> {
+        let answer = self.state.charge(tariff);
+        if let Some(machine) = &self.machine {
+            assert_eq!(machine.charge(tariff), answer, "{tariff:?}");
+        }
+        answer
     }
 
     fn state(&self) -> &State {

@@ -6,4 +6,5 @@ pub mod log;
 pub mod random;
 pub mod refusals;
 pub mod seen;
+pub mod tariff;
 pub mod vectors;

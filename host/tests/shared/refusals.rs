@@ -1,8 +1,8 @@
-//! Every refusal, 1 to 17 and 23 to 25, by a call of any checker.
+//! Every refusal, 1 to 17, 23 to 25, 28 and 29, by a call of any checker.
 
 use super::driven::Driven;
 use super::log::line;
-use dillplatter_host::second::{Fed, Pulled, Refusal, State};
+use dillplatter_host::second::{Fed, Pulled, Refusal, State, Tariff};
 use std::collections::BTreeSet;
 
 const RULE: &str = "events a b; notes t; t(a[i]) > 0";
@@ -17,12 +17,14 @@ pub fn each_number_is_seen<C: Driven>() {
         opening::<C>(),
         calls::<C>(),
         converting::<C>(),
+        charging::<C>(),
     ];
     for (number, place, refusal) in rows.concat() {
         assert_eq!(refusal, Refusal { number, place });
         numbers.insert(number);
     }
-    assert_eq!(numbers, (1..=17).chain(23..=25).collect());
+    let expected = (1..=17).chain(23..=25).chain(28..=29);
+    assert_eq!(numbers, expected.collect());
 }
 
 fn reading<C: Driven>() -> Vec<Row> {
@@ -80,6 +82,20 @@ fn converting<C: Driven>() -> Vec<Row> {
         (23, 13, C::raise(&[b'0'; 13]).unwrap_err()),
         (24, 0, down([40_000, 0, 0, 1])),
         (25, 10, down([0, 40_000, 40_000, 0])),
+    ]
+}
+
+fn charging<C: Driven>() -> Vec<Row> {
+    let of = |state: State, bands: &[(u32, u32)], surcharge: u32| {
+        let tariff = Tariff::of(bands, 0, surcharge);
+        C::forged(state, Vec::new()).charge(&tariff).unwrap_err()
+    };
+    vec![
+        (12, 0, of(State::zero(), &[(1, 1)], 100)),
+        (28, 0, of(state::<C>(7), &[(2, 1), (2, 1)], 100)),
+        (28, 0, of(State::zero(), &[(0, 1)], 101)),
+        (29, 0, of(state::<C>(7), &[(2, 10_001)], 100)),
+        (29, 0, of(State::zero(), &[], 101)),
     ]
 }
 

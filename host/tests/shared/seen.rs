@@ -1,9 +1,9 @@
 //! How often each answer came.
 
-use dillplatter_host::second::{Fed, Pulled};
+use dillplatter_host::second::{Fed, Pulled, Refusal};
 use std::collections::BTreeMap;
 
-/// How often each answer of feeding and of pulling came; a refusal counts by its number.
+/// How often each answer of feeding, pulling and charging came; a refusal counts by its number.
 #[derive(Debug, Default)]
 pub struct Seen(BTreeMap<String, usize>);
 
@@ -16,6 +16,11 @@ impl Seen {
     /// Counts an answer of pulling.
     pub fn pulled(&mut self, answer: Pulled) {
         self.count(format!("pull {answer:?}"));
+    }
+
+    /// Counts an answer of charging; all sums count as one answer.
+    pub fn charged(&mut self, answer: Result<u64, Refusal>) {
+        self.count(format!("charge {:?}", answer.map(|_| "cents")));
     }
 
     fn count(&mut self, words: String) {

@@ -1,7 +1,9 @@
-//! The stored vectors, and every line of them through any checker: answers, numbers, places, frames, reports.
+//! The stored vectors, and every line of them through any checker: answers, numbers, places, frames, reports, cents.
 
 use super::driven::Driven;
-use dillplatter_host::second::{Fed, Pulled, Refusal, Truth};
+use super::random::Random;
+use super::tariff::{with_failed, MOST_VERDICTS};
+use dillplatter_host::second::{Fed, Pulled, Refusal, Tariff, Truth};
 use std::path::PathBuf;
 
 /// A path below host/vectors.
@@ -141,6 +143,79 @@ fn converted_words<const DIGITS: usize>(
             *lines += 1;
             format!("line {}", hex(&line))
         }
+        Err(refusal) => refusal_words(refusal),
+    }
+}
+
+/// A case of points/13/tariff.txt.
+pub struct Charge {
+    /// Its line.
+    pub at: usize,
+    pub tariff: Tariff,
+    pub violations: u32,
+    /// The answer.
+    pub words: String,
+}
+
+/// Every case of points/13/tariff.txt. Of five bands the fifth has no entry, and the number of bands is 5.
+pub fn charges() -> Vec<Charge> {
+    let lines = vector_lines("points/13/tariff.txt");
+    assert_eq!(lines.len(), 301);
+    lines
+        .iter()
+        .map(|(at, line)| {
+            let mut fields = line.splitn(5, ' ');
+            let mut field = || fields.next().unwrap();
+            let bands = bands(field());
+            let [beyond, surcharge, violations] = [0; 3].map(|_| field().parse().unwrap());
+            Charge {
+                at: *at,
+                tariff: Tariff::of(&bands, beyond, surcharge),
+                violations,
+                words: field().to_string(),
+            }
+        })
+        .collect()
+}
+
+/// Bands as that file writes them.
+fn bands(words: &str) -> Vec<(u32, u32)> {
+    let band = |words: &str| {
+        let (last, price) = words.split_once(':').unwrap();
+        (last.parse().unwrap(), price.parse().unwrap())
+    };
+    match words {
+        "-" => Vec::new(),
+        words => words.split(',').map(band).collect(),
+    }
+}
+
+/// The cases of points/13/tariff.txt, each with a state of so many false verdicts. The file also has 1,010,000 of them.
+/// A state with these has a p over 1,009,999, so where the tariff is taken the call refuses it with 12.
+pub fn charging<C: Driven>() {
+    let random = &mut Random::new(270_000_000);
+    let [mut cents, mut impossible, mut refused] = [0; 3];
+    for case in charges() {
+        let state = with_failed(random, case.violations);
+        let words = charged_words(C::forged(state, Vec::new()).charge(&case.tariff));
+        let mut expected = &case.words[..];
+        match expected.starts_with("cents") {
+            true if case.violations > MOST_VERDICTS => {
+                impossible += 1;
+                expected = "refused 12 0";
+            }
+            true => cents += 1,
+            false => refused += 1,
+        }
+        assert_eq!(words, expected, "points/13/tariff.txt line {}", case.at);
+    }
+    assert_eq!((cents, impossible, refused), (212, 13, 76));
+}
+
+/// An answer as the file of charges writes it.
+pub fn charged_words(answer: Result<u64, Refusal>) -> String {
+    match answer {
+        Ok(cents) => format!("cents {cents}"),
         Err(refusal) => refusal_words(refusal),
     }
 }
