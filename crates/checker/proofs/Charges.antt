@@ -2,13 +2,13 @@
 -- list of calls. Assumes nothing.
 use mathlib.Core.Path.{_≡_, refl, sym, _∙_, ap}
 use mathlib.Core.Bool.{Bool, true, false, _&&_, cond}
-use mathlib.Core.List.{List, []}
+use mathlib.Core.List.{List}
 use mathlib.Core.Logic.{_↔_, ⊎-elim}
-use Prim.Native.Nat.{ℕ, zero, suc, _+_, _*_, _/_, _≤_, _<_}
+use Prim.Native.Nat.{ℕ, zero, suc, _+_, _*_, _≤_, _<_}
 use native.Mathlib.Omega.{arith}
 use native.Mathlib.Nat.{mul-le-mul, mul-le-mul-right}
 use borrow.Author.Tests.{leb-true, le-leb, lt-ltb}
-use lib.Dec.{leb, ltb}
+use lib.Dec.{leb}
 use lib.IntN.{ℤ}
 use Rattle.numbers.proofs.Bools.{true-false, and-true, true-and}
 use Rattle.verdict.specs.Found.{instanceLimit}
@@ -17,7 +17,7 @@ use Rattle.rule.specs.Check.{checkedOf}
 use Rattle.checker.specs.State.{zeroState}
 use Rattle.checker.specs.Good.{goodRule, goodState}
 use Rattle.checker.specs.Calls.{Call}
-use Rattle.checker.specs.Demand.{Unrefused, fresh, countIn, checkerAfter, machineAfter, handedOut}
+use Rattle.checker.specs.Demand.{Unrefused, countIn, checkerAfter, machineAfter, handedOut}
 use Rattle.checker.specs.Tariff.{bandLimit, lastLimit, priceLimit, surchargeLimit}
 use Rattle.checker.specs.Tariff.{Band, bandAt, bandsOf, riseFrom, bandsFit, inRange, pricesFit, priceSum, surcharged, centsOf}
 use Rattle.checker.specs.Tariff.{Charge, cents, turned, chargeDef, BandsRise, PricesInRange, ChargeRefused, bands, prices, state}
@@ -30,7 +30,7 @@ use Rattle.checker.proofs.Fresh.{opened-fine}
 use Rattle.checker.proofs.Lists as lists
 use Rattle.checker.proofs.Sums as sums
 use Rattle.checker.proofs.Simulation as simulation
-use Rattle.checker.proofs.Prices.{bandsLeft, left-first, follows, rise-next, rise-none, range-next, range-none, lastBefore, rise-at, range-at}
+use Rattle.checker.proofs.Prices.{bandsLeft, left-first, follows, rise-step, rise-none, range-step, range-none, lastBefore, rise-at, range-at}
 use Rattle.checker.proofs.Prices.{Fits, fits, sum-bound}
 
 -- ---- more violations
@@ -86,7 +86,7 @@ rise-follows t r (suc j) h =
 rise-on : (t : Tariff) → BandsRise t → (j : ℕ) → j ≤ t .bands → riseFrom 0 (bandsOf t) ≡ riseFrom (lastBefore t j) (bandsLeft t j)
 unfolding lastBefore
 rise-on t r zero h = ap (riseFrom 0) (left-first t)
-rise-on t r (suc j) h = rise-on t r j (omega arith) ∙ rise-next t j (lastBefore t j) (omega arith) (rise-follows t r j (omega arith))
+rise-on t r (suc j) h = rise-on t r j (omega arith) ∙ rise-step t j (lastBefore t j) true (omega arith) (rise-follows t r j (omega arith))
 
 pub rise-fits : (t : Tariff) → BandsRise t → bandsFit t ≡ true
 unfolding bandsFit
@@ -107,7 +107,7 @@ range-facts t f =
 
 range-on : (t : Tariff) → PricesInRange t → (j : ℕ) → j ≤ t .bands → inRange (bandsOf t) ≡ inRange (bandsLeft t j)
 range-on t r zero h = ap inRange (left-first t)
-range-on t r (suc j) h = range-on t r j (omega arith) ∙ range-next t j (omega arith) (r .each j (omega arith))
+range-on t r (suc j) h = range-on t r j (omega arith) ∙ range-step t j true (omega arith) (le-leb (bandAt t j .price) priceLimit (r .each j (omega arith)))
 
 pub range-fits : (t : Tariff) → PricesInRange t → pricesFit t ≡ true
 unfolding pricesFit
@@ -166,8 +166,10 @@ turned-12 s t a b g = rw (a, b, g)
 
 pub charges-exactly : (s : State) (t : Tariff) (c : ℕ) → (chargeDef s t ≡ cents c)
     ↔ (BandsRise t × (PricesInRange t × ((goodState s ≡ true) × (c ≡ centsOf t (s .totals .failed)))))
-charges-exactly s t c =
-    (λ e. let f = charged-facts s t c e in (rise-facts t (f .0), (range-facts t (f .1 .0), f .1 .1)), λ f. charged-by s t (rise-fits t (f .0)) (range-fits t (f .1 .0)) (f .1 .1 .0) ∙ ap cents (sym (f .1 .1 .1)))
+charges-exactly s t c = (
+  λ e. let f = charged-facts s t c e in (rise-facts t (f .0), (range-facts t (f .1 .0), f .1 .1)),
+  λ f. charged-by s t (rise-fits t (f .0)) (range-fits t (f .1 .0)) (f .1 .1 .0) ∙ ap cents (sym (f .1 .1 .1)),
+)
 
 -- ---- what each refusal says
 not-true : (b : Bool) → (b ≡ true → ⊥) → b ≡ false

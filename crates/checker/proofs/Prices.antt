@@ -1,18 +1,17 @@
 -- Laws of the rework tariff: what 28 and 29 let through, and prices summed band by band. Assumes nothing.
-use mathlib.Core.Path.{_≡_, refl, sym, _∙_, ap, ap₂}
-use mathlib.Core.Bool.{Bool, true, false, _&&_, cond}
+use mathlib.Core.Path.{_≡_, refl, sym, _∙_, ap}
+use mathlib.Core.Bool.{Bool, true, false, _&&_}
 use mathlib.Core.List.{List, [], _∷_}
 use mathlib.Core.Logic.{⊎-elim}
 use Prim.Native.Nat.{ℕ, zero, suc, _+_, _*_, _-_, _/_, _≤_, _<_}
 use native.Mathlib.Omega.{arith}
-use native.Mathlib.Nat.{add-zero, add-suc, suc-mul, mul-le-mul, mul-le-mul-right}
-use borrow.Author.Tests.{leb-true, ltb-true, le-leb, lt-leb, lt-ltb}
+use native.Mathlib.Nat.{add-zero, add-suc, suc-mul}
+use borrow.Author.Tests.{leb-true, ltb-true, le-leb, lt-leb}
 use lib.Dec.{leb, ltb}
-use lib.ListN.{getD}
 use Rattle.numbers.proofs.Bools.{and-true}
 use Rattle.checker.specs.Tariff.{bandLimit, lastLimit, priceLimit, surchargeLimit}
 use Rattle.checker.specs.Tariff.{Band, bandAt, bandsFrom, bandsOf, riseFrom, bandsFit, inRange, pricesFit}
-use Rattle.checker.specs.Tariff.{priceOf, priceSum, halfUp, surcharged, centsOf}
+use Rattle.checker.specs.Tariff.{priceOf, priceSum, halfUp}
 use Rattle.checker.specs.declared.Tariff.{Tariff}
 use Rattle.checker.proofs.Choices.{less-or}
 
@@ -39,14 +38,10 @@ left-none t j h =
 abbrev pub follows : ℕ → ℕ → Bool
 follows m last = ltb m last && leb last lastLimit
 
-pub rise-next : (t : Tariff) (j m : ℕ) → j < t .bands → follows m (bandAt t j .last) ≡ true
-    → riseFrom m (bandsLeft t j) ≡ riseFrom (bandAt t j .last) (bandsLeft t (suc j))
+pub rise-step : (t : Tariff) (j m : ℕ) (x : Bool) → j < t .bands → follows m (bandAt t j .last) ≡ x
+    → riseFrom m (bandsLeft t j) ≡ (x && riseFrom (bandAt t j .last) (bandsLeft t (suc j)))
 unfolding riseFrom
-rise-next t j m h e = ap (riseFrom m) (left-next t j h) ∙ ap (λ (x : Bool). x && riseFrom (bandAt t j .last) (bandsLeft t (suc j))) e
-
-pub rise-not : (t : Tariff) (j m : ℕ) → j < t .bands → follows m (bandAt t j .last) ≡ false → riseFrom m (bandsLeft t j) ≡ false
-unfolding riseFrom
-rise-not t j m h e = ap (riseFrom m) (left-next t j h) ∙ ap (λ (x : Bool). x && riseFrom (bandAt t j .last) (bandsLeft t (suc j))) e
+rise-step t j m x h e = ap (riseFrom m) (left-next t j h) ∙ ap (λ (y : Bool). y && riseFrom (bandAt t j .last) (bandsLeft t (suc j))) e
 
 pub rise-none : (t : Tariff) (j m : ℕ) → t .bands ≤ j → riseFrom m (bandsLeft t j) ≡ true
 unfolding riseFrom
@@ -62,31 +57,26 @@ unfolding bandsFit
 bands-many t h = rw (lt-leb (t .bands) bandLimit h)
 
 -- ---- 29, band by band
-pub range-next : (t : Tariff) (j : ℕ) → j < t .bands → bandAt t j .price ≤ priceLimit → inRange (bandsLeft t j) ≡ inRange (bandsLeft t (suc j))
+pub range-step : (t : Tariff) (j : ℕ) (x : Bool) → j < t .bands → leb (bandAt t j .price) priceLimit ≡ x
+    → inRange (bandsLeft t j) ≡ (x && inRange (bandsLeft t (suc j)))
 unfolding inRange
-range-next t j h l =
-    ap inRange (left-next t j h) ∙ ap (λ (x : Bool). x && inRange (bandsLeft t (suc j))) (le-leb (bandAt t j .price) priceLimit l)
-
-pub range-not : (t : Tariff) (j : ℕ) → j < t .bands → priceLimit < bandAt t j .price → inRange (bandsLeft t j) ≡ false
-unfolding inRange
-range-not t j h l =
-    ap inRange (left-next t j h) ∙ ap (λ (x : Bool). x && inRange (bandsLeft t (suc j))) (lt-leb (bandAt t j .price) priceLimit l)
+range-step t j x h e = ap inRange (left-next t j h) ∙ ap (λ (y : Bool). y && inRange (bandsLeft t (suc j))) e
 
 pub range-none : (t : Tariff) (j : ℕ) → t .bands ≤ j → inRange (bandsLeft t j) ≡ true
 unfolding inRange
 range-none t j h = ap inRange (left-none t j h)
 
 -- ---- prices
-pub price-in : (b : Band) (bs : List Band) (beyond k : ℕ) → k ≤ b .last → priceOf (b ∷ bs) beyond k ≡ b .price
+price-in : (b : Band) (bs : List Band) (beyond k : ℕ) → k ≤ b .last → priceOf (b ∷ bs) beyond k ≡ b .price
 unfolding priceOf
 price-in b bs beyond k h = rw (le-leb k (b .last) h)
 
-pub price-past : (b : Band) (bs : List Band) (beyond k : ℕ) → b .last < k → priceOf (b ∷ bs) beyond k ≡ priceOf bs beyond k
+price-past : (b : Band) (bs : List Band) (beyond k : ℕ) → b .last < k → priceOf (b ∷ bs) beyond k ≡ priceOf bs beyond k
 unfolding priceOf
 price-past b bs beyond k h = rw (lt-leb k (b .last) h)
 
 -- violations of one price, after the first d
-pub sum-flat : (bs : List Band) (beyond price d m : ℕ) → ((k : ℕ) → d < k → k ≤ d + m → priceOf bs beyond k ≡ price)
+sum-flat : (bs : List Band) (beyond price d m : ℕ) → ((k : ℕ) → d < k → k ≤ d + m → priceOf bs beyond k ≡ price)
     → priceSum bs beyond (d + m) ≡ priceSum bs beyond d + m * price
 unfolding priceSum
 sum-flat bs beyond price d zero h = rw (add-zero d) (omega arith)
@@ -102,7 +92,7 @@ sum-none beyond zero = omega arith
 sum-none beyond (suc n) = rw (suc-mul n beyond) (omega (arith, sum-none beyond n))
 
 -- each price that 29 lets through, and the sum of n
-pub price-bound : (bs : List Band) (beyond k : ℕ) → inRange bs ≡ true → beyond ≤ priceLimit → priceOf bs beyond k ≤ priceLimit
+price-bound : (bs : List Band) (beyond k : ℕ) → inRange bs ≡ true → beyond ≤ priceLimit → priceOf bs beyond k ≤ priceLimit
 unfolding inRange priceOf
 price-bound [] beyond k e h = h
 price-bound (b ∷ bs) beyond k e h =
@@ -126,15 +116,14 @@ lastBefore t (suc j) = bandAt t j .last
 -- the last numbers of the bands from the j-th on rise from above it
 rise-here : (t : Tariff) (j : ℕ) → j < t .bands → riseFrom (lastBefore t j) (bandsLeft t j) ≡ true
     → (lastBefore t j < bandAt t j .last) × (bandAt t j .last ≤ lastLimit) × (riseFrom (bandAt t j .last) (bandsLeft t (suc j)) ≡ true)
-unfolding riseFrom
 rise-here t j h e =
     let m = lastBefore t j in
     let l = bandAt t j .last in
-    let a = and-true (follows m l) (riseFrom l (bandsLeft t (suc j))) (sym (ap (riseFrom m) (left-next t j h)) ∙ e) in
+    let a = and-true (follows m l) (riseFrom l (bandsLeft t (suc j))) (sym (rise-step t j m (follows m l) h refl) ∙ e) in
     let c = and-true (ltb m l) (leb l lastLimit) (a .0) in
     (ltb-true m l (c .0), leb-true l lastLimit (c .1), a .1)
 
-pub rise-left : (t : Tariff) → riseFrom 0 (bandsOf t) ≡ true → (j : ℕ) → j ≤ t .bands → riseFrom (lastBefore t j) (bandsLeft t j) ≡ true
+rise-left : (t : Tariff) → riseFrom 0 (bandsOf t) ≡ true → (j : ℕ) → j ≤ t .bands → riseFrom (lastBefore t j) (bandsLeft t j) ≡ true
 unfolding lastBefore
 rise-left t e zero h = sym (ap (riseFrom 0) (left-first t)) ∙ e
 rise-left t e (suc j) h = rise-here t j (omega arith) (rise-left t e j (omega arith)) .2
@@ -146,10 +135,10 @@ rise-at t e j h =
 
 -- ---- 29 at every band
 range-here : (t : Tariff) (j : ℕ) → j < t .bands → inRange (bandsLeft t j) ≡ true → (bandAt t j .price ≤ priceLimit) × (inRange (bandsLeft t (suc j)) ≡ true)
-unfolding inRange
 range-here t j h e =
-    let a = and-true (leb (bandAt t j .price) priceLimit) (inRange (bandsLeft t (suc j))) (sym (ap inRange (left-next t j h)) ∙ e) in
-    (leb-true (bandAt t j .price) priceLimit (a .0), a .1)
+    let price = bandAt t j .price in
+    let a = and-true (leb price priceLimit) (inRange (bandsLeft t (suc j))) (sym (range-step t j (leb price priceLimit) h refl) ∙ e) in
+    (leb-true price priceLimit (a .0), a .1)
 
 range-left : (t : Tariff) → inRange (bandsOf t) ≡ true → (j : ℕ) → j ≤ t .bands → inRange (bandsLeft t j) ≡ true
 range-left t e zero h = sym (ap inRange (left-first t)) ∙ e

@@ -1,10 +1,9 @@
 -- Charges, computed: each limit of 28 and 29 from both sides, prices at a band's end, rounding, the order of the refusals, and the
 -- document's example. Assumes nothing.
-use mathlib.Core.Path.{_≡_, refl, _∙_, ap}
+use mathlib.Core.Path.{_≡_, refl, ap}
 use mathlib.Core.Bool.{true, false}
-use mathlib.Core.List.{List, [], _∷_, _++_}
+use mathlib.Core.List.{List, [], _∷_}
 use Prim.Native.Nat.{ℕ, _+_}
-use native.Mathlib.Omega.{arith}
 use lib.ListN.{replicate}
 use Rattle.rule.specs.Frames.{kindOf}
 use Rattle.rule.specs.Tree.{postfix, bytesOf}

@@ -18,16 +18,16 @@ fn refuse(number: u8) -> ChargeAnswer
 }
 
 // Charges the violations that a state counts, for every state and every tariff.
-pub fn charge(state: State, t: Tariff) -> ChargeAnswer
-    ensures { λ r. ⌜ chargeTold r ≡ chargeDef state t ⌝ }
+pub fn charge(state: State, tariff: Tariff) -> ChargeAnswer
+    ensures { λ r. ⌜ chargeTold r ≡ chargeDef state tariff ⌝ }
 {
-    if pricing::bands_fit(t) {
-        if pricing::prices_fit(t) {
+    if pricing::bands_fit(tariff) {
+        if pricing::prices_fit(tariff) {
             let frames = state.frames;
             let rest = apart::rest_of(state);
             let tested = good::good(&frames, rest);
             if tested.fits {
-                ChargeAnswer::Cents(pricing::cents(t, state.totals.failed))
+                ChargeAnswer::Cents(pricing::cents(tariff, state.totals.failed))
             } else {
                 refuse(12)
             }

@@ -15,7 +15,7 @@ bands-fit-requires c κs = search needs
 prices-fit-requires : tie.Need-prices-fit-requires
 prices-fit-requires c κs =
     let b = c .before in
-    rise-facts (b .before .args .t) (sym (b .bands-fit .ensures) ∙ c .if1 .taken) .few
+    rise-facts (b .before .args .tariff) (sym (b .bands-fit .ensures) ∙ c .if1 .taken) .few
 
 rest-of-requires : tie.Need-rest-of-requires
 rest-of-requires c κs = search needs
@@ -32,8 +32,8 @@ cents-requires c κs =
     let p = r .before .before .before in
     let b = p .before .before in
     let a = b .before .args in
-    let bands : bandsFit (a .t) ≡ true = sym (b .bands-fit .ensures) ∙ p .before .if1 .taken in
-    let prices : pricesFit (a .t) ≡ true = sym (p .prices-fit .ensures) ∙ r .before .before .if2 .taken in
+    let bands : bandsFit (a .tariff) ≡ true = sym (b .bands-fit .ensures) ∙ p .before .if1 .taken in
+    let prices : pricesFit (a .tariff) ≡ true = sym (p .prices-fit .ensures) ∙ r .before .before .if2 .taken in
     let good : goodState (a .state) ≡ true = sym (ap goodState (r .rest-of .ensures)) ∙ sym (c .before .good2 .ensures .0) ∙ c .if3 .taken in
     (bands, (prices, omega (arith, failed-most (a .state) good)))
 
@@ -54,10 +54,10 @@ returns c =
     let p = r .before .before .before in
     let b = p .before .before in
     let a = b .before .args in
-    let bands : bandsFit (a .t) ≡ true = sym (b .bands-fit .ensures) ∙ p .before .if1 .taken in
-    let prices : pricesFit (a .t) ≡ true = sym (p .prices-fit .ensures) ∙ r .before .before .if2 .taken in
+    let bands : bandsFit (a .tariff) ≡ true = sym (b .bands-fit .ensures) ∙ p .before .if1 .taken in
+    let prices : pricesFit (a .tariff) ≡ true = sym (p .prices-fit .ensures) ∙ r .before .before .if2 .taken in
     let good : goodState (a .state) ≡ true = sym (ap goodState (r .rest-of .ensures)) ∙ sym (g .good2 .ensures .0) ∙ c .before .if3 .taken in
-    ap cents (c .cents .ensures) ∙ sym (charged-by (a .state) (a .t) bands prices good)
+    ap cents (c .cents .ensures) ∙ sym (charged-by (a .state) (a .tariff) bands prices good)
 
 -- 12
 returns-2 : tie.Need-returns-2
@@ -67,10 +67,10 @@ returns-2 c =
     let p = r .before .before .before in
     let b = p .before .before in
     let a = b .before .args in
-    let bands : bandsFit (a .t) ≡ true = sym (b .bands-fit .ensures) ∙ p .before .if1 .taken in
-    let prices : pricesFit (a .t) ≡ true = sym (p .prices-fit .ensures) ∙ r .before .before .if2 .taken in
+    let bands : bandsFit (a .tariff) ≡ true = sym (b .bands-fit .ensures) ∙ p .before .if1 .taken in
+    let prices : pricesFit (a .tariff) ≡ true = sym (p .prices-fit .ensures) ∙ r .before .before .if2 .taken in
     let bad : goodState (a .state) ≡ false = sym (ap goodState (r .rest-of .ensures)) ∙ sym (g .good2 .ensures .0) ∙ c .before .if3 .left in
-    ap chargeTold (c .refuse .ensures) ∙ sym (turned-12 (a .state) (a .t) bands prices bad)
+    ap chargeTold (c .refuse .ensures) ∙ sym (turned-12 (a .state) (a .tariff) bands prices bad)
 
 -- 29
 returns-3 : tie.Need-returns-3
@@ -78,17 +78,17 @@ returns-3 c =
     let p = c .before .before in
     let b = p .before .before in
     let a = b .before .args in
-    let bands : bandsFit (a .t) ≡ true = sym (b .bands-fit .ensures) ∙ p .before .if1 .taken in
-    let prices : pricesFit (a .t) ≡ false = sym (p .prices-fit .ensures) ∙ c .before .if2 .left in
-    ap chargeTold (c .refuse2 .ensures) ∙ sym (turned-29 (a .state) (a .t) bands prices)
+    let bands : bandsFit (a .tariff) ≡ true = sym (b .bands-fit .ensures) ∙ p .before .if1 .taken in
+    let prices : pricesFit (a .tariff) ≡ false = sym (p .prices-fit .ensures) ∙ c .before .if2 .left in
+    ap chargeTold (c .refuse2 .ensures) ∙ sym (turned-29 (a .state) (a .tariff) bands prices)
 
 -- 28
 returns-4 : tie.Need-returns-4
 returns-4 c =
     let b = c .before .before in
     let a = b .before .args in
-    let bands : bandsFit (a .t) ≡ false = sym (b .bands-fit .ensures) ∙ c .before .if1 .left in
-    ap chargeTold (c .refuse3 .ensures) ∙ sym (turned-28 (a .state) (a .t) bands)
+    let bands : bandsFit (a .tariff) ≡ false = sym (b .bands-fit .ensures) ∙ c .before .if1 .left in
+    ap chargeTold (c .refuse3 .ensures) ∙ sym (turned-28 (a .state) (a .tariff) bands)
 
 pub charge-spec : {M : Type 1} → statement M
 charge-spec =

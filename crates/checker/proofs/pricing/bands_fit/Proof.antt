@@ -1,11 +1,12 @@
 -- `checker::pricing::bands_fit` meets its contract. Assumes nothing.
-use mathlib.Core.Path.{_≡_, refl, sym, _∙_, ap}
+use mathlib.Core.Path.{_≡_, sym, _∙_, ap}
 use Prim.Native.Nat.{_≤_, _-_}
+use mathlib.Core.Bool.{true, false}
 use native.Mathlib.Numerals.{add-one}
 use native.Mathlib.Omega.{arith}
 use borrow.Author.Needs.{needs}
 use Rattle.checker.specs.Tariff.{bandsOf, riseFrom}
-use Rattle.checker.proofs.Prices.{bandsLeft, left-first, rise-next, rise-not, rise-none, bands-many, bands-by}
+use Rattle.checker.proofs.Prices.{bandsLeft, left-first, rise-step, rise-none, bands-many, bands-by}
 use Rattle.checker.proofs.pricing.bands_fit.Statement.{statement}
 use Rattle.checker.proofs.pricing.bands_fit.Tie as tie
 
@@ -40,13 +41,13 @@ loop-again : tie.Need-loop-again Inv-loop μ-loop
 loop-again c =
     let t = c .before .before .before .before .before .args .t1 in
     let l = c .before .before .before .loop in
-    (omega arith, l .inv .1 ∙ rw (add-one (l .j)) (rise-next t (l .j) (l .before) (c .before .before .loop-test .taken) (c .if2 .taken)))
+    (omega arith, l .inv .1 ∙ rw (add-one (l .j)) (rise-step t (l .j) (l .before) true (c .before .before .loop-test .taken) (c .if2 .taken)))
 
 returns-2 : tie.Need-returns-2 Inv-loop μ-loop
 returns-2 c =
     let t = c .before .before .before .before .before .args .t1 in
     let l = c .before .before .before .loop in
-    let not = rise-not t (l .j) (l .before) (c .before .before .loop-test .taken) (c .if2 .left) in
+    let not = rise-step t (l .j) (l .before) false (c .before .before .loop-test .taken) (c .if2 .left) in
     sym (bands-by t (c .before .before .before .before .if1 .left) ∙ l .inv .1 ∙ not)
 
 returns-3 : tie.Need-returns-3 Inv-loop μ-loop

@@ -1,11 +1,13 @@
 -- `checker::pricing::in_range` meets its contract. Assumes nothing.
-use mathlib.Core.Path.{_≡_, refl, sym, _∙_, ap}
+use mathlib.Core.Path.{_≡_, sym, _∙_, ap}
 use Prim.Native.Nat.{_≤_, _-_}
+use mathlib.Core.Bool.{true, false}
 use native.Mathlib.Numerals.{add-one}
 use native.Mathlib.Omega.{arith}
 use borrow.Author.Needs.{needs}
-use Rattle.checker.specs.Tariff.{bandsOf, inRange}
-use Rattle.checker.proofs.Prices.{bandsLeft, left-first, range-next, range-not, range-none}
+use borrow.Author.Tests.{le-leb, lt-leb}
+use Rattle.checker.specs.Tariff.{priceLimit, bandAt, bandsOf, inRange}
+use Rattle.checker.proofs.Prices.{bandsLeft, left-first, range-step, range-none}
 use Rattle.checker.proofs.pricing.in_range.Statement.{statement}
 use Rattle.checker.proofs.pricing.in_range.Tie as tie
 
@@ -37,13 +39,13 @@ loop-again : tie.Need-loop-again Inv-loop μ-loop
 loop-again c =
     let t = c .before .before .before .before .args .t1 in
     let l = c .before .before .before .loop in
-    (omega arith, l .inv .1 ∙ rw (add-one (l .j)) (range-next t (l .j) (c .before .before .loop-test .taken) (c .if1 .taken)))
+    (omega arith, l .inv .1 ∙ rw (add-one (l .j)) (range-step t (l .j) true (c .before .before .loop-test .taken) (le-leb (bandAt t (l .j) .price) priceLimit (c .if1 .taken))))
 
 returns : tie.Need-returns Inv-loop μ-loop
 returns c =
     let t = c .before .before .before .before .args .t1 in
     let l = c .before .before .before .loop in
-    sym (l .inv .1 ∙ range-not t (l .j) (c .before .before .loop-test .taken) (c .if1 .left))
+    sym (l .inv .1 ∙ range-step t (l .j) false (c .before .before .loop-test .taken) (lt-leb (bandAt t (l .j) .price) priceLimit (c .if1 .left)))
 
 returns-2 : tie.Need-returns-2 Inv-loop μ-loop
 returns-2 c =
