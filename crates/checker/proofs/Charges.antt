@@ -20,10 +20,12 @@ use Rattle.checker.specs.Calls.{Call}
 use Rattle.checker.specs.Demand.{Unrefused, countIn, checkerAfter, machineAfter, handedOut}
 use Rattle.checker.specs.Tariff.{bandLimit, lastLimit, priceLimit, surchargeLimit}
 use Rattle.checker.specs.Tariff.{Band, bandAt, bandsOf, riseFrom, bandsFit, inRange, pricesFit, priceSum, surcharged, centsOf}
-use Rattle.checker.specs.Tariff.{Charge, cents, turned, chargeDef, BandsRise, PricesInRange, ChargeRefused, bands, prices, state}
+use Rattle.checker.specs.Tariff.{Charge, cents, turned, chargeTold, chargeDef, BandsRise, PricesInRange, ChargeRefused, bands, prices, state}
 use Rattle.checker.specs.declared.State.{State}
 use Rattle.checker.specs.declared.Totals.{Totals}
 use Rattle.checker.specs.declared.Tariff.{Tariff}
+use Rattle.checker.specs.declared.ChargeAnswer.{ChargeAnswer}
+use Rattle.checker.specs.declared.ChargeAnswer.the-variants as charges
 use Rattle.checker.proofs.Choices.{less-or}
 use Rattle.checker.proofs.CodeGood.{good-facts}
 use Rattle.checker.proofs.Fresh.{opened-fine}
@@ -170,6 +172,19 @@ charges-exactly s t c = (
   λ e. let f = charged-facts s t c e in (rise-facts t (f .0), (range-facts t (f .1 .0), f .1 .1)),
   λ f. charged-by s t (rise-fits t (f .0)) (range-fits t (f .1 .0)) (f .1 .1 .0) ∙ ap cents (sym (f .1 .1 .1)),
 )
+
+-- ---- what is told fixes the answer
+heard : Charge → ChargeAnswer
+heard (cents c) = charges.Cents c
+heard (turned number place) = charges.Refused (record { number = number; place = place })
+
+heard-back : (a : ChargeAnswer) → heard (chargeTold a) ≡ a
+unfolding heard
+heard-back (charges.Cents c) = refl
+heard-back (charges.Refused r) = refl
+
+pub told-injective : (a b : ChargeAnswer) → chargeTold a ≡ chargeTold b → a ≡ b
+told-injective a b e = sym (heard-back a) ∙ ap heard e ∙ heard-back b
 
 -- ---- what each refusal says
 not-true : (b : Bool) → (b ≡ true → ⊥) → b ≡ false

@@ -1,7 +1,7 @@
 -- The headline statements of this crate, the third demand of document 01 above all. Each is proved where it is cited. Assumes nothing.
 use mathlib.Core.Path.{_≡_}
 use mathlib.Core.Bool.{true, false}
-use mathlib.Core.List.{List, [], map, List·Memᴰ}
+use mathlib.Core.List.{List, [], _∷_, map, List·Memᴰ}
 use mathlib.Core.Logic.{_↔_, _≢_}
 use Prim.Native.Nat.{ℕ, _+_, _*_, _≤_, _<_}
 use lib.IntN.{ℤ, pos}
@@ -41,9 +41,10 @@ use Rattle.checker.specs.Demand.{Unrefused, fresh, answerOf, span, count
 use Rattle.checker.specs.Demand.{reportsOut, Reported, ReportedTwice}
 use Rattle.checker.specs.View.{viewDef, viewsOut, reportedOut, seen}
 use Rattle.checker.specs.Earlier.{RaisedLog}
-use Rattle.checker.specs.Tariff.{priceLimit, bandsOf, priceSum, centsOf, cents, turned, chargeDef, BandsRise, PricesInRange, ChargeRefused}
+use Rattle.checker.specs.Tariff.{priceLimit, bandsOf, priceSum, centsOf, cents, turned, chargeTold, chargeDef, BandsRise, PricesInRange, ChargeRefused}
 use Rattle.checker.specs.declared.State.{State}
 use Rattle.checker.specs.declared.Tariff.{Tariff}
+use Rattle.checker.specs.declared.ChargeAnswer.{ChargeAnswer}
 use Rattle.checker.proofs.Lists
 use Rattle.checker.proofs.Final
 use Rattle.checker.proofs.Sums
@@ -56,7 +57,6 @@ use Rattle.checker.proofs.Reports
 use Rattle.checker.proofs.Views
 use Rattle.checker.proofs.Earlier
 use Rattle.checker.proofs.Charges
-use Rattle.checker.proofs.TariffExamples.{state, example}
 use Rattle.checker.proofs.TariffExamples
 use Rattle.checker.proofs.Unchanged
 use Rattle.checker.proofs.GoodStays
@@ -208,6 +208,10 @@ charges-exactly = Charges.charges-exactly
 pub charge-refused : (s : State) (t : Tariff) (number place : ℕ) → (chargeDef s t ≡ turned number place) ↔ ChargeRefused s t number place
 charge-refused = Charges.charge-refused
 
+-- what is told of the answer fixes it
+pub charge-told-injective : (a b : ChargeAnswer) → chargeTold a ≡ chargeTold b → a ≡ b
+charge-told-injective = Charges.told-injective
+
 -- "More violations never cost less": by every tariff, those that 28 and 29 let through among them
 pub more-never-less : (t : Tariff) (m n : ℕ) → m ≤ n → centsOf t m ≤ centsOf t n
 more-never-less = Charges.more
@@ -232,8 +236,9 @@ pub charged-after : {frames : List ℕ} {w : ℕ} {win : List ℤ} → Unrefused
     → chargeDef (checkerAfter frames w win cs .state) t ≡ cents (centsOf t (countIn (handedOut frames w win cs) False))
 charged-after = Charges.charged-after
 
--- the document's example, computed: 12 violations beside 3 true verdicts and an unknown one
-pub tariff-example : chargeDef (state 3 12 1) example ≡ cents 546
+-- the document's example, computed, of every state with 12 violations that 12 lets through, whatever the entries after the two bands
+pub tariff-example : (s : State) (l l′ p p′ : ℕ) → goodState s ≡ true → s .totals .failed ≡ 12
+    → chargeDef s (record { bands = 2; lasts = 10 ∷ 100 ∷ l ∷ l′ ∷ []; prices = 45 ∷ 30 ∷ p ∷ p′ ∷ []; beyond = 12; surcharge = 7 }) ≡ cents 546
 tariff-example = TariffExamples.document-example
 
 -- the state that a refused opening hands back is refused with 12

@@ -27,7 +27,7 @@ abbrev of : ℕ → List ℕ → List ℕ → Tariff
 of n lasts prices = record { bands = n; lasts = lasts; prices = prices; beyond = 12; surcharge = 7 }
 
 -- "45 cents to 10, 30 to 100, 12 beyond and 7 percent"; the other entries are out of every range
-abbrev pub example : Tariff
+abbrev example : Tariff
 example = of 2 (10 ∷ 100 ∷ 0 ∷ 4294967295 ∷ []) (45 ∷ 30 ∷ 10001 ∷ 4294967295 ∷ [])
 
 -- no band, and both prices at their limits
@@ -133,7 +133,7 @@ unfolding bandsFrom surcharged
 greatest = ap (λ (sum : ℕ). surcharged sum 100) (sum-none 10000 1009999)
 
 -- ---- the call: a state of document 01's first rule with these totals
-abbrev pub state : ℕ → ℕ → ℕ → State
+abbrev state : ℕ → ℕ → ℕ → State
 state held failed unknown =
     let s = freshState (bytesOf (postfix latency)) 1 in
     record {
@@ -145,10 +145,16 @@ state held failed unknown =
       totals = record { held = held; failed = failed; unknown = unknown };
     }
 
--- "With 45 cents to 10, 30 to 100, 12 beyond and 7 percent, 12 violations cost 546 cents": the true and the unknown don't count
-pub document-example : chargeDef (state 3 12 1) example ≡ cents 546
+-- the true and the unknown don't count
+beside-others : chargeDef (state 3 12 1) example ≡ cents 546
 unfolding bandsFrom riseFrom bandsFit inRange pricesFit priceOf priceSum surcharged chargeDef kindOf referenceCount orderOf sizesFit treeOf checkedOf ofEvent referenced smallest base freshState goodRule goodCount allTo goodTally goodState
-document-example = refl
+beside-others = refl
+
+-- "With 45 cents to 10, 30 to 100, 12 beyond and 7 percent, 12 violations cost 546 cents"
+pub document-example : (s : State) (l l′ p p′ : ℕ) → goodState s ≡ true → s .totals .failed ≡ 12
+    → chargeDef s (of 2 (10 ∷ 100 ∷ l ∷ l′ ∷ []) (45 ∷ 30 ∷ p ∷ p′ ∷ [])) ≡ cents 546
+unfolding bandsFrom riseFrom bandsFit inRange pricesFit priceOf priceSum surcharged chargeDef
+document-example s l l′ p p′ g e = rw (g, e)
 
 -- "28 .. 29 .. in this order, first .. 12 tests afterwards"
 bad-29 : Tariff

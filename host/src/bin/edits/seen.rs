@@ -43,7 +43,7 @@ mod tests {
             ),
             (
                 "specs/D.antt",
-                "abbrev pub flat : ℕ → ℕ\nflat n = n + 1\n\n-- one that is deep\nabbrev pub deep : ℕ → ℕ\ndeep n =\n    flat n + 2\n",
+                "use Prim.Native.Nat.{ℕ, _+_}\n\nabbrev pub flat : ℕ → ℕ\nflat n = n + 1\n\n-- one that is deep\nabbrev pub deep : ℕ → ℕ\ndeep n =\n    flat n + 2\n",
             ),
             ("proofs/Law.antt", "use Rattle.c.specs.D.{deep}\nlaw : (n : ℕ) → deep n ≡ n + 3\nlaw n = refl\n"),
         ];
@@ -97,6 +97,13 @@ mod tests {
         assert_eq!(places(FLAT, &[OF_G]), [None]);
         assert_eq!(places(DEEP, &[OF_LAW]), [some("law")]);
         assert_eq!(places(DEEP, &[OF_F]), [None]);
+    }
+
+    #[test]
+    fn a_line_that_only_brings_names_in_is_passed_over() {
+        let names = "file: specs/D.antt\nold: {ℕ, _+_}\nnew: {ℕ, _+_, _-_}\n";
+        assert_eq!(places(&format!("{DEEP}{names}"), &[OF_LAW]), [some("law")]);
+        assert_eq!(places(&format!("Names.\n{names}"), &[OF_LAW]), [None]);
     }
 
     #[test]

@@ -82,7 +82,7 @@ impl Sources {
             .find(&change.old)
             .unwrap_or_else(|| panic!("{file} has no `{}`", change.old));
         if file.starts_with("specs/") {
-            let name = definition_at(text, place);
+            let name = definition_at(text, place)?;
             let it = self
                 .definitions
                 .iter()
@@ -288,8 +288,8 @@ fn declarations(text: &str) -> Vec<(String, String)> {
 }
 
 /// The definition that has a place of a file of specs/: the last line up to there that begins with a name, as far to the right as
-/// the line with its type.
-fn definition_at(text: &str, place: usize) -> String {
+/// the line with its type; none above the first definition.
+fn definition_at(text: &str, place: usize) -> Option<String> {
     let indent = |line: &str| line.len() - line.trim_start().len();
     let names: Vec<(usize, &str)> = text
         .lines()
@@ -303,7 +303,7 @@ fn definition_at(text: &str, place: usize) -> String {
         .rev()
         .filter_map(|line| Some((indent(line), line.split_whitespace().next()?)));
     let found = firsts.into_iter().find(|first| names.contains(first));
-    found.expect("a definition with a type").1.to_string()
+    found.map(|(_, name)| name.to_string())
 }
 
 /// Whether a text has a name as a whole word.
