@@ -20,7 +20,7 @@ use Rattle.checker.specs.Calls.{Call}
 use Rattle.checker.specs.Demand.{Unrefused, countIn, checkerAfter, machineAfter, handedOut}
 use Rattle.checker.specs.Tariff.{bandLimit, lastLimit, priceLimit, surchargeLimit}
 use Rattle.checker.specs.Tariff.{Band, bandAt, bandsOf, riseFrom, bandsFit, inRange, pricesFit, priceSum, surcharged, centsOf}
-use Rattle.checker.specs.Tariff.{Charge, cents, turned, chargeTold, chargeDef, BandsRise, PricesInRange, ChargeRefused, bands, prices, state}
+use Rattle.checker.specs.Tariff.{Charge, cents, turned, chargeTold, chargeDef, BandsRise, PricesInRange, ChargeRefused, bad-bands, bad-prices, bad-state}
 use Rattle.checker.specs.declared.State.{State}
 use Rattle.checker.specs.declared.Totals.{Totals}
 use Rattle.checker.specs.declared.Tariff.{Tariff}
@@ -195,16 +195,16 @@ refused-by : (s : State) (t : Tariff) (x y z : Bool) (n number place : ℕ) → 
     → chargeBy x y z n ≡ turned number place → ChargeRefused s t number place
 refused-by s t true true true n number place a b g e = absurd (true-false (ap isCents e))
 refused-by s t true true false n number place a b g e =
-    rw (sym (ap numberIn e), sym (ap placeIn e)) (state (rise-facts t a) (range-facts t b) g)
+    rw (sym (ap numberIn e), sym (ap placeIn e)) (bad-state (rise-facts t a) (range-facts t b) g)
 refused-by s t true false z n number place a b g e =
-    rw (sym (ap numberIn e), sym (ap placeIn e)) (prices (rise-facts t a) (λ r. true-false (sym (range-fits t r) ∙ b)))
+    rw (sym (ap numberIn e), sym (ap placeIn e)) (bad-prices (rise-facts t a) (λ r. true-false (sym (range-fits t r) ∙ b)))
 refused-by s t false y z n number place a b g e =
-    rw (sym (ap numberIn e), sym (ap placeIn e)) (bands (λ r. true-false (sym (rise-fits t r) ∙ a)))
+    rw (sym (ap numberIn e), sym (ap placeIn e)) (bad-bands (λ r. true-false (sym (rise-fits t r) ∙ a)))
 
 refused-back : (s : State) (t : Tariff) (number place : ℕ) → ChargeRefused s t number place → chargeDef s t ≡ turned number place
-refused-back s t _ _ (bands h) = turned-28 s t (not-true (bandsFit t) (λ e. h (rise-facts t e)))
-refused-back s t _ _ (prices r h) = turned-29 s t (rise-fits t r) (not-true (pricesFit t) (λ e. h (range-facts t e)))
-refused-back s t _ _ (state r p g) = turned-12 s t (rise-fits t r) (range-fits t p) g
+refused-back s t _ _ (bad-bands h) = turned-28 s t (not-true (bandsFit t) (λ e. h (rise-facts t e)))
+refused-back s t _ _ (bad-prices r h) = turned-29 s t (rise-fits t r) (not-true (pricesFit t) (λ e. h (range-facts t e)))
+refused-back s t _ _ (bad-state r p g) = turned-12 s t (rise-fits t r) (range-fits t p) g
 
 pub charge-refused : (s : State) (t : Tariff) (number place : ℕ) → (chargeDef s t ≡ turned number place) ↔ ChargeRefused s t number place
 unfolding chargeDef

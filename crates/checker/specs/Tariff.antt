@@ -127,6 +127,6 @@ pub record PricesInRange (t : Tariff) : Type 0 where
 
 -- "28 .. 29 .. in this order, first .. 12 tests afterwards": what each refusal says of the state and the tariff; none names a place
 pub data ChargeRefused (s : State) (t : Tariff) : ℕ → ℕ → Type 0 where
-  bands : (BandsRise t → ⊥) → ChargeRefused s t 28 0
-  prices : BandsRise t → (PricesInRange t → ⊥) → ChargeRefused s t 29 0
-  state : BandsRise t → PricesInRange t → goodState s ≡ false → ChargeRefused s t 12 0
+  bad-bands : (BandsRise t → ⊥) → ChargeRefused s t 28 0
+  bad-prices : BandsRise t → (PricesInRange t → ⊥) → ChargeRefused s t 29 0
+  bad-state : BandsRise t → PricesInRange t → goodState s ≡ false → ChargeRefused s t 12 0
