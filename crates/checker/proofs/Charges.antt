@@ -1,16 +1,15 @@
 -- What charges come to: more violations never cost less, the greatest charge, rounding, what each refusal says, and the charge after a
 -- list of calls. Assumes nothing.
 use mathlib.Core.Path.{_≡_, refl, sym, _∙_, ap}
-use mathlib.Core.Bool.{Bool, true, false, _&&_, cond}
+use mathlib.Core.Bool.{Bool, true, false, cond}
 use mathlib.Core.List.{List}
 use mathlib.Core.Logic.{_↔_, ⊎-elim}
 use Prim.Native.Nat.{ℕ, zero, suc, _+_, _*_, _≤_, _<_}
 use native.Mathlib.Omega.{arith}
 use native.Mathlib.Nat.{mul-le-mul, mul-le-mul-right}
-use borrow.Author.Tests.{leb-true, le-leb, lt-ltb}
-use lib.Dec.{leb}
+use borrow.Author.Tests.{le-leb, lt-ltb}
 use lib.IntN.{ℤ}
-use Rattle.numbers.proofs.Bools.{true-false, and-true, true-and}
+use Rattle.numbers.proofs.Bools.{true-false, true-and}
 use Rattle.verdict.specs.Found.{instanceLimit}
 use Rattle.verdict.specs.declared.Truth.the-variants.{False}
 use Rattle.rule.specs.Check.{checkedOf}
@@ -33,7 +32,7 @@ use Rattle.checker.proofs.Lists as lists
 use Rattle.checker.proofs.Sums as sums
 use Rattle.checker.proofs.Simulation as simulation
 use Rattle.checker.proofs.Prices.{bandsLeft, left-first, follows, rise-step, rise-none, range-step, range-none, lastBefore, rise-at, range-at}
-use Rattle.checker.proofs.Prices.{Fits, fits, sum-bound}
+use Rattle.checker.proofs.Prices.{bands-facts, prices-facts, Fits, fits, sum-bound}
 
 -- ---- more violations
 sum-more : (bs : List Band) (beyond m n : ℕ) → m ≤ n → priceSum bs beyond m ≤ priceSum bs beyond n
@@ -65,11 +64,10 @@ rise-above t e (suc j) h i l =
     (less-or i j)
 
 pub rise-facts : (t : Tariff) → bandsFit t ≡ true → BandsRise t
-unfolding bandsFit
 rise-facts t e =
-    let a = and-true (leb (t .bands) bandLimit) (riseFrom 0 (bandsOf t)) e in
+    let a = bands-facts t e in
     record {
-      few = leb-true (t .bands) bandLimit (a .0);
+      few = a .0;
       above = λ j h. omega (arith, rise-at t (a .1) j h .0);
       rise = λ i j l h. omega (arith, rise-above t (a .1) j (omega arith) i l, rise-at t (a .1) j h .0);
       most = λ j h. rise-at t (a .1) j h .1;
@@ -97,15 +95,9 @@ rise-fits t r =
     (rise-on t r (t .bands) (omega arith) ∙ rise-none t (t .bands) (lastBefore t (t .bands)) (omega arith))
 
 pub range-facts : (t : Tariff) → pricesFit t ≡ true → PricesInRange t
-unfolding pricesFit
-range-facts t f =
-    let b = and-true (inRange (bandsOf t) && leb (t .beyond) priceLimit) (leb (t .surcharge) surchargeLimit) f in
-    let c = and-true (inRange (bandsOf t)) (leb (t .beyond) priceLimit) (b .0) in
-    record {
-      each = λ j h. range-at t (c .0) j h;
-      beyond = leb-true (t .beyond) priceLimit (c .1);
-      surcharge = leb-true (t .surcharge) surchargeLimit (b .1);
-    }
+range-facts t e =
+    let a = prices-facts t e in
+    record { each = λ j h. range-at t (a .0) j h; beyond = a .1; surcharge = a .2 }
 
 range-on : (t : Tariff) → PricesInRange t → (j : ℕ) → j ≤ t .bands → inRange (bandsOf t) ≡ inRange (bandsLeft t j)
 range-on t r zero h = ap inRange (left-first t)
@@ -187,9 +179,9 @@ pub told-injective : (a b : ChargeAnswer) → chargeTold a ≡ chargeTold b → 
 told-injective a b e = sym (heard-back a) ∙ ap heard e ∙ heard-back b
 
 -- ---- what each refusal says
-not-true : (b : Bool) → (b ≡ true → ⊥) → b ≡ false
-not-true true h = absurd (h refl)
-not-true false h = refl
+never-true : (b : Bool) → (b ≡ true → ⊥) → b ≡ false
+never-true true h = absurd (h refl)
+never-true false h = refl
 
 refused-by : (s : State) (t : Tariff) (x y z : Bool) (n number place : ℕ) → bandsFit t ≡ x → pricesFit t ≡ y → goodState s ≡ z
     → chargeBy x y z n ≡ turned number place → ChargeRefused s t number place
@@ -202,8 +194,8 @@ refused-by s t false y z n number place a b g e =
     rw (sym (ap numberIn e), sym (ap placeIn e)) (bad-bands (λ r. true-false (sym (rise-fits t r) ∙ a)))
 
 refused-back : (s : State) (t : Tariff) (number place : ℕ) → ChargeRefused s t number place → chargeDef s t ≡ turned number place
-refused-back s t _ _ (bad-bands h) = turned-28 s t (not-true (bandsFit t) (λ e. h (rise-facts t e)))
-refused-back s t _ _ (bad-prices r h) = turned-29 s t (rise-fits t r) (not-true (pricesFit t) (λ e. h (range-facts t e)))
+refused-back s t _ _ (bad-bands h) = turned-28 s t (never-true (bandsFit t) (λ e. h (rise-facts t e)))
+refused-back s t _ _ (bad-prices r h) = turned-29 s t (rise-fits t r) (never-true (pricesFit t) (λ e. h (range-facts t e)))
 refused-back s t _ _ (bad-state r p g) = turned-12 s t (rise-fits t r) (range-fits t p) g
 
 pub charge-refused : (s : State) (t : Tariff) (number place : ℕ) → (chargeDef s t ≡ turned number place) ↔ ChargeRefused s t number place

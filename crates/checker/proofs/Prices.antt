@@ -148,6 +148,19 @@ pub range-at : (t : Tariff) → inRange (bandsOf t) ≡ true → (j : ℕ) → j
 range-at t e j h = range-here t j h (range-left t e j (omega arith)) .0
 
 -- ---- a tariff that 28 and 29 let through
+pub bands-facts : (t : Tariff) → bandsFit t ≡ true → (t .bands ≤ bandLimit) × (riseFrom 0 (bandsOf t) ≡ true)
+unfolding bandsFit
+bands-facts t e =
+    let a = and-true (leb (t .bands) bandLimit) (riseFrom 0 (bandsOf t)) e in
+    (leb-true (t .bands) bandLimit (a .0), a .1)
+
+pub prices-facts : (t : Tariff) → pricesFit t ≡ true → (inRange (bandsOf t) ≡ true) × (t .beyond ≤ priceLimit) × (t .surcharge ≤ surchargeLimit)
+unfolding pricesFit
+prices-facts t e =
+    let a = and-true (inRange (bandsOf t) && leb (t .beyond) priceLimit) (leb (t .surcharge) surchargeLimit) e in
+    let b = and-true (inRange (bandsOf t)) (leb (t .beyond) priceLimit) (a .0) in
+    (b .0, leb-true (t .beyond) priceLimit (b .1), leb-true (t .surcharge) surchargeLimit (a .1))
+
 pub record Fits (t : Tariff) : Type 0 where
   pub few : t .bands ≤ bandLimit
   pub rise : riseFrom 0 (bandsOf t) ≡ true
@@ -156,18 +169,10 @@ pub record Fits (t : Tariff) : Type 0 where
   pub surcharge : t .surcharge ≤ surchargeLimit
 
 pub fits : (t : Tariff) → bandsFit t ≡ true → pricesFit t ≡ true → Fits t
-unfolding bandsFit pricesFit
 fits t e f =
-    let a = and-true (leb (t .bands) bandLimit) (riseFrom 0 (bandsOf t)) e in
-    let b = and-true (inRange (bandsOf t) && leb (t .beyond) priceLimit) (leb (t .surcharge) surchargeLimit) f in
-    let c = and-true (inRange (bandsOf t)) (leb (t .beyond) priceLimit) (b .0) in
-    record {
-      few = leb-true (t .bands) bandLimit (a .0);
-      rise = a .1;
-      range = c .0;
-      beyond = leb-true (t .beyond) priceLimit (c .1);
-      surcharge = leb-true (t .surcharge) surchargeLimit (b .1);
-    }
+    let a = bands-facts t e in
+    let b = prices-facts t f in
+    record { few = a .0; rise = a .1; range = b .0; beyond = b .1; surcharge = b .2 }
 
 -- ---- violations after the last number before the j-th band have the prices of the bands from there on
 price-left : (t : Tariff) → riseFrom 0 (bandsOf t) ≡ true → (j : ℕ) → j ≤ t .bands → (k : ℕ) → lastBefore t j < k
@@ -180,29 +185,26 @@ price-left t e (suc j) h k l =
     ∙ ap (λ (bs : List Band). priceOf bs (t .beyond) k) (left-next t j (omega arith))
     ∙ price-past (bandAt t j) (bandsLeft t (suc j)) (t .beyond) k l
 
--- the prices of violations 1 to n in the j-th band, by those before it
-sum-band : (t : Tariff) → riseFrom 0 (bandsOf t) ≡ true → (j n : ℕ) → j < t .bands → lastBefore t j ≤ n → n ≤ bandAt t j .last
-    → priceSum (bandsOf t) (t .beyond) (lastBefore t j) + (n - lastBefore t j) * bandAt t j .price ≡ priceSum (bandsOf t) (t .beyond) n
-sum-band t e j n h l u =
-    let d = lastBefore t j in
-    let q : d + (n - d) ≡ n = omega arith in
-    let p : (k : ℕ) → d < k → k ≤ d + (n - d) → priceOf (bandsOf t) (t .beyond) k ≡ bandAt t j .price = λ k a b.
-    price-left t e j (omega arith) k a
+-- the price of a violation in the j-th band, and beyond the last
+price-band : (t : Tariff) → riseFrom 0 (bandsOf t) ≡ true → (j : ℕ) → j < t .bands → (k : ℕ) → lastBefore t j < k → k ≤ bandAt t j .last
+    → priceOf (bandsOf t) (t .beyond) k ≡ bandAt t j .price
+price-band t e j h k l u =
+    price-left t e j (omega arith) k l
     ∙ ap (λ (bs : List Band). priceOf bs (t .beyond) k) (left-next t j h)
-    ∙ price-in (bandAt t j) (bandsLeft t (suc j)) (t .beyond) k (omega arith) in
-    sym (sum-flat (bandsOf t) (t .beyond) (bandAt t j .price) d (n - d) p) ∙ ap (priceSum (bandsOf t) (t .beyond)) q
+    ∙ price-in (bandAt t j) (bandsLeft t (suc j)) (t .beyond) k u
 
--- and those beyond the last band
-sum-beyond : (t : Tariff) → riseFrom 0 (bandsOf t) ≡ true → (n : ℕ) → lastBefore t (t .bands) ≤ n
-    → priceSum (bandsOf t) (t .beyond) (lastBefore t (t .bands)) + (n - lastBefore t (t .bands)) * t .beyond ≡ priceSum (bandsOf t) (t .beyond) n
+price-beyond : (t : Tariff) → riseFrom 0 (bandsOf t) ≡ true → (k : ℕ) → lastBefore t (t .bands) < k → priceOf (bandsOf t) (t .beyond) k ≡ t .beyond
 unfolding priceOf
-sum-beyond t e n l =
-    let d = lastBefore t (t .bands) in
+price-beyond t e k l =
+    price-left t e (t .bands) (omega arith) k l
+    ∙ ap (λ (bs : List Band). priceOf bs (t .beyond) k) (left-none t (t .bands) (omega arith))
+
+-- violations d + 1 to n at one price
+sum-to : (bs : List Band) (beyond price d n : ℕ) → d ≤ n → ((k : ℕ) → d < k → k ≤ n → priceOf bs beyond k ≡ price)
+    → priceSum bs beyond d + (n - d) * price ≡ priceSum bs beyond n
+sum-to bs beyond price d n l h =
     let q : d + (n - d) ≡ n = omega arith in
-    let p : (k : ℕ) → d < k → k ≤ d + (n - d) → priceOf (bandsOf t) (t .beyond) k ≡ t .beyond = λ k a b.
-    price-left t e (t .bands) (omega arith) k a
-    ∙ ap (λ (bs : List Band). priceOf bs (t .beyond) k) (left-none t (t .bands) (omega arith)) in
-    sym (sum-flat (bandsOf t) (t .beyond) (t .beyond) d (n - d) p) ∙ ap (priceSum (bandsOf t) (t .beyond)) q
+    sym (sum-flat bs beyond price d (n - d) (λ k a b. h k a (omega arith))) ∙ ap (priceSum bs beyond) q
 
 -- ---- before the j-th band: the prices of the violations up to the last number before it are summed
 pub record Priced (t : Tariff) (n j sum priced : ℕ) : Type 0 where
@@ -219,8 +221,9 @@ module _ (t : Tariff) (f : Fits t) (n j sum priced amount : ℕ) (p : Priced t n
   -- violation n is in the j-th band
   pub priced-here : j < t .bands → n ≤ bandAt t j .last → amount ≡ (n - priced) * bandAt t j .price → sum + amount ≡ priceSum (bandsOf t) (t .beyond) n
   priced-here h l a =
-      let s = sum-band t (f .rise) j n h (rw (← p .last) (p .most)) l in
-      rw (p .summed, a, p .last) s
+      let s = sum-to (bandsOf t) (t .beyond) (bandAt t j .price) priced n (p .most)
+      (λ k g u. price-band t (f .rise) j h k (rw (← p .last) g) (omega arith)) in
+      rw (p .summed, a) s
 
   -- it is after the j-th band
   pub priced-next : j < t .bands → bandAt t j .last < n → amount ≡ (bandAt t j .last - priced) * bandAt t j .price
@@ -228,16 +231,17 @@ module _ (t : Tariff) (f : Fits t) (n j sum priced amount : ℕ) (p : Priced t n
   unfolding lastBefore
   priced-next h l a =
       let r = rise-at t (f .rise) j h in
-      let s = sum-band t (f .rise) j (bandAt t j .last) h (omega (arith, r .0)) (omega arith) in
-      record { within = omega arith; last = refl; most = omega arith; summed = rw (p .summed, a, p .last) s }
+      let s = sum-to (bandsOf t) (t .beyond) (bandAt t j .price) priced (bandAt t j .last) (omega (arith, r .0, p .last))
+      (λ k g u. price-band t (f .rise) j h k (rw (← p .last) g) u) in
+      record { within = omega arith; last = refl; most = omega arith; summed = rw (p .summed, a) s }
 
   -- it is beyond the last band
   pub priced-beyond : t .bands ≤ j → amount ≡ (n - priced) * t .beyond → sum + amount ≡ priceSum (bandsOf t) (t .beyond) n
   priced-beyond h a =
       let q : j ≡ t .bands = omega (arith, p .within) in
       let e : priced ≡ lastBefore t (t .bands) = p .last ∙ ap (lastBefore t) q in
-      let s = sum-beyond t (f .rise) n (rw (← e) (p .most)) in
-      rw (p .summed, a, e) s
+      let s = sum-to (bandsOf t) (t .beyond) (t .beyond) priced n (p .most) (λ k g u. price-beyond t (f .rise) k (rw (← e) g)) in
+      rw (p .summed, a) s
 
 -- the prices of violations that a state may count
 pub sum-within : (t : Tariff) → Fits t → (n : ℕ) → n ≤ lastLimit → priceSum (bandsOf t) (t .beyond) n ≤ lastLimit * priceLimit

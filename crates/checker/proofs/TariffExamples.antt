@@ -1,6 +1,6 @@
 -- Charges, computed: each limit of 28 and 29 from both sides, prices at a band's end, rounding, the order of the refusals, and the
 -- document's example. Assumes nothing.
-use mathlib.Core.Path.{_≡_, refl, ap}
+use mathlib.Core.Path.{_≡_, refl, _∙_, ap}
 use mathlib.Core.Bool.{true, false}
 use mathlib.Core.List.{List, [], _∷_}
 use Prim.Native.Nat.{ℕ, _+_}
@@ -21,6 +21,7 @@ use Rattle.checker.specs.declared.State.{State}
 use Rattle.checker.specs.declared.Tariff.{Tariff}
 use Rattle.checker.proofs.Marked.{latency}
 use Rattle.checker.proofs.Prices.{sum-none}
+use Rattle.checker.proofs.Charges.{charged-by, turned-12}
 
 -- a tariff with these bands, where each violation beyond them costs 12 cents and the surcharge is 7 percent
 abbrev of : ℕ → List ℕ → List ℕ → Tariff
@@ -127,7 +128,7 @@ around : (centsOf example 0 ≡ 0) × (centsOf example 1 ≡ 48) × (centsOf exa
 unfolding bandsFrom priceOf priceSum surcharged
 around = (refl, refl, refl, refl, refl, refl, refl)
 
--- the greatest charge that a state can have
+-- so many violations at the highest price and surcharge
 greatest : centsOf noBand 1009999 ≡ 20199980000
 unfolding bandsFrom surcharged
 greatest = ap (λ (sum : ℕ). surcharged sum 100) (sum-none 10000 1009999)
@@ -149,6 +150,15 @@ state held failed unknown =
 beside-others : chargeDef (state 3 12 1) example ≡ cents 546
 unfolding bandsFrom riseFrom bandsFit inRange pricesFit priceOf priceSum surcharged chargeDef kindOf referenceCount orderOf sizesFit treeOf checkedOf ofEvent referenced smallest base freshState goodRule goodCount allTo goodTally goodState
 beside-others = refl
+
+-- the greatest charge, and one violation more than a state can have
+most-charged : chargeDef (state 0 1009999 0) noBand ≡ cents 20199980000
+unfolding bandsFrom riseFrom bandsFit inRange pricesFit kindOf referenceCount orderOf sizesFit treeOf checkedOf ofEvent referenced smallest base freshState goodRule goodCount allTo goodTally goodState
+most-charged = charged-by (state 0 1009999 0) noBand refl refl refl ∙ ap cents greatest
+
+one-too-many : chargeDef (state 0 1010000 0) noBand ≡ turned 12 0
+unfolding bandsFrom riseFrom bandsFit inRange pricesFit kindOf referenceCount orderOf sizesFit treeOf checkedOf ofEvent referenced smallest base freshState goodRule goodCount allTo goodTally goodState
+one-too-many = turned-12 (state 0 1010000 0) noBand refl refl refl
 
 -- "With 45 cents to 10, 30 to 100, 12 beyond and 7 percent, 12 violations cost 546 cents"
 pub document-example : (s : State) (l l′ p p′ : ℕ) → goodState s ≡ true → s .totals .failed ≡ 12
