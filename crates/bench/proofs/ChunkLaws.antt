@@ -11,11 +11,12 @@ use lib.IntN.{ℤ}
 use lib.ListN.{length, take, drop, length-append, length-take, length-drop, drop-of-length-le}
 use lib.Seq.{take-all, take-take, take-append-le, length-take-le, drop-drop}
 use Rattle.log.specs.Digit.{isDigit}
-use Rattle.log.specs.Line.{digitsAtFront, badPlace, lineOf, refused}
+use Rattle.log.specs.Line.{Told, digitsAtFront, badPlace, lineOf, refused}
 use Rattle.log.specs.Walk.{toLF, endOf, lineAt}
 use Rattle.log.specs.declared.walk.Found.the-variants.{Line, End}
 use Rattle.log.proofs.Main.{line-of-other, endOf-within}
-use Rattle.checker.specs.Feed.{feedDef}
+use Rattle.checker.specs.Admission.{Admission, admitted, barred, admission}
+use Rattle.checker.specs.Feed.{fedBy, lineIn, fedIf, feedDef}
 use Rattle.checker.specs.Ready.{Ready}
 use Rattle.checker.specs.declared.State.{State}
 use Rattle.bench.specs.Kept.{keptLimit, kept}
@@ -52,7 +53,11 @@ line-kept l =
 
 feed-kept : (s : State) (win : List ℤ) (l : List ℕ) → feedDef s win (take keptLimit l) ≡ feedDef s win l
 unfolding feedDef
-feed-kept s win l = rw (line-kept l)
+feed-kept s win l = go (admission s win)
+  where
+    go : (a : Admission) → fedIf s win (take keptLimit l) a ≡ fedIf s win l a
+    go admitted = ap (λ (d : Told). fedBy s win (lineIn s d)) (line-kept l)
+    go (barred number) = refl
 
 pub after-kept : (x : Progress) (l : List ℕ) → afterLine x (take keptLimit l) ≡ afterLine x l
 unfolding fedLine
@@ -222,7 +227,7 @@ last-held x (b ∷ bs) h = refl
 -- ---- what the loop over a chunk keeps
 pub record Walked (frames carry0 : List ℕ) (win0 : List ℤ) (out0 s : List ℕ) (q0 : Run) (carry : List ℕ) (win : List ℤ) (out : List ℕ) (q : Run) (at : ℕ) : Type 0 where
   pub within : at ≤ length s
-  pub ready : Ready frames (q .rest) (length win)
+  pub ready : Ready frames (q .fields) win
   pub full : q .full ≤ outBytes
   pub held : q .held ≤ keptLimit
   pub carry-long : length carry ≡ keptLimit

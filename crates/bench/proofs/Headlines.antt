@@ -22,6 +22,7 @@ use Rattle.checker.specs.Good.{goodState}
 use Rattle.checker.specs.Report.{reportBytes}
 use Rattle.checker.specs.Pull.{foundHere, pullDef}
 use Rattle.checker.specs.declared.State.{State}
+use Rattle.checker.proofs.Laws.{let-in}
 use Rattle.bench.specs.Print.{refusedLine, reportPart}
 use Rattle.bench.specs.Kept.{keptLimit}
 use Rattle.bench.specs.Progress.{Progress, blank, UntilWaiting, pulls, pullLimit, fedLine, afterLine, afterLines, Open, afterBytes, atEnd}
@@ -34,7 +35,7 @@ use Rattle.bench.proofs.Waiting
 -- pullLimit pulls are enough
 pub pulls-wait : (x : Progress) → goodState (x .state) ≡ true → Bytes (stateFrames (x .state))
     → windowFits (x .state .width) (x .words) ≡ true → UntilWaiting x (pulls pullLimit x)
-pulls-wait x g b f = Waiting.pulls-wait x (record { good = g; bytes = b; fits = f })
+pulls-wait x g b f = Waiting.pulls-wait x (record { admits = let-in (x .state) (x .words) g f; bytes = b })
 
 -- ".. before the first line and after each": for every rule that is read, and after whatever lines
 module _ (text : List ℕ) (n : ℕ) (s : List ℕ) (r : readOf text (replicate (frameLimit * frameBytes) 0) ≡ (Frames n, s)) where

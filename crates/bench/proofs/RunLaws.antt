@@ -1,5 +1,5 @@
 -- Progress, step by step: what waits, what was written out before, and what each step adds. Assumes nothing.
-use mathlib.Core.Path.{_≡_, refl, sym, ap, _∙_}
+use mathlib.Core.Path.{_≡_, refl, sym, ap, ap₂, _∙_}
 use mathlib.Core.Bool.{Bool, true, false, cond}
 use mathlib.Core.List.{List, [], _++_, append-assoc, append-nil}
 use Prim.Native.Nat.{ℕ, zero, suc, _+_, _-_, _*_, _≤_, _<_, min}
@@ -10,23 +10,25 @@ use lib.ListN.{length, getD, take, drop, length-append}
 use lib.Seq.{sets, sets-eq, take-at, take-all, length-take-le}
 use Rattle.rule.specs.Limits.{frameLimit, frameBytes}
 use Rattle.rule.specs.Frames.{Bytes}
-use Rattle.checker.specs.Limits.{windowWords, reportLeast}
-use Rattle.checker.specs.Answer.{pullTold, opened}
+use Rattle.checker.specs.Limits.{reportLeast}
+use Rattle.checker.specs.Answer.{openTold, feedTold, pullTold, opened}
 use Rattle.checker.specs.State.{stateFrames}
-use Rattle.checker.specs.Parts.{stateOf}
-use Rattle.checker.specs.Open.{openDef}
-use Rattle.checker.specs.Good.{goodState}
+use Rattle.checker.specs.Parts.{stateOf, fedOf, pulledOf}
+use Rattle.checker.specs.Open.{OpenResult, openDef, openOutcome}
+use Rattle.checker.specs.Admission.{admission}
 use Rattle.checker.specs.Demand.{Unrefused}
 use Rattle.checker.specs.Ready.{Ready}
-use Rattle.checker.specs.Feed.{feedDef}
-use Rattle.checker.specs.Pull.{pullDef}
-use Rattle.checker.specs.declared.PullAnswer.{PullAnswer}
+use Rattle.checker.specs.Feed.{FeedResult, feedDef, feedOutcome}
+use Rattle.checker.specs.Pull.{PullResult, pullDef, pullOutcome}
+use Rattle.checker.specs.declared.Opened.{Opened}
+use Rattle.checker.specs.declared.feeding.FedFields.{FedFields}
+use Rattle.checker.specs.declared.pulling.PulledFields.{PulledFields}
+use Rattle.checker.specs.declared.parts.Fields.{Fields}
 use Rattle.checker.specs.declared.State.{State}
-use Rattle.checker.specs.declared.apart.Rest.{Rest}
-use Rattle.checker.proofs.Laws.{both-opened, good-open, good-feed, good-pull, feed-rule, pull-rule, feed-long}
+use Rattle.checker.proofs.Laws.{open-admitted, feed-admitted, pull-admitted}
 use Rattle.bench.specs.Print.{reportPart}
 use Rattle.bench.specs.Progress.{Progress, blank, pullOf, printed, isVerdict, pulledOnce, pulls, pullLimit, countedBy, fedLine, afterLine}
-use Rattle.bench.specs.Carried.{outBytes, progressOf, roomy, Ends, before, After}
+use Rattle.bench.specs.Carried.{outBytes, progressOf, roomy, Ends, before, After, Running, Stepped}
 use Rattle.bench.specs.declared.Run.{Run}
 
 -- ---- what waits
@@ -99,64 +101,59 @@ unfolding pulledOnce
 pulled-as x st said e f = record { written = f .written; same = rw (e, f .same); whole = f .whole }
 
 -- ---- a checker that 12 and 13 let through stays one
-module _ (frames : List ℕ) (rest rest′ : Rest) where
-  pub ready-pulled : (win : List ℤ) (report : List ℕ) → Ready frames rest (length win) → Bytes (stateFrames (stateOf frames rest))
-      → stateOf frames rest′ ≡ pullDef (stateOf frames rest) win report .state → Ready frames rest′ (length win)
+module _ (frames : List ℕ) (f after : Fields) where
+  pub ready-pulled : (win : List ℤ) (report : List ℕ) → Ready frames f win → Bytes (stateFrames (stateOf frames f))
+      → stateOf frames after ≡ pullDef (stateOf frames f) win report .state → Ready frames after win
   ready-pulled win report r b e =
-      record {
-        long = r .long;
-        good = ap goodState e ∙ good-pull (stateOf frames rest) (r .good) b win report;
-        words = r .words ∙ ap windowWords (sym (ap (λ (s : State). s .width) e ∙ pull-rule (stateOf frames rest) win report .width));
-      }
+      record { long = r .long; let-in = ap (λ (s : State). admission s win) e ∙ pull-admitted (stateOf frames f) win (r .let-in) b report }
 
-  pub ready-fed : (win win′ : List ℤ) (line : List ℕ) → Ready frames rest (length win) → stateOf frames rest′ ≡ feedDef (stateOf frames rest) win line .state
-      → win′ ≡ feedDef (stateOf frames rest) win line .words → Ready frames rest′ (length win′)
-  ready-fed win win′ line r e f =
-      record {
-        long = r .long;
-        good = ap goodState e ∙ good-feed (stateOf frames rest) (r .good) win line;
-        words =
-            ap length f ∙ feed-long (stateOf frames rest) (r .good) win line ∙ r .words
-            ∙ ap windowWords (sym (ap (λ (s : State). s .width) e ∙ feed-rule (stateOf frames rest) win line .width));
-      }
+  pub ready-fed : (win win′ : List ℤ) (line : List ℕ) → Ready frames f win → stateOf frames after ≡ feedDef (stateOf frames f) win line .state
+      → win′ ≡ feedDef (stateOf frames f) win line .words → Ready frames after win′
+  ready-fed win win′ line r e w =
+      record { long = r .long; let-in = ap₂ admission e w ∙ feed-admitted (stateOf frames f) win (r .let-in) line }
 
 -- so is what an opening gives
-pub ready-opened : (frames fs : List ℕ) (w : ℕ) (win win′ : List ℤ) (rest : Rest) → Bytes frames → openDef frames w win .answer ≡ opened
-    → length fs ≡ frameLimit * frameBytes → stateOf fs rest ≡ openDef frames w win .state → win′ ≡ openDef frames w win .words → Ready fs rest (length win′)
-ready-opened frames fs w win win′ rest b a l e f =
-    let o : Unrefused frames w win = record { bytes = b; answer = a } in
-    let m = both-opened o .sim in
+pub ready-opened : (frames fs : List ℕ) (w : ℕ) (win : List ℤ) (o : Opened) (win′ : List ℤ) (f : Fields) → Bytes frames → openTold (o .answer) ≡ opened
+    → length fs ≡ frameLimit * frameBytes → stateOf fs f ≡ o .state → openOutcome o win′ ≡ openDef frames w win → Ready fs f win′
+ready-opened frames fs w win o win′ f b a l e d =
+    let u : Unrefused frames w win = record { bytes = b; answer = sym (ap (λ (x : OpenResult). x .answer) d) ∙ a } in
     record {
       long = l;
-      good = ap goodState e ∙ good-open o;
-      words = ap length f ∙ m .long ∙ ap windowWords (sym (ap (λ (s : State). s .width) e ∙ m .width));
+      let-in = ap₂ admission (e ∙ ap (λ (x : OpenResult). x .state) d) (ap (λ (x : OpenResult). x .words) d) ∙ open-admitted u;
     }
 
 -- one pull as the code makes it, whatever the answer
-pub pulled-arm : (frames : List ℕ) (r q : Run) (win : List ℤ) (out out′ report : List ℕ) (rest : Rest) (full : ℕ) (more : Bool) (a : PullAnswer)
-    → q ≡ record { rest = rest; counts = r .counts; held = r .held; full = full; more = more }
-    → Ready frames (r .rest) (length win) → Bytes (stateFrames (stateOf frames (r .rest)))
-    → stateOf frames rest ≡ pullDef (stateOf frames (r .rest)) win report .state → pullTold a ≡ pullDef (stateOf frames (r .rest)) win report .answer → report ≡ blank
-    → full ≤ outBytes → more ≡ isVerdict (pullTold a)
-    → Ends (take full out′) (take (r .full) out ++ printed (pullTold a) (pullDef (stateOf frames (r .rest)) win report .report))
-    → Ready frames (q .rest) (length win)
-    × ((q .full ≤ outBytes) × ((q .held ≡ r .held) × ((q .more ≡ isVerdict (pullOf (progressOf frames r win out) .answer)) × After (pulledOnce (progressOf frames r win out)) (progressOf frames q win out′))))
-pulled-arm frames r q win out out′ report rest full more a e y z f g b h m n =
-    let f′ : stateOf frames rest ≡ pullDef (stateOf frames (r .rest)) win blank .state = rw b at f in
-    let g′ : pullTold a ≡ pullDef (stateOf frames (r .rest)) win blank .answer = rw b at g in
-    let n′ : Ends (take full out′) (take (r .full) out ++ printed (pullDef (stateOf frames (r .rest)) win blank .answer) (pullDef (stateOf frames (r .rest)) win blank .report)) = rw (b, g′) at n in
-    rw e (ready-pulled frames (r .rest) rest win report y z f, (h, (refl, (m ∙ ap isVerdict g′, pulled-as (progressOf frames r win out) (stateOf frames rest) (take full out′) f′ n′))))
+module _ (frames : List ℕ) (r q : Run) (win : List ℤ) (out : List ℕ) (p : PulledFields) (more : Bool) where
+  pub pulled-arm : (out′ report report′ : List ℕ) (full : ℕ) → q ≡ record { fields = p .fields; counts = r .counts; held = r .held; full = full; more = more }
+      → Running frames r win out → Bytes (stateFrames (stateOf frames (r .fields))) → report ≡ blank
+      → pullOutcome (pulledOf frames p) report′ ≡ pullDef (stateOf frames (r .fields)) win report
+      → full ≤ outBytes → more ≡ isVerdict (pullTold (p .answer)) → Ends (take full out′) (take (r .full) out ++ printed (pullTold (p .answer)) report′)
+      → Stepped frames q win out′ (pulledOnce (progressOf frames r win out))
+      × ((q .held ≡ r .held) × (q .more ≡ isVerdict (pullOf (progressOf frames r win out) .answer)))
+  pulled-arm out′ report report′ full e y z b d h m n =
+      let d′ : pullOutcome (pulledOf frames p) report′ ≡ pullDef (stateOf frames (r .fields)) win blank = rw b at d in
+      let a : pullTold (p .answer) ≡ pullDef (stateOf frames (r .fields)) win blank .answer = ap (λ (x : PullResult). x .answer) d′ in
+      let s : stateOf frames (p .fields) ≡ pullDef (stateOf frames (r .fields)) win blank .state = ap (λ (x : PullResult). x .state) d′ in
+      let w : report′ ≡ pullDef (stateOf frames (r .fields)) win blank .report = ap (λ (x : PullResult). x .report) d′ in
+      let n′ : Ends (take full out′) (take (r .full) out ++ printed (pullDef (stateOf frames (r .fields)) win blank .answer) (pullDef (stateOf frames (r .fields)) win blank .report)) = rw (a, w) at n in
+      rw e (
+        record {
+          ready = ready-pulled frames (r .fields) (p .fields) win blank (y .ready) z s;
+          full = h;
+          after = pulled-as (progressOf frames r win out) (stateOf frames (p .fields)) (take full out′) s n′;
+        },
+        (refl, m ∙ ap isVerdict a),
+      )
 
--- one that prints nothing
-pub pulled-quiet : (frames : List ℕ) (r q : Run) (win : List ℤ) (out report : List ℕ) (rest : Rest) (more : Bool) (a : PullAnswer)
-    → q ≡ record { rest = rest; counts = r .counts; held = r .held; full = r .full; more = more }
-    → Ready frames (r .rest) (length win) → Bytes (stateFrames (stateOf frames (r .rest)))
-    → stateOf frames rest ≡ pullDef (stateOf frames (r .rest)) win report .state → pullTold a ≡ pullDef (stateOf frames (r .rest)) win report .answer → report ≡ blank
-    → r .full ≤ outBytes → more ≡ isVerdict (pullTold a) → printed (pullTold a) (pullDef (stateOf frames (r .rest)) win report .report) ≡ []
-    → Ready frames (q .rest) (length win)
-    × ((q .full ≤ outBytes) × ((q .held ≡ r .held) × ((q .more ≡ isVerdict (pullOf (progressOf frames r win out) .answer)) × After (pulledOnce (progressOf frames r win out)) (progressOf frames q win out))))
-pulled-quiet frames r q win out report rest more a e y z f g b h m n =
-    pulled-arm frames r q win out out report rest (r .full) more a e y z f g b h m (record { written = []; same = rw n (append-nil (take (r .full) out)); whole = λ d. refl })
+  -- one that prints nothing
+  pub pulled-quiet : (report report′ : List ℕ) → q ≡ record { fields = p .fields; counts = r .counts; held = r .held; full = r .full; more = more }
+      → Running frames r win out → Bytes (stateFrames (stateOf frames (r .fields))) → report ≡ blank
+      → pullOutcome (pulledOf frames p) report′ ≡ pullDef (stateOf frames (r .fields)) win report
+      → more ≡ isVerdict (pullTold (p .answer)) → printed (pullTold (p .answer)) report′ ≡ []
+      → Stepped frames q win out (pulledOnce (progressOf frames r win out))
+      × ((q .held ≡ r .held) × (q .more ≡ isVerdict (pullOf (progressOf frames r win out) .answer)))
+  pulled-quiet report report′ e y z b d m n =
+      pulled-arm out report report′ (r .full) e y z b d (y .full) m (record { written = []; same = rw n (append-nil (take (r .full) out)); whole = λ h. refl })
 
 -- ---- what is printed only grows
 once-grows : (x : Progress) → length (x .said) ≤ length (pulledOnce x .said)
@@ -196,11 +193,16 @@ pull-end want x left true e p = rw e at p
 pull-end want x left false e p = p
 
 -- ---- a line
-pub fed-as : (frames : List ℕ) (r q : Run) (win win′ : List ℤ) (out line : List ℕ) → stateOf frames (q .rest) ≡ feedDef (stateOf frames (r .rest)) win line .state
-    → q .counts ≡ countedBy (feedDef (stateOf frames (r .rest)) win line .answer) (r .counts) → q .full ≡ r .full
-    → win′ ≡ feedDef (stateOf frames (r .rest)) win line .words → progressOf frames q win′ out ≡ fedLine (progressOf frames r win out) line
+pub fed-as : (frames : List ℕ) (r q : Run) (fed : FedFields) (win win′ : List ℤ) (line : List ℕ) → q .fields ≡ fed .fields
+    → q .counts ≡ countedBy (feedTold (fed .answer)) (r .counts) → q .full ≡ r .full
+    → feedOutcome (fedOf frames fed) win′ ≡ feedDef (stateOf frames (r .fields)) win line
+    → (out : List ℕ) → progressOf frames q win′ out ≡ fedLine (progressOf frames r win out) line
 unfolding fedLine
-fed-as frames r q win win′ out line e k n f = rw (e, k, n, f)
+fed-as frames r q fed win win′ line e k n d out =
+    let a = ap (λ (x : FeedResult). x .answer) d in
+    let s = ap (λ (x : FeedResult). x .state) d in
+    let w = ap (λ (x : FeedResult). x .words) d in
+    rw (e, k, n, a, s, w)
 
 pub line-before : (w : List ℕ) (x : Progress) (line : List ℕ) → afterLine (before w x) line ≡ before w (afterLine x line)
 unfolding fedLine

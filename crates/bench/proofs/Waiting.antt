@@ -1,14 +1,14 @@
 -- Pulls go on until 'waiting': a verdict raises p by 1, and 12 lets p be at most 1,009,999, so the count of pulls never runs out
 -- before. Assumes nothing.
-use mathlib.Core.Path.{_≡_, refl, sym, ap, _∙_, subst}
+use mathlib.Core.Path.{_≡_, refl, sym, ap, subst}
 use mathlib.Core.Bool.{true, cond}
 use mathlib.Core.List.{List, [], _∷_}
 use Prim.Native.Nat.{ℕ, zero, suc, _+_, _*_, _≤_, _<_}
 use native.Mathlib.Omega.{arith}
-use borrow.Author.Tests.{leb-true, eqb-true, eq-eqb}
+use borrow.Author.Tests.{leb-true}
 use lib.Dec.{leb, eqb}
 use lib.IntN.{ℤ}
-use lib.ListN.{length, take}
+use lib.ListN.{take}
 use Rattle.numbers.proofs.Bools.{and-true}
 use Rattle.rule.specs.Limits.{eventLimit, frameBytes}
 use Rattle.rule.specs.Frames.{Bytes}
@@ -21,24 +21,23 @@ use Rattle.verdict.specs.declared.Truth.{Truth}
 use Rattle.verdict.specs.declared.Truth.the-variants as truths
 use Rattle.verdict.specs.declared.Judgement.{Judgement}
 use Rattle.verdict.specs.declared.Judgement.the-variants.{Unsettled, True, False, Unknown}
-use Rattle.checker.specs.Limits.{windowWords}
 use Rattle.checker.specs.Answer.{waiting, verdict}
-use Rattle.checker.specs.State.{sumOf, tallyIn, stateFrames, ruleIn, refsIn, withPulled, SameRule}
-use Rattle.checker.specs.Open.{windowFits, OpenResult, openDef}
+use Rattle.checker.specs.State.{sumOf, tallyIn, stateFrames, ruleIn, refsIn, withTally, SameRule}
+use Rattle.checker.specs.Open.{OpenResult, openDef}
+use Rattle.checker.specs.Admission.{admitted, admission}
 use Rattle.checker.specs.Good.{allTo, goodCount, goodRule, goodTally, goodState}
 use Rattle.checker.specs.Demand.{Unrefused}
 use Rattle.checker.specs.Feed.{feedDef}
 use Rattle.checker.specs.Pull.{offered, pullRead, PullResult, foundHere, pulledBy, pullDef}
 use Rattle.checker.specs.declared.State.{State}
-use Rattle.checker.proofs.Laws.{both-opened, good-open, good-feed, good-pull, feed-rule, pull-rule, feed-long}
+use Rattle.checker.proofs.Laws.{both-opened, in-good, open-admitted, feed-admitted, pull-admitted, feed-rule, pull-rule}
 use Rattle.bench.specs.Progress.{Progress, blank, pullOf, isVerdict, pulledOnce, UntilWaiting, last, more, pulls, pullLimit, fedLine, afterLine, afterLines}
 use Rattle.bench.specs.Output.{benchWidth, atStart, begun, openedFor}
 use Rattle.bench.proofs.Whole.{read-opened}
 
 -- ---- what 12 and 13 let through
-pub record Sound (x : Progress) : Type 0 where
-  pub good : goodState (x .state) ≡ true
-  pub fits : windowFits (x .state .width) (x .words) ≡ true
+pub record LetIn (x : Progress) : Type 0 where
+  pub admits : admission (x .state) (x .words) ≡ admitted
   pub bytes : Bytes (stateFrames (x .state))
 
 low : (s : State) → goodState s ≡ true → s .next .0 ≤ instanceLimit
@@ -57,7 +56,7 @@ data Pulled (p : ℕ) (r : PullResult) : Type 0 where
   given : (v : Truth) → r .answer ≡ verdict v → r .state .next .0 ≡ p + 1 → Pulled p r
 
 pulled-by : (s : State) (win : List ℤ) (j : Judgement) → Pulled (s .next .0) (pulledBy s win blank (offered j))
-unfolding withPulled
+unfolding withTally
 pulled-by s win Unsettled = waited refl
 pulled-by s win True = given truths.True refl refl
 pulled-by s win False = given truths.False refl refl
@@ -67,39 +66,34 @@ next-once : (x : Progress) → pulledOnce x .state .next .0 ≡ pullOf x .state 
 unfolding pulledOnce
 next-once x = refl
 
-module _ (x : Progress) (s : Sound x) where
+module _ (x : Progress) (s : LetIn x) where
   pulled : Pulled (x .state .next .0) (pullOf x)
   unfolding pullDef pullRead
   pulled =
-      rw (s .good, s .fits)
+      rw (s .admits)
       (pulled-by (x .state) (x .words) (judgement (x .state .next .0) (foundHere (x .state) (x .words)) (ruleIn (x .state))))
 
-  sound-pulled : Sound (pulledOnce x)
+  in-pulled : LetIn (pulledOnce x)
   unfolding pulledOnce
-  sound-pulled =
-      let r = pull-rule (x .state) (x .words) blank in
+  in-pulled =
       record {
-        good = good-pull (x .state) (s .good) (s .bytes) (x .words) blank;
-        fits = ap (λ (w : ℕ). windowFits w (x .words)) (r .width) ∙ s .fits;
-        bytes = subst Bytes (sym (same-frames (x .state) (pullOf x .state) r)) (s .bytes);
+        admits = pull-admitted (x .state) (x .words) (s .admits) (s .bytes) blank;
+        bytes = subst Bytes (sym (same-frames (x .state) (pullOf x .state) (pull-rule (x .state) (x .words) blank))) (s .bytes);
       }
 
-  sound-fed : (line : List ℕ) → Sound (fedLine x line)
+  in-fed : (line : List ℕ) → LetIn (fedLine x line)
   unfolding fedLine
-  sound-fed line =
-      let r = feed-rule (x .state) (x .words) line in
-      let w = eqb-true (length (x .words)) (windowWords (x .state .width)) (s .fits) in
+  in-fed line =
       record {
-        good = good-feed (x .state) (s .good) (x .words) line;
-        fits = eq-eqb _ _ (feed-long (x .state) (s .good) (x .words) line ∙ w ∙ ap windowWords (sym (r .width)));
-        bytes = subst Bytes (sym (same-frames (x .state) (feedDef (x .state) (x .words) line .state) r)) (s .bytes);
+        admits = feed-admitted (x .state) (x .words) (s .admits) line;
+        bytes = subst Bytes (sym (same-frames (x .state) (feedDef (x .state) (x .words) line .state) (feed-rule (x .state) (x .words) line))) (s .bytes);
       }
 
 -- ---- as many as are enough
-until : (k : ℕ) (x : Progress) → Sound x → instanceLimit < k + x .state .next .0 → UntilWaiting x (pulls k x)
+until : (k : ℕ) (x : Progress) → LetIn x → instanceLimit < k + x .state .next .0 → UntilWaiting x (pulls k x)
 unfolding pulls
-until zero x s h = absurd (omega (arith, low (x .state) (s .good)))
-until (suc k) x s h = go (pulled x s) (until k (pulledOnce x) (sound-pulled x s))
+until zero x s h = absurd (omega (arith, low (x .state) (in-good (x .state) (x .words) (s .admits))))
+until (suc k) x s h = go (pulled x s) (until k (pulledOnce x) (in-pulled x s))
   where
     go : Pulled (x .state .next .0) (pullOf x)
         → (instanceLimit < k + pulledOnce x .state .next .0 → UntilWaiting (pulledOnce x) (pulls k (pulledOnce x)))
@@ -107,37 +101,35 @@ until (suc k) x s h = go (pulled x s) (until k (pulledOnce x) (sound-pulled x s)
     go (waited e) i = rw (ap isVerdict e) (last x e)
     go (given v e n) i = rw (ap isVerdict e) (more x (pulls k (pulledOnce x)) v e (i (omega (arith, next-once x))))
 
-pub pulls-wait : (x : Progress) → Sound x → UntilWaiting x (pulls pullLimit x)
+pub pulls-wait : (x : Progress) → LetIn x → UntilWaiting x (pulls pullLimit x)
 pulls-wait x s = until pullLimit x s (omega arith)
 
-sound-until : (x y : Progress) → UntilWaiting x y → Sound x → Sound y
-sound-until _ _ (last x e) s = sound-pulled x s
-sound-until _ _ (more x y v e u) s = sound-until (pulledOnce x) y u (sound-pulled x s)
+in-until : (x y : Progress) → UntilWaiting x y → LetIn x → LetIn y
+in-until _ _ (last x e) s = in-pulled x s
+in-until _ _ (more x y v e u) s = in-until (pulledOnce x) y u (in-pulled x s)
 
 -- ---- line by line
-sound-lines : (x : Progress) (ls : List (List ℕ)) → Sound x → Sound (afterLines x ls)
+in-lines : (x : Progress) (ls : List (List ℕ)) → LetIn x → LetIn (afterLines x ls)
 unfolding afterLines
-sound-lines x [] s = s
-sound-lines x (l ∷ ls) s =
-    let f = sound-fed x s l in
-    sound-lines (afterLine x l) ls (sound-until (fedLine x l) (afterLine x l) (pulls-wait (fedLine x l) f) f)
+in-lines x [] s = s
+in-lines x (l ∷ ls) s =
+    let f = in-fed x s l in
+    in-lines (afterLine x l) ls (in-until (fedLine x l) (afterLine x l) (pulls-wait (fedLine x l) f) f)
 
 -- ---- from an unrefused opening
-sound-first : {frames : List ℕ} {win : List ℤ} → Unrefused frames benchWidth win → Sound (atStart (openDef frames benchWidth win))
-sound-first {frames} {win} o =
-    let m = both-opened o .sim in
+in-first : {frames : List ℕ} {win : List ℤ} → Unrefused frames benchWidth win → LetIn (atStart (openDef frames benchWidth win))
+in-first {frames} {win} o =
     record {
-      good = good-open o;
-      fits = eq-eqb _ _ (m .long ∙ ap windowWords (sym (m .width)));
-      bytes = subst Bytes (sym (m .rule)) (o .bytes);
+      admits = open-admitted o;
+      bytes = subst Bytes (sym (both-opened o .sim .rule)) (o .bytes);
     }
 
 module _ (text b : List ℕ) (n : ℕ) (s : List ℕ) (r : readOf text b ≡ (Frames n, s)) where
   abbrev o : OpenResult
   o = openedFor (take (n * frameBytes) s)
 
-  sound-read : Sound (atStart o)
-  sound-read = sound-first (record { bytes = read-bytes text b n s r; answer = read-opened text b n s r })
+  sound-read : LetIn (atStart o)
+  sound-read = in-first (record { bytes = read-bytes text b n s r; answer = read-opened text b n s r })
 
   pub first-waits : UntilWaiting (atStart o) (begun o)
   first-waits = pulls-wait (atStart o) sound-read
@@ -145,5 +137,5 @@ module _ (text b : List ℕ) (n : ℕ) (s : List ℕ) (r : readOf text b ≡ (Fr
   pub line-waits : (ls : List (List ℕ)) (line : List ℕ)
       → UntilWaiting (fedLine (afterLines (begun o) ls) line) (afterLine (afterLines (begun o) ls) line)
   line-waits ls line =
-      let p = sound-lines (begun o) ls (sound-until (atStart o) (begun o) first-waits sound-read) in
-      pulls-wait (fedLine (afterLines (begun o) ls) line) (sound-fed (afterLines (begun o) ls) p line)
+      let p = in-lines (begun o) ls (in-until (atStart o) (begun o) first-waits sound-read) in
+      pulls-wait (fedLine (afterLines (begun o) ls) line) (in-fed (afterLines (begun o) ls) p line)

@@ -1,20 +1,23 @@
 -- The log's lines whatever its chunks, and the reports that are printed. Assumes nothing.
-use mathlib.Core.Path.{_≡_, refl, sym, ap, _∙_}
+use mathlib.Core.Path.{_≡_, refl, sym, ap, ap₂, _∙_}
 use mathlib.Core.Bool.{Bool, true, false, cond}
 use mathlib.Core.List.{List, [], _∷_, _++_, map}
-use Prim.Native.Nat.{ℕ, _+_, _*_, _/_, _%_, _<_}
+use Prim.Native.Nat.{ℕ, _+_, _-_, _*_, _/_, _%_, _<_, _≤_}
 use native.Mathlib.Omega.{arith}
 use borrow.Author.Tests.{lt-ltb}
 use lib.Dec.{eqb}
 use lib.IntN.{ℤ}
-use lib.ListN.{length, take, drop, replicate}
+use lib.ListN.{length, take, drop, replicate, length-append}
 use lib.Seq.{take-at}
-use Rattle.rule.specs.Limits.{frameLimit, frameBytes}
+use Rattle.rule.specs.Limits.{frameLimit, frameBytes, bufferBytes}
+use Rattle.rule.specs.Tree.{postfix, bytesOf}
+use Rattle.rule.specs.Meaning.{meaning}
 use Rattle.rule.specs.Reading.{readOf}
 use Rattle.rule.specs.declared.Refusal.{Refusal}
 use Rattle.rule.specs.declared.Reading.{Reading}
 use Rattle.rule.specs.declared.Reading.the-variants.{Frames, Refused}
-use Rattle.rule.proofs.Main.{read-opens}
+use Rattle.rule.proofs.Main.{read-opens, reads-exactly}
+use Rattle.rule.proofs.Laws.{bytes-length}
 use Rattle.log.specs.Digit.{hexDigit}
 use Rattle.log.specs.Pair.{pairOf}
 use Rattle.log.specs.Walk.{onto, linesOf}
@@ -22,12 +25,12 @@ use Rattle.log.specs.declared.digit.Pair.the-variants.{Byte}
 use Rattle.log.proofs.Main.{digit-back}
 use Rattle.verdict.specs.Found.{Found}
 use Rattle.verdict.specs.declared.Truth.the-variants.{True, False, Unknown}
-use Rattle.checker.specs.Answer.{opened, verdict, refused}
-use Rattle.checker.specs.State.{refsIn, ruleIn}
-use Rattle.checker.specs.Open.{windowFits, OpenResult, openDef}
-use Rattle.checker.specs.Good.{goodState}
+use Rattle.checker.specs.Answer.{opened, verdict}
+use Rattle.checker.specs.State.{refsIn}
+use Rattle.checker.specs.Open.{OpenResult, openDef}
 use Rattle.checker.specs.Report.{entries, reportBytes, written}
-use Rattle.checker.specs.Pull.{PullRead, short, waits, gave, pullRead, PullResult, notPulled, foundHere, pulledBy, pullDef}
+use Rattle.checker.specs.Admission.{Admission, admitted, barred, admission}
+use Rattle.checker.specs.Pull.{nextIn, pulledIf, PullRead, short, waits, gave, foundHere, pulledBy, pullDef}
 use Rattle.checker.specs.declared.State.{State}
 use Rattle.bench.specs.Print.{refusedLine, reportPart}
 use Rattle.bench.specs.Kept.{keptLimit, kept}
@@ -94,6 +97,15 @@ pub read-opened : (text b : List ℕ) (n : ℕ) (s : List ℕ) → readOf text b
 unfolding openDef
 read-opened text b n s e = rw (read-opens text b n s e)
 
+-- there is room for the frames that were read
+pub read-room : (text b : List ℕ) (r : Reading) (n : ℕ) (s : List ℕ) → r ≡ readOf text b .0 → s ≡ readOf text b .1 → r ≡ Frames n → n * frameBytes ≤ length s
+read-room text b r n s p w q =
+    let e : readOf text b ≡ (Frames n, s) = ap₂ (λ (x : Reading) (y : List ℕ). (x, y)) (sym p ∙ q) (sym w) in
+    let x = reads-exactly text b n s .0 e .1 in
+    let fs = postfix (meaning text (x .tree)) in
+    let l : length s ≡ length (bytesOf fs) + length {A = ℕ} (replicate (bufferBytes - n * frameBytes) 0) = ap length (x .bytes) ∙ length-append (bytesOf fs) _ in
+    omega (arith, l, bytes-length fs, x .count)
+
 pub output-run : (text log : List ℕ) (n : ℕ) (s : List ℕ) → readOf text (replicate (frameLimit * frameBytes) 0) ≡ (Frames n, s)
     → outputOf text log ≡ wholeRun (openedFor (take (n * frameBytes) s)) log
 output-run text log n s e =
@@ -114,23 +126,23 @@ unfolding reportBytes
 report-back p xs buffer = take-at (reportBytes p xs) (drop (length (reportBytes p xs)) buffer) (6 + 5 * length xs) (omega (arith, entries-length xs))
 
 module _ (s : State) (win : List ℤ) where
-  abbrev pulledWith : Bool → Bool → PullRead → PullResult
-  pulledWith a b x = cond a (cond b (pulledBy s win blank x) (notPulled s blank (refused 13 0))) (notPulled s blank (refused 12 0))
-
-  by-cases : (a b : Bool) (x : PullRead) → pulledWith a b x .answer ≡ verdict False
-      → reportPart (pulledWith a b x .report) ≡ reportBytes (s .next .0) (map (foundHere s win) (refsIn s))
-  by-cases false b x e = absurd (let z : _≡_ {A = ℕ} 0 1 = cc in omega arith)
-  by-cases true false x e = absurd (let z : _≡_ {A = ℕ} 0 1 = cc in omega arith)
-  by-cases true true short e = absurd (let z : _≡_ {A = ℕ} 0 1 = cc in omega arith)
-  by-cases true true waits e = absurd (let z : _≡_ {A = ℕ} 0 1 = cc in omega arith)
-  by-cases true true (gave True) e = absurd (let z : _≡_ {A = ℕ} 0 1 = cc in omega arith)
-  by-cases true true (gave Unknown) e = absurd (let z : _≡_ {A = ℕ} 0 1 = cc in omega arith)
-  by-cases true true (gave False) e = report-back (s .next .0) (map (foundHere s win) (refsIn s)) blank
+  by-read : (x : PullRead) → pulledBy s win blank x .answer ≡ verdict False
+      → reportPart (pulledBy s win blank x .report) ≡ reportBytes (s .next .0) (map (foundHere s win) (refsIn s))
+  by-read short e = absurd (let z : _≡_ {A = ℕ} 0 1 = cc in omega arith)
+  by-read waits e = absurd (let z : _≡_ {A = ℕ} 0 1 = cc in omega arith)
+  by-read (gave True) e = absurd (let z : _≡_ {A = ℕ} 0 1 = cc in omega arith)
+  by-read (gave Unknown) e = absurd (let z : _≡_ {A = ℕ} 0 1 = cc in omega arith)
+  by-read (gave False) e = report-back (s .next .0) (map (foundHere s win) (refsIn s)) blank
 
   pub report-printed : pullDef s win blank .answer ≡ verdict False
       → reportPart (pullDef s win blank .report) ≡ reportBytes (s .next .0) (map (foundHere s win) (refsIn s))
   unfolding pullDef
-  report-printed = by-cases (goodState s) (windowFits (s .width) win) (pullRead (ruleIn s) (s .next .0) (foundHere s win) (length blank))
+  report-printed = go (admission s win)
+    where
+      go : (a : Admission) → pulledIf s win blank a .answer ≡ verdict False
+          → reportPart (pulledIf s win blank a .report) ≡ reportBytes (s .next .0) (map (foundHere s win) (refsIn s))
+      go admitted e = by-read (nextIn s win (length blank)) e
+      go (barred number) e = absurd (let z : _≡_ {A = ℕ} 0 1 = cc in omega arith)
 
 -- ---- digits
 pub hex-back : (b : ℕ) → b < 256 → pairOf (hexDigit (b / 16)) (hexDigit (b % 16)) ≡ Byte b

@@ -6,6 +6,8 @@ use Prim.Native.Nat.{ℕ, _≤_}
 use lib.IntN.{ℤ}
 use lib.ListN.{length, take}
 use Rattle.checker.specs.Parts.{stateOf}
+use Rattle.checker.specs.Ready.{Ready}
+use Rattle.bench.specs.Kept.{keptLimit}
 use Rattle.bench.specs.Progress.{Progress, Open}
 use Rattle.bench.specs.declared.Run.{Run}
 
@@ -16,7 +18,7 @@ outBytes = 65536
 -- a run's progress with the checker's frames, with what waits in its output buffer as all that was printed
 abbrev pub progressOf : List ℕ → Run → List ℤ → List ℕ → Progress
 progressOf frames r win out =
-    record { state = stateOf frames (r .rest); words = win; counts = r .counts; said = take (r .full) out }
+    record { state = stateOf frames (r .fields); words = win; counts = r .counts; said = take (r .full) out }
 
 -- with at most so many bytes waiting there is room for every line, and nothing is written out
 abbrev pub roomy : ℕ
@@ -46,3 +48,25 @@ openOf frames r carry win out = record { progress = progressOf frames r win out;
 pub record AfterOpen (want got : Open) : Type 0 where
   pub progress : After (want .progress) (got .progress)
   pub held : got .held ≡ want .held
+
+-- ---- what is required
+-- of a step: a checker that 12 and 13 let through, and an output buffer in which so many bytes wait
+pub record Running (frames : List ℕ) (r : Run) (win : List ℤ) (out : List ℕ) : Type 0 where
+  pub ready : Ready frames (r .fields) win
+  pub full : r .full ≤ outBytes
+  pub room : length out ≡ outBytes
+
+-- of a chunk: the same, and a buffer in which so many bytes of a cut line are held
+pub record Holding (frames : List ℕ) (r : Run) (carry : List ℕ) (win : List ℤ) (out : List ℕ) : Type 0 where
+  pub ready : Ready frames (r .fields) win
+  pub full : r .full ≤ outBytes
+  pub held : r .held ≤ keptLimit
+  pub space : length carry ≡ keptLimit
+  pub room : length out ≡ outBytes
+
+-- ---- what a step leaves
+-- the run q can go on, and has come as far as x, but for what was written out
+pub record Stepped (frames : List ℕ) (q : Run) (win : List ℤ) (out : List ℕ) (x : Progress) : Type 0 where
+  pub ready : Ready frames (q .fields) win
+  pub full : q .full ≤ outBytes
+  pub after : After x (progressOf frames q win out)

@@ -4,8 +4,8 @@ mod cut; // cut.rt: a line that a chunk's end cuts
 mod hex; // hex.rt: hexadecimal lines
 mod step; // step.rt: one line, and the pulls after it
 
+use checker::Fields;
 use checker::OpenAnswer;
-use checker::Rest;
 use libc::STDIN_FILENO;
 use libc::STDOUT_FILENO;
 use log::walk::Found;
@@ -14,13 +14,14 @@ use rule::Reading;
 use rule::Refusal;
 ghost use mathlib.Core.Path.{_≡_};
 ghost use mathlib.Core.List.{_++_};
-ghost use Prim.Native.Nat.{_≤_};
+ghost use Prim.Native.Nat.{_*_, _≤_};
 ghost use lib.ListN.{length, take};
+ghost use Rattle.rule.specs.Limits.{frameBytes};
 ghost use Rattle.checker.specs.Ready.{Ready};
 ghost use Rattle.bench.specs.Print.{totalsLine};
 ghost use Rattle.bench.specs.Kept.{keptLimit};
 ghost use Rattle.bench.specs.Progress.{afterLine, afterBytes, atEnd};
-ghost use Rattle.bench.specs.Carried.{outBytes, progressOf, Ends, After, openOf, AfterOpen};
+ghost use Rattle.bench.specs.Carried.{outBytes, progressOf, Ends, After, openOf, AfterOpen, Holding, Stepped};
 
 // How many lines were accepted, ignored and refused.
 pub struct Counts {
@@ -29,10 +30,10 @@ pub struct Counts {
     pub refused: u32,
 }
 
-// What is carried from line to line beside the frames, the window and the two buffers: the rest of the checker's state, the
+// What is carried from line to line beside the frames, the window and the two buffers: the fields of the checker's state, the
 // counts, how many bytes of a cut line are held, how many bytes of output wait, and whether there is more to do.
 pub struct Run {
-    pub rest: Rest,
+    pub fields: Fields,
     pub counts: Counts,
     pub held: usize,
     pub full: usize,
@@ -51,8 +52,11 @@ fn ended(
     out: &mut [u8],
     part: &[u8],
 ) -> Run
-    requires { ⌜ Ready (now frames) (r .rest) (length (now window)) × ((r .full ≤ outBytes) × ((r .held ≤ keptLimit) × ((length (now carry) ≡ keptLimit) × (length (now out) ≡ outBytes)))) ⌝ }
-    ensures { λ q. ⌜ Ready (now (frames .entry)) (q .rest) (length (now (window .exit))) × ((q .full ≤ outBytes) × ((q .held ≡ 0) × After (afterLine (progressOf (now (frames .entry)) r (now (window .entry)) (now (out .entry))) (take (r .held) (now (carry .entry)) ++ now (part .entry))) (progressOf (now (frames .entry)) q (now (window .exit)) (now (out .exit))))) ⌝ }
+    requires { ⌜ Holding (now frames) r (now carry) (now window) (now out) ⌝ }
+    ensures { λ q. ⌜ Stepped (now (frames .entry)) q (now (window .exit)) (now (out .exit))
+        (afterLine (progressOf (now (frames .entry)) r (now (window .entry)) (now (out .entry)))
+        (take (r .held) (now (carry .entry)) ++ now (part .entry)))
+        × (q .held ≡ 0) ⌝ }
 {
     let held = r.held;
     if held == 0 {
@@ -73,8 +77,10 @@ fn chunk(
     out: &mut [u8],
     s: &[u8],
 ) -> Run
-    requires { ⌜ Ready (now frames) (r .rest) (length (now window)) × ((r .full ≤ outBytes) × ((r .held ≤ keptLimit) × ((length (now carry) ≡ keptLimit) × (length (now out) ≡ outBytes)))) ⌝ }
-    ensures { λ q. ⌜ Ready (now (frames .entry)) (q .rest) (length (now (window .exit))) × ((q .full ≤ outBytes) × ((q .held ≤ keptLimit) × AfterOpen (afterBytes (openOf (now (frames .entry)) r (now (carry .entry)) (now (window .entry)) (now (out .entry))) (now (s .entry))) (openOf (now (frames .entry)) q (now (carry .exit)) (now (window .exit)) (now (out .exit))))) ⌝ }
+    requires { ⌜ Holding (now frames) r (now carry) (now window) (now out) ⌝ }
+    ensures { λ q. ⌜ Ready (now (frames .entry)) (q .fields) (now (window .exit))
+        × ((q .full ≤ outBytes) × ((q .held ≤ keptLimit)
+        × AfterOpen (afterBytes (openOf (now (frames .entry)) r (now (carry .entry)) (now (window .entry)) (now (out .entry))) (now (s .entry))) (openOf (now (frames .entry)) q (now (carry .exit)) (now (window .exit)) (now (out .exit))))) ⌝ }
 {
     let mut q = r;
     let mut at = 0;
@@ -97,8 +103,9 @@ fn chunk(
 // One read, and the lines that end in it. The end of the input and a read that fails end the log. Proved safe only: no contract
 // can say what is read.
 fn turn(frames: &[u8], r: Run, carry: &mut [u8], window: &mut [i32], out: &mut [u8]) -> Run
-    requires { ⌜ Ready (now frames) (r .rest) (length (now window)) × ((r .full ≤ outBytes) × ((r .held ≤ keptLimit) × ((length (now carry) ≡ keptLimit) × (length (now out) ≡ outBytes)))) ⌝ }
-    ensures { λ q. ⌜ Ready (now (frames .entry)) (q .rest) (length (now (window .exit))) × ((q .full ≤ outBytes) × (q .held ≤ keptLimit)) ⌝ }
+    requires { ⌜ Holding (now frames) r (now carry) (now window) (now out) ⌝ }
+    ensures { λ q. ⌜ Ready (now (frames .entry)) (q .fields) (now (window .exit))
+        × ((q .full ≤ outBytes) × (q .held ≤ keptLimit)) ⌝ }
 {
     let mut buf = [0u8; 65536];
     let got = libc::read(STDIN_FILENO, &mut buf);
@@ -115,8 +122,9 @@ fn turn(frames: &[u8], r: Run, carry: &mut [u8], window: &mut [i32], out: &mut [
 
 // The log has ended: what is held is a line.
 fn last(frames: &[u8], r: Run, carry: &[u8], window: &mut [i32], out: &mut [u8]) -> Run
-    requires { ⌜ Ready (now frames) (r .rest) (length (now window)) × ((r .full ≤ outBytes) × ((r .held ≤ keptLimit) × ((length (now carry) ≡ keptLimit) × (length (now out) ≡ outBytes)))) ⌝ }
-    ensures { λ q. ⌜ (q .full ≤ outBytes) × After (atEnd (openOf (now (frames .entry)) r (now (carry .entry)) (now (window .entry)) (now (out .entry)))) (progressOf (now (frames .entry)) q (now (window .exit)) (now (out .exit))) ⌝ }
+    requires { ⌜ Holding (now frames) r (now carry) (now window) (now out) ⌝ }
+    ensures { λ q. ⌜ (q .full ≤ outBytes)
+        × After (atEnd (openOf (now (frames .entry)) r (now (carry .entry)) (now (window .entry)) (now (out .entry)))) (progressOf (now (frames .entry)) q (now (window .exit)) (now (out .exit))) ⌝ }
 {
     let held = r.held;
     if held == 0 {
@@ -127,7 +135,7 @@ fn last(frames: &[u8], r: Run, carry: &[u8], window: &mut [i32], out: &mut [u8])
 
 // Reads the log to its end. Proved safe only: the input need not end.
 fn all(frames: &[u8], r: Run, carry: &mut [u8], window: &mut [i32], out: &mut [u8]) -> Run
-    requires { ⌜ Ready (now frames) (r .rest) (length (now window)) × ((r .full ≤ outBytes) × ((r .held ≤ keptLimit) × ((length (now carry) ≡ keptLimit) × (length (now out) ≡ outBytes)))) ⌝ }
+    requires { ⌜ Holding (now frames) r (now carry) (now window) (now out) ⌝ }
     ensures { λ q. ⌜ q .full ≤ outBytes ⌝ }
 {
     let mut q = r;
@@ -143,11 +151,11 @@ fn all(frames: &[u8], r: Run, carry: &mut [u8], window: &mut [i32], out: &mut [u
 // The totals behind what waits; answers how many bytes then wait.
 fn put_end(r: Run, out: &mut [u8]) -> usize
     requires { ⌜ (r .full ≤ outBytes) × (length (now out) ≡ outBytes) ⌝ }
-    ensures { λ n. ⌜ (n ≤ outBytes) × Ends (take n (now (out .exit))) (take (r .full) (now (out .entry)) ++ totalsLine (r .rest .totals) (r .counts)) ⌝ }
+    ensures { λ n. ⌜ (n ≤ outBytes) × Ends (take n (now (out .exit))) (take (r .full) (now (out .entry)) ++ totalsLine (r .fields .totals) (r .counts)) ⌝ }
 {
     let full = r.full;
-    let rest = r.rest;
-    let totals = rest.totals;
+    let fields = r.fields;
+    let totals = fields.totals;
     let counts = r.counts;
     let at = step::make_room(out, full);
     hex::put_totals(out, at, totals, counts)
@@ -162,8 +170,8 @@ fn finish(r: Run, out: &mut [u8])
 }
 
 // A checker's whole run over the log.
-fn run_log(frames: &[u8], rest: Rest, carry: &mut [u8], window: &mut [i32], out: &mut [u8])
-    requires { ⌜ Ready (now frames) rest (length (now window)) × ((length (now carry) ≡ keptLimit) × (length (now out) ≡ outBytes)) ⌝ }
+fn run_log(frames: &[u8], fields: Fields, carry: &mut [u8], window: &mut [i32], out: &mut [u8])
+    requires { ⌜ Ready (now frames) fields (now window) × ((length (now carry) ≡ keptLimit) × (length (now out) ≡ outBytes)) ⌝ }
 {
     let counts = Counts {
         accepted: 0,
@@ -171,7 +179,7 @@ fn run_log(frames: &[u8], rest: Rest, carry: &mut [u8], window: &mut [i32], out:
         refused: 0,
     };
     let first = Run {
-        rest,
+        fields,
         counts,
         held: 0,
         full: 0,
@@ -183,12 +191,12 @@ fn run_log(frames: &[u8], rest: Rest, carry: &mut [u8], window: &mut [i32], out:
 }
 
 // The same, with buffers of its own.
-fn run_with(frames: &[u8], rest: Rest, window: &mut [i32])
-    requires { ⌜ Ready (now frames) rest (length (now window)) ⌝ }
+fn run_with(frames: &[u8], fields: Fields, window: &mut [i32])
+    requires { ⌜ Ready (now frames) fields (now window) ⌝ }
 {
     let mut carry = [0u8; 35];
     let mut out = [0u8; 65536];
-    run_log(frames, rest, &mut carry, window, &mut out);
+    run_log(frames, fields, &mut carry, window, &mut out);
 }
 
 // The line of a refused rule.
@@ -205,8 +213,8 @@ fn run_in(frames: &[u8], window: &mut [i32]) {
     let answer = opened.answer;
     match answer {
         OpenAnswer::Opened => {
-            let rest = checker::rest_of(state);
-            run_with(&state.frames, rest, window);
+            let fields = checker::fields_of(state);
+            run_with(&state.frames, fields, window);
         }
         OpenAnswer::Refused(r) => {
             say_refused(r);
@@ -221,13 +229,11 @@ fn run_frames(frames: &[u8]) {
 }
 
 // The first frames of a buffer.
-fn run_first(frames: &[u8], count: u32) {
+fn run_first(frames: &[u8], count: u32)
+    requires { ⌜ count * frameBytes ≤ length (now frames) ⌝ }
+{
     let n = count as usize * FRAME_BYTES;
-    if n <= frames.len() {
-        run_frames(&frames[..n]);
-    } else {
-        run_frames(frames);
-    }
+    run_frames(&frames[..n]);
 }
 
 // A rule's text is read; a refused one is said, and no log is read.

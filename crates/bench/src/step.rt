@@ -4,22 +4,19 @@ use crate::Run;
 use crate::hex;
 use checker::FeedAnswer;
 use checker::PullAnswer;
+use checker::PulledFields;
 use checker::REPORT_LEAST;
-use checker::Rest;
-use checker::Turn;
 use libc::STDOUT_FILENO;
 ghost use mathlib.Core.Path.{_≡_};
-ghost use mathlib.Core.List.{_++_};
-ghost use Prim.Native.Nat.{_+_, _*_, _≤_, min};
+ghost use mathlib.Core.List.{List, _++_};
+ghost use Prim.Native.Nat.{ℕ, _+_, _*_, _≤_, min};
 ghost use lib.ListN.{length, take};
 ghost use Rattle.checker.specs.Limits.{reportLeast};
 ghost use Rattle.checker.specs.Answer.{feedTold};
-ghost use Rattle.checker.specs.Parts.{stateOf};
-ghost use Rattle.checker.specs.Feed.{feedDef};
 ghost use Rattle.checker.specs.Ready.{Ready};
 ghost use Rattle.bench.specs.Print.{hexLine, reportPart};
-ghost use Rattle.bench.specs.Progress.{blank, pullOf, isVerdict, pulledOnce, pulls, pullLimit, countedBy, afterLine};
-ghost use Rattle.bench.specs.Carried.{outBytes, progressOf, roomy, Ends, After};
+ghost use Rattle.bench.specs.Progress.{blank, pullOf, isVerdict, pulledOnce, pulls, pullLimit, countedBy, fedLine, afterLine};
+ghost use Rattle.bench.specs.Carried.{outBytes, progressOf, roomy, Ends, Running, Stepped};
 
 // With so many bytes waiting there is room for every line.
 const ROOMY: usize = 65200;
@@ -59,23 +56,13 @@ fn say_report(out: &mut [u8], full: usize, report: &[u8]) -> usize
 }
 
 // A run after a pull.
-fn with_turn(r: Run, turn: Turn, full: usize, more: bool) -> Run
-    ensures { λ q. ⌜ q ≡ record { rest = record { len = r .rest .len; width = r .rest .width; counts = r .rest .counts; next = turn .next; totals = turn .totals }; counts = r .counts; held = r .held; full = full; more = more } ⌝ }
+fn with_pulled(r: Run, pulled: PulledFields, full: usize, more: bool) -> Run
+    ensures { λ q. ⌜ q ≡ record { fields = pulled .fields; counts = r .counts; held = r .held; full = full; more = more } ⌝ }
 {
-    let before = r.rest;
-    let lines = before.counts;
-    let next = turn.next;
-    let totals = turn.totals;
-    let rest = Rest {
-        len: before.len,
-        width: before.width,
-        counts: lines,
-        next,
-        totals,
-    };
+    let fields = pulled.fields;
     let counts = r.counts;
     Run {
-        rest,
+        fields,
         counts,
         held: r.held,
         full,
@@ -85,29 +72,35 @@ fn with_turn(r: Run, turn: Turn, full: usize, more: bool) -> Run
 
 // One pull into a report buffer of zeros.
 fn pull_into(frames: &[u8], r: Run, window: &[i32], out: &mut [u8], report: &mut [u8]) -> Run
-    requires { ⌜ Ready (now frames) (r .rest) (length (now window)) × ((r .full ≤ outBytes) × ((length (now out) ≡ outBytes) × (now report ≡ blank))) ⌝ }
-    ensures { λ q. ⌜ Ready (now (frames .entry)) (q .rest) (length (now (window .entry))) × ((q .full ≤ outBytes) × ((q .held ≡ r .held) × ((q .more ≡ isVerdict (pullOf (progressOf (now (frames .entry)) r (now (window .entry)) (now (out .entry))) .answer)) × After (pulledOnce (progressOf (now (frames .entry)) r (now (window .entry)) (now (out .entry)))) (progressOf (now (frames .entry)) q (now (window .entry)) (now (out .exit)))))) ⌝ }
+    requires { ⌜ Running (now frames) r (now window) (now out) × (now report ≡ blank) ⌝ }
+    ensures { λ q. ⌜ Stepped (now (frames .entry)) q (now (window .entry)) (now (out .exit))
+        (pulledOnce (progressOf (now (frames .entry)) r (now (window .entry)) (now (out .entry))))
+        × ((q .held ≡ r .held)
+        × (q .more ≡ isVerdict (pullOf (progressOf (now (frames .entry)) r (now (window .entry)) (now (out .entry))) .answer))) ⌝ }
 {
-    let rest = r.rest;
+    let fields = r.fields;
     let full = r.full;
-    let turn = checker::pull_good(frames, rest, window, report);
-    let answer = turn.answer;
+    let pulled = checker::pull_good(frames, fields, window, report);
+    let answer = pulled.answer;
     match answer {
-        PullAnswer::True => with_turn(r, turn, full, true),
+        PullAnswer::True => with_pulled(r, pulled, full, true),
         PullAnswer::False => {
             let end = say_report(out, full, report);
-            with_turn(r, turn, end, true)
+            with_pulled(r, pulled, end, true)
         }
-        PullAnswer::Unknown => with_turn(r, turn, full, true),
-        PullAnswer::Waiting => with_turn(r, turn, full, false),
-        PullAnswer::Refused(_) => with_turn(r, turn, full, false),
+        PullAnswer::Unknown => with_pulled(r, pulled, full, true),
+        PullAnswer::Waiting => with_pulled(r, pulled, full, false),
+        PullAnswer::Refused(_) => with_pulled(r, pulled, full, false),
     }
 }
 
 // One pull.
 fn pull_once(frames: &[u8], r: Run, window: &[i32], out: &mut [u8]) -> Run
-    requires { ⌜ Ready (now frames) (r .rest) (length (now window)) × ((r .full ≤ outBytes) × (length (now out) ≡ outBytes)) ⌝ }
-    ensures { λ q. ⌜ Ready (now (frames .entry)) (q .rest) (length (now (window .entry))) × ((q .full ≤ outBytes) × ((q .held ≡ r .held) × ((q .more ≡ isVerdict (pullOf (progressOf (now (frames .entry)) r (now (window .entry)) (now (out .entry))) .answer)) × After (pulledOnce (progressOf (now (frames .entry)) r (now (window .entry)) (now (out .entry)))) (progressOf (now (frames .entry)) q (now (window .entry)) (now (out .exit)))))) ⌝ }
+    requires { ⌜ Running (now frames) r (now window) (now out) ⌝ }
+    ensures { λ q. ⌜ Stepped (now (frames .entry)) q (now (window .entry)) (now (out .exit))
+        (pulledOnce (progressOf (now (frames .entry)) r (now (window .entry)) (now (out .entry))))
+        × ((q .held ≡ r .held)
+        × (q .more ≡ isVerdict (pullOf (progressOf (now (frames .entry)) r (now (window .entry)) (now (out .entry))) .answer))) ⌝ }
 {
     let mut report = [0u8; 166];
     pull_into(frames, r, window, out, &mut report)
@@ -115,8 +108,10 @@ fn pull_once(frames: &[u8], r: Run, window: &[i32], out: &mut [u8]) -> Run
 
 // Pulls until waiting.
 pub fn pull_all(frames: &[u8], r: Run, window: &[i32], out: &mut [u8]) -> Run
-    requires { ⌜ Ready (now frames) (r .rest) (length (now window)) × ((r .full ≤ outBytes) × (length (now out) ≡ outBytes)) ⌝ }
-    ensures { λ q. ⌜ Ready (now (frames .entry)) (q .rest) (length (now (window .entry))) × ((q .full ≤ outBytes) × ((q .held ≡ r .held) × After (pulls pullLimit (progressOf (now (frames .entry)) r (now (window .entry)) (now (out .entry)))) (progressOf (now (frames .entry)) q (now (window .entry)) (now (out .exit))))) ⌝ }
+    requires { ⌜ Running (now frames) r (now window) (now out) ⌝ }
+    ensures { λ q. ⌜ Stepped (now (frames .entry)) q (now (window .entry)) (now (out .exit))
+        (pulls pullLimit (progressOf (now (frames .entry)) r (now (window .entry)) (now (out .entry))))
+        × (q .held ≡ r .held) ⌝ }
 {
     let mut q = r;
     q.more = true;
@@ -153,26 +148,19 @@ fn counted(c: Counts, answer: FeedAnswer) -> Counts
 
 // Feeds a line and counts its answer.
 fn feed_line(frames: &[u8], r: Run, window: &mut [i32], line: &[u8]) -> Run
-    requires { ⌜ Ready (now frames) (r .rest) (length (now window)) ⌝ }
-    ensures { λ q. ⌜ Ready (now (frames .entry)) (q .rest) (length (now (window .exit))) × ((stateOf (now (frames .entry)) (q .rest) ≡ feedDef (stateOf (now (frames .entry)) (r .rest)) (now (window .entry)) (now (line .entry)) .state) × ((q .counts ≡ countedBy (feedDef (stateOf (now (frames .entry)) (r .rest)) (now (window .entry)) (now (line .entry)) .answer) (r .counts)) × ((q .held ≡ r .held) × ((q .full ≡ r .full) × ((q .more ≡ r .more) × (now (window .exit) ≡ feedDef (stateOf (now (frames .entry)) (r .rest)) (now (window .entry)) (now (line .entry)) .words)))))) ⌝ }
+    requires { ⌜ Ready (now frames) (r .fields) (now window) ⌝ }
+    ensures { λ q. ⌜ Ready (now (frames .entry)) (q .fields) (now (window .exit))
+        × ((q .held ≡ r .held) × ((q .full ≡ r .full) × ((out : List ℕ) → progressOf (now (frames .entry)) q (now (window .exit)) out
+        ≡ fedLine (progressOf (now (frames .entry)) r (now (window .entry)) out) (now (line .entry))))) ⌝ }
 {
-    let before = r.rest;
-    let way = checker::feed_good(frames, before, window, line);
-    let lines = way.counts;
-    let answer = way.answer;
-    let next = before.next;
-    let totals = before.totals;
-    let rest = Rest {
-        len: before.len,
-        width: before.width,
-        counts: lines,
-        next,
-        totals,
-    };
+    let before = r.fields;
+    let fed = checker::feed_good(frames, before, window, line);
+    let fields = fed.fields;
+    let answer = fed.answer;
     let told = r.counts;
     let counts = counted(told, answer);
     Run {
-        rest,
+        fields,
         counts,
         held: r.held,
         full: r.full,
@@ -182,8 +170,10 @@ fn feed_line(frames: &[u8], r: Run, window: &mut [i32], line: &[u8]) -> Run
 
 // One line of the log, without its LF.
 pub fn one_line(frames: &[u8], r: Run, window: &mut [i32], out: &mut [u8], line: &[u8]) -> Run
-    requires { ⌜ Ready (now frames) (r .rest) (length (now window)) × ((r .full ≤ outBytes) × (length (now out) ≡ outBytes)) ⌝ }
-    ensures { λ q. ⌜ Ready (now (frames .entry)) (q .rest) (length (now (window .exit))) × ((q .full ≤ outBytes) × ((q .held ≡ r .held) × After (afterLine (progressOf (now (frames .entry)) r (now (window .entry)) (now (out .entry))) (now (line .entry))) (progressOf (now (frames .entry)) q (now (window .exit)) (now (out .exit))))) ⌝ }
+    requires { ⌜ Running (now frames) r (now window) (now out) ⌝ }
+    ensures { λ q. ⌜ Stepped (now (frames .entry)) q (now (window .exit)) (now (out .exit))
+        (afterLine (progressOf (now (frames .entry)) r (now (window .entry)) (now (out .entry))) (now (line .entry)))
+        × (q .held ≡ r .held) ⌝ }
 {
     let q = feed_line(frames, r, window, line);
     pull_all(frames, q, window, out)

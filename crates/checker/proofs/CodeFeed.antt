@@ -5,36 +5,30 @@ use mathlib.Core.List.{List}
 use Prim.Native.Nat.{ℕ, _+_, _<_, _≤_}
 use native.Mathlib.Omega.{arith}
 use borrow.Author.Tests.{le-leb, lt-leb}
-use lib.Dec.{eqb}
 use lib.IntN.{ℤ}
-use lib.ListN.{length, getD}
+use lib.ListN.{getD}
 use Rattle.rule.specs.Frames.{Bytes}
 use Rattle.log.specs.Line.{Told, lineOf}
-use Rattle.checker.specs.Limits.{windowWords, lineLimit}
-use Rattle.checker.specs.Answer.{refused}
+use Rattle.checker.specs.Limits.{lineLimit}
 use Rattle.checker.specs.Base.{referenced, base}
-use Rattle.checker.specs.State.{tallyIn, stateFrames, refsIn}
+use Rattle.checker.specs.State.{withLine, tallyIn, withTally, stateFrames, refsIn}
+use Rattle.checker.specs.Parts.{stateOf, fedOf}
 use Rattle.checker.specs.Good.{goodState}
-use Rattle.checker.specs.Feed.{turned, skipped, taken, feedEvent, feedRead, notFed, fedBy, feedDef}
+use Rattle.checker.specs.Admission.{admitted, admission}
+use Rattle.checker.specs.Feed.{FeedResult, FeedRead, turned, skipped, taken, feedEvent, fedBy, lineIn, eventIn, feedDef, feedOutcome}
 use Rattle.checker.specs.Lows.{noBase, lowsOf}
+use Rattle.checker.specs.declared.FeedAnswer.the-variants as FeedAnswer
+use Rattle.checker.specs.declared.feeding.FedFields.{FedFields}
+use Rattle.checker.specs.declared.parts.Fields.{Fields}
 use Rattle.checker.specs.declared.State.{State}
 use Rattle.checker.proofs.CodeBase.{within-in, high-none, LowIs, low-is}
 use Rattle.checker.proofs.CodeGood.{good-facts}
 
--- ---- which way a line goes
-module _ (s : State) (win : List ℤ) (line : List ℕ) where
-  pub fed-by : goodState s ≡ true → eqb (length win) (windowWords (s .width)) ≡ true → (d : Told) → lineOf line ≡ d
-      → feedDef s win line ≡ fedBy s win (feedRead (refsIn s) (s .width) (tallyIn s) d)
-  unfolding feedDef
-  fed-by g l d q = rw (g, l, q)
-
-  pub fed-13 : goodState s ≡ true → eqb (length win) (windowWords (s .width)) ≡ false → feedDef s win line ≡ notFed s win (refused 13 0)
-  unfolding feedDef
-  fed-13 g l = rw (g, l)
-
-  pub fed-12 : goodState s ≡ false → feedDef s win line ≡ notFed s win (refused 12 0)
-  unfolding feedDef
-  fed-12 g = rw g
+-- ---- what is let through is fed the line
+pub fed-by : (s : State) (win : List ℤ) (line : List ℕ) → admission s win ≡ admitted → (d : Told) → lineOf line ≡ d
+    → feedDef s win line ≡ fedBy s win (lineIn s d)
+unfolding feedDef
+fed-by s win line a d q = rw (a, q)
 
 -- ---- an event's low says whether it is referenced
 low-none : (t : Bool) (b low : ℕ) → LowIs t b low → low ≡ noBase → t ≡ false
@@ -45,39 +39,58 @@ low-some : (t : Bool) (b low : ℕ) → LowIs t b low → (low ≡ noBase → �
 low-some true b low l n = (refl, l)
 low-some false b low l n = absurd (n l)
 
-module _ (s : State) (b : Bytes (stateFrames s)) (g : goodState s ≡ true) (e : ℕ) where
-  abbrev pub lowIn : ℕ
-  lowIn = getD (lowsOf (stateFrames s) (s .next .0)) e 0
+-- ---- which way a line of an event goes, with the lows of all events
+module _ (s : State) (b : Bytes (stateFrames s)) (g : goodState s ≡ true) (lows : List ℕ) (q : lows ≡ lowsOf (stateFrames s) (s .next .0)) (e : ℕ) where
+  in-low : e < 8 → LowIs (referenced (refsIn s) e) (base (refsIn s) e (s .next .0)) (getD lows e 0)
+  in-low h = rw q (low-is b (good-facts s g .accepted) (s .next .0) e (good-facts s g .totals .low) h)
 
-  in-low : e < 8 → LowIs (referenced (refsIn s) e) (base (refsIn s) e (s .next .0)) lowIn
-  in-low h = low-is b (good-facts s g .accepted) (s .next .0) e (good-facts s g .totals .low) h
-
-  pub some-in : e < 8 → (lowIn ≡ noBase → ⊥) → (referenced (refsIn s) e ≡ true) × ((lowIn ≡ base (refsIn s) e (s .next .0)) × (lowIn ≤ 9099990))
-  some-in h n = low-some (referenced (refsIn s) e) (base (refsIn s) e (s .next .0)) lowIn (in-low h) n
+  pub some-in : e < 8 → (getD lows e 0 ≡ noBase → ⊥)
+      → (referenced (refsIn s) e ≡ true) × ((getD lows e 0 ≡ base (refsIn s) e (s .next .0)) × (getD lows e 0 ≤ 9099990))
+  some-in h n = low-some (referenced (refsIn s) e) (base (refsIn s) e (s .next .0)) (getD lows e 0) (in-low h) n
 
   module _ (notes : List ℤ) where
-    pub high-skipped : 8 ≤ e → feedEvent (refsIn s) (s .width) (tallyIn s) e notes ≡ skipped
+    pub high-skipped : 8 ≤ e → eventIn s e notes ≡ skipped
     unfolding feedEvent
     high-skipped h = rw (high-none e (refsIn s) (within-in b (good-facts s g .accepted)) h)
 
-    pub none-skipped : e < 8 → lowIn ≡ noBase → feedEvent (refsIn s) (s .width) (tallyIn s) e notes ≡ skipped
+    pub none-skipped : e < 8 → getD lows e 0 ≡ noBase → eventIn s e notes ≡ skipped
     unfolding feedEvent
-    none-skipped h n = rw (low-none (referenced (refsIn s) e) (base (refsIn s) e (s .next .0)) lowIn (in-low h) n)
+    none-skipped h n = rw (low-none (referenced (refsIn s) e) (base (refsIn s) e (s .next .0)) (getD lows e 0) (in-low h) n)
 
-    pub many-turned : e < 8 → (lowIn ≡ noBase → ⊥) → lineLimit ≤ getD (s .counts) e 0 → feedEvent (refsIn s) (s .width) (tallyIn s) e notes ≡ turned 16 0
+    pub many-turned : e < 8 → (getD lows e 0 ≡ noBase → ⊥) → lineLimit ≤ getD (s .counts) e 0 → eventIn s e notes ≡ turned 16 0
     unfolding feedEvent
     many-turned h n m = rw (some-in h n .0, le-leb lineLimit (getD (s .counts) e 0) m)
 
-    pub full-turned : e < 8 → (lowIn ≡ noBase → ⊥) → getD (s .counts) e 0 < lineLimit → lowIn + s .width ≤ getD (s .counts) e 0
-        → feedEvent (refsIn s) (s .width) (tallyIn s) e notes ≡ turned 17 0
+    pub full-turned : e < 8 → (getD lows e 0 ≡ noBase → ⊥) → getD (s .counts) e 0 < lineLimit → getD lows e 0 + s .width ≤ getD (s .counts) e 0
+        → eventIn s e notes ≡ turned 17 0
     unfolding feedEvent
     full-turned h n m f =
-        let q : base (refsIn s) e (s .next .0) + s .width ≤ getD (s .counts) e 0 = omega (arith, some-in h n .1 .0) in
-        rw (some-in h n .0, lt-leb lineLimit (getD (s .counts) e 0) m, le-leb (base (refsIn s) e (s .next .0) + s .width) (getD (s .counts) e 0) q)
+        let l : base (refsIn s) e (s .next .0) + s .width ≤ getD (s .counts) e 0 = omega (arith, some-in h n .1 .0) in
+        rw (some-in h n .0, lt-leb lineLimit (getD (s .counts) e 0) m, le-leb (base (refsIn s) e (s .next .0) + s .width) (getD (s .counts) e 0) l)
 
-    pub room-taken : e < 8 → (lowIn ≡ noBase → ⊥) → getD (s .counts) e 0 < lineLimit → getD (s .counts) e 0 < lowIn + s .width
-        → feedEvent (refsIn s) (s .width) (tallyIn s) e notes ≡ taken e notes
+    pub room-taken : e < 8 → (getD lows e 0 ≡ noBase → ⊥) → getD (s .counts) e 0 < lineLimit → getD (s .counts) e 0 < getD lows e 0 + s .width
+        → eventIn s e notes ≡ taken e notes
     unfolding feedEvent
     room-taken h n m f =
-        let q : getD (s .counts) e 0 < base (refsIn s) e (s .next .0) + s .width = omega (arith, some-in h n .1 .0) in
-        rw (some-in h n .0, lt-leb lineLimit (getD (s .counts) e 0) m, lt-leb (base (refsIn s) e (s .next .0) + s .width) (getD (s .counts) e 0) q)
+        let l : getD (s .counts) e 0 < base (refsIn s) e (s .next .0) + s .width = omega (arith, some-in h n .1 .0) in
+        rw (some-in h n .0, lt-leb lineLimit (getD (s .counts) e 0) m, lt-leb (base (refsIn s) e (s .next .0) + s .width) (getD (s .counts) e 0) l)
+
+-- ---- what the code gives, as a result
+module _ (frames : List ℕ) (f : Fields) (win : List ℤ) (r : FedFields) (d : FeedRead) where
+  pub ignored-as : r ≡ record { answer = FeedAnswer.Ignored; fields = f } → d ≡ skipped → feedOutcome (fedOf frames r) win ≡ fedBy (stateOf frames f) win d
+  ignored-as e k = rw (e, k)
+
+  pub refused-as : (number place : ℕ) → r ≡ record { answer = FeedAnswer.Refused (record { number = number; place = place }); fields = f } → d ≡ turned number place
+      → feedOutcome (fedOf frames r) win ≡ fedBy (stateOf frames f) win d
+  refused-as number place e k = rw (e, k)
+
+pub taken-as : (frames : List ℕ) (f after : Fields) (win win′ : List ℤ) (d : FeedRead) (e : ℕ) (notes : List ℤ) → d ≡ taken e notes
+    → stateOf frames after ≡ withTally (stateOf frames f) (withLine (tallyIn (stateOf frames f)) e)
+    → win′ ≡ fedBy (stateOf frames f) win (taken e notes) .words
+    → feedOutcome (fedOf frames (record { answer = FeedAnswer.Accepted; fields = after })) win′ ≡ fedBy (stateOf frames f) win d
+taken-as frames f after win win′ d e notes k a b = rw (k, a, b)
+
+-- a state put together from what a feed by parts gives
+pub fed-whole : {frames : List ℕ} {win : List ℤ} (r : FedFields) (s : State) (d : FeedResult) → s ≡ stateOf frames (r .fields) → feedOutcome (fedOf frames r) win ≡ d
+    → feedOutcome (record { answer = r .answer; state = s }) win ≡ d
+fed-whole r s d e q = rw e q

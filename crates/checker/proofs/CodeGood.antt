@@ -5,6 +5,7 @@ use mathlib.Core.List.{List}
 use Prim.Native.Nat.{ℕ, _*_, _<_, _≤_}
 use borrow.Author.Tests.{leb-true, eqb-true, le-leb, lt-leb}
 use lib.Dec.{leb, eqb}
+use lib.IntN.{ℤ}
 use lib.ListN.{getD, take}
 use Rattle.numbers.proofs.Bools.{true-false, and-true}
 use Rattle.rule.specs.Limits.{eventLimit, frameLimit, frameBytes}
@@ -18,8 +19,12 @@ use Rattle.checker.specs.Open.{widthFits}
 use Rattle.checker.specs.Good.{isAccepted, allTo, goodCount, goodRule, goodTally, goodState}
 use Rattle.checker.specs.Lows.{lowsOf, countFits, ruleFits, tallyFits}
 use Rattle.checker.specs.Offer.{Countable}
+use Rattle.checker.specs.Parts.{stateOf}
+use Rattle.checker.specs.Ready.{Ready}
+use Rattle.checker.specs.declared.parts.Fields.{Fields}
 use Rattle.checker.specs.declared.Totals.{Totals}
 use Rattle.checker.specs.declared.State.{State}
+use Rattle.checker.proofs.Admissions.{in-good}
 
 -- ---- a good state
 pub record Facts (s : State) : Type 0 where
@@ -49,6 +54,10 @@ good-facts s e =
       most = leb-true (s .width) widthLimit (w .1);
       totals = record { sum = eqb-true (sumOf (s .totals)) (s .next .0) (u .1); low = leb-true (s .next .0) instanceLimit (u .0) };
     }
+
+-- the same of what the inner calls require
+pub ready-facts : {frames : List ℕ} {f : Fields} {win : List ℤ} → Ready frames f win → Facts (stateOf frames f)
+ready-facts {frames} {f} {win} r = good-facts (stateOf frames f) (in-good (stateOf frames f) win (r .let-in))
 
 -- ---- 12, field by field
 pub rule-facts : (frames : List ℕ) (n w : ℕ) → ruleFits frames n w ≡ true → (n ≤ frameLimit) × (checkedOf (take (n * frameBytes) frames) ≡ Accepted)

@@ -22,12 +22,12 @@ use Rattle.rule.proofs.Laws.{rule-length, AllWithin, references-within}
 use Rattle.numbers.proofs.Bools.{true-false, and-true}
 use Rattle.checker.specs.Limits.{windowWords}
 use Rattle.checker.specs.Answer.{Answer, opened, accepted, ignored, waiting, verdict, refused}
-use Rattle.checker.specs.State.{freshState}
+use Rattle.checker.specs.State.{countOf, freshState}
 use Rattle.checker.specs.Open.{OpenResult, widthFits, windowFits, openedAs, notOpened, afterFrames, openDef}
 use Rattle.checker.specs.Calls.{Checker}
 use Rattle.checker.specs.Demand.{Unrefused, fresh}
-use Rattle.checker.specs.Machine.{tabulated, atFirst}
-use Rattle.checker.proofs.Simulation.{Fine, Both}
+use Rattle.checker.specs.Machine.{tabulated, atFirst, tallyOf}
+use Rattle.checker.proofs.Simulation.{Fine, Both, count-of}
 
 -- ---- an opening that is not refused
 abbrev isOpened : Answer → Bool
@@ -101,11 +101,9 @@ unfolding freshState tabulated
 both-fresh frames w b e =
     let h = whole-length frames b e in
     record {
-      inv =
+      sound =
           record {
-            few = λ e. omega arith;
-            room = λ e q. omega arith;
-            empty = λ e q. refl;
+            counts = λ e h. let z : countOf (tallyOf atFirst) e ≡ 0 = count-of atFirst e h in record { few = omega (arith, z); room = λ _. omega (arith, z); none = λ _. z };
             low = omega arith;
             sum = refl;
           };

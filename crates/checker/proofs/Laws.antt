@@ -2,7 +2,11 @@
 
 -- a fresh checker beside the plain machine
 pub use Rattle.checker.proofs.Fresh.{both-opened}
--- states that 12 lets through
-pub use Rattle.checker.proofs.GoodStays.{good-open, good-feed, good-pull, feed-rule, pull-rule, feed-long}
+-- states and windows that 12 and 13 let through
+pub use Rattle.checker.proofs.Admissions.{let-in, in-good}
+pub use Rattle.checker.proofs.GoodStays.{open-admitted, feed-admitted, pull-admitted, feed-rule, pull-rule}
 -- bytes of a state's frames
 pub use Rattle.checker.proofs.CodeBase.{bytes-take}
+-- what a feed and a pull by parts give, with the state put together
+pub use Rattle.checker.proofs.CodeFeed.{fed-whole}
+pub use Rattle.checker.proofs.PullOffer.{pulled-whole}

@@ -1,6 +1,8 @@
 mod Choices
 mod Ring
 mod Bases
+mod Tallies
+mod Admissions
 mod Simulation
 mod Fresh
 mod Lists

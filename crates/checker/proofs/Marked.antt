@@ -35,10 +35,11 @@ use Rattle.verdict.specs.declared.Truth.the-variants.{True, False, Unknown}
 use Rattle.checker.specs.Limits.{windowWords, reportLeast}
 use Rattle.checker.specs.Answer.{Answer, opened, accepted, waiting, verdict, refused}
 use Rattle.checker.specs.Base.{ofEvent, referenced, smallest, base}
-use Rattle.checker.specs.State.{freshState, withCount, withPulled}
+use Rattle.checker.specs.State.{freshState, withTally}
 use Rattle.checker.specs.Ring.{stored, kept}
 use Rattle.checker.specs.Open.{openDef}
 use Rattle.checker.specs.Good.{goodRule, goodCount, allTo, goodTally, goodState}
+use Rattle.checker.specs.Admission.{admission}
 use Rattle.checker.specs.Feed.{feedEvent, feedDef}
 use Rattle.checker.specs.Report.{reportBytes}
 use Rattle.checker.specs.Pull.{pullRead, pullDef}
@@ -290,7 +291,7 @@ pub record Shown (xs : List Example) : Type 0 where
   pub checker : map byChecker xs ≡ map (λ x. x .answers) xs
 
 pub marked : Shown table
-unfolding classOf span same wordKind markOf markWidth tokenKind widthOf tokenHere tokenAt tokensIn tokensFrom code nameCode decimalFrom decimal numberValue startFactor step finish run deeper position negated put acts judged readOf kindOf referenceCount orderOf sizesFit treeOf checkedOf digitValue digitsAtFront badPlace lineOf ofEvent referenced smallest base freshState withCount withPulled stored kept openDef goodRule goodCount allTo goodTally goodState feedEvent feedDef reportBytes pullRead pullDef outs tabulated joined moved
+unfolding classOf span same wordKind markOf markWidth tokenKind widthOf tokenHere tokenAt tokensIn tokensFrom code nameCode decimalFrom decimal numberValue startFactor step finish run deeper position negated put acts judged readOf kindOf referenceCount orderOf sizesFit treeOf checkedOf digitValue digitsAtFront badPlace lineOf ofEvent referenced smallest base freshState withTally stored kept openDef goodRule goodCount allTo goodTally goodState admission feedEvent feedDef reportBytes pullRead pullDef outs tabulated joined moved
 marked = record { reading = refl; opening = refl; machine = refl; checker = refl }
 
 -- ---- the report of the bench program's example: instance 0 false, two references, 40 and 10; later bytes keep
@@ -305,5 +306,5 @@ benchOuts =
 
 pub bench-report : (outs (machineFor (bytesOf (postfix latency)) 4) bench atFirst ≡ benchOuts)
     × (outs checker bench (fresh (bytesOf (postfix latency)) 4 (replicate (windowWords 4) (pos 7))) ≡ benchOuts)
-unfolding kindOf referenceCount orderOf sizesFit treeOf checkedOf digitValue digitsAtFront badPlace lineOf ofEvent referenced smallest base freshState withCount withPulled stored kept openDef goodRule goodCount allTo goodTally goodState feedEvent feedDef reportBytes pullRead pullDef outs tabulated joined moved
+unfolding kindOf referenceCount orderOf sizesFit treeOf checkedOf digitValue digitsAtFront badPlace lineOf ofEvent referenced smallest base freshState withTally stored kept openDef goodRule goodCount allTo goodTally goodState admission feedEvent feedDef reportBytes pullRead pullDef outs tabulated joined moved
 bench-report = (refl, refl)

@@ -1,10 +1,10 @@
 -- From marks and notes to what a pull gives. Assumes nothing.
-use mathlib.Core.Path.{_≡_, sym}
+use mathlib.Core.Path.{_≡_, refl, sym, ap, _∙_}
 use mathlib.Core.Bool.{true, false}
 use mathlib.Core.List.{List, map}
 use Prim.Native.Nat.{ℕ, _≤_}
 use native.Mathlib.Omega.{arith}
-use lib.Dec.{eqb, ltb}
+use lib.Dec.{ltb}
 use lib.IntN.{ℤ}
 use lib.ListN.{length}
 use Rattle.rule.specs.Frames.{frameCount, Bytes}
@@ -16,16 +16,23 @@ use Rattle.verdict.specs.Found.{Found}
 use Rattle.verdict.specs.Settled.{judgement}
 use Rattle.verdict.specs.Marks.{Judgeable}
 use Rattle.verdict.specs.Pass.{judgementOf}
+use Rattle.verdict.specs.declared.Truth.{Truth}
 use Rattle.verdict.specs.declared.Judgement.{Judgement}
+use Rattle.verdict.specs.declared.Judgement.the-variants.{Unsettled, True, False, Unknown}
 use Rattle.verdict.proofs.Main.{judge-accepted}
-use Rattle.checker.specs.Limits.{windowWords, reportLeast}
+use Rattle.checker.specs.Limits.{reportLeast}
 use Rattle.checker.specs.State.{ruleIn}
-use Rattle.checker.specs.Good.{goodState}
+use Rattle.checker.specs.Admission.{admitted, admission}
 use Rattle.checker.specs.Report.{reportBytes}
-use Rattle.checker.specs.Answer.{refused}
-use Rattle.checker.specs.Pull.{pullRead, offered, foundHere, notPulled, pulledBy, pullDef}
+use Rattle.checker.specs.Answer.{verdict, refused, pullTold}
+use Rattle.checker.specs.Pull.{PullRead, gave, pullRead, offered, pullAnswer, pullReport, PullResult, foundHere, notPulled, stateAfter, pulledBy, pullDef, pullOutcome}
 use Rattle.checker.specs.Sights.{Looked, Fillable, headerOf, reportTo}
 use Rattle.checker.specs.Offer.{Offerable}
+use Rattle.checker.specs.Parts.{stateOf, pulledOf}
+use Rattle.checker.specs.declared.PullAnswer.{PullAnswer}
+use Rattle.checker.specs.declared.PullAnswer.the-variants as PullAnswer
+use Rattle.checker.specs.declared.pulling.PulledFields.{PulledFields}
+use Rattle.checker.specs.declared.parts.Fields.{Fields}
 use Rattle.checker.specs.declared.State.{State}
 use Rattle.checker.proofs.PullFound.{shown-told}
 use Rattle.checker.proofs.PullReport.{report-is}
@@ -53,11 +60,9 @@ module _ (fs : List ℕ) (p w n m : ℕ) (o : Offerable fs p w n m) where
           noted = omega (arith, offer-few, l .noted);
         }
 
-    -- where the pass says j, so does the definition
-    pub offer-judged : (r j : Judgement) → r ≡ judgementOf fs p marks notes → r ≡ j → j ≡ judgement p found (treeOf fs)
-    offer-judged r j e q =
-        let d : judgementOf fs p marks notes ≡ judgement p found (treeOf fs) = judge-accepted fs p found marks notes (o .accepted) (shown-told fs found marks notes (l .shown)) in
-        cc (e, q, d)
+    -- what the pass says, the definition says
+    pub offer-judged : (j : Judgement) → j ≡ judgementOf fs p marks notes → j ≡ judgement p found (treeOf fs)
+    offer-judged j e = e ∙ judge-accepted fs p found marks notes (o .accepted) (shown-told fs found marks notes (l .shown))
 
     pub offer-report : Bytes fs
         → reportTo fs marks notes (headerOf p (referenceCount fs)) (frameCount fs) ≡ reportBytes p (map found (references (treeOf fs)))
@@ -65,20 +70,40 @@ module _ (fs : List ℕ) (p w n m : ℕ) (o : Offerable fs p w n m) where
 
 -- ---- a pull by its tests
 module _ (s : State) (win : List ℤ) (buffer : List ℕ) where
-  pub pull-12 : goodState s ≡ false → notPulled s buffer (refused 12 0) ≡ pullDef s win buffer
-  unfolding pullDef
-  pull-12 g = rw g
-
-  pub pull-13 : goodState s ≡ true → eqb (length win) (windowWords (s .width)) ≡ false → notPulled s buffer (refused 13 0) ≡ pullDef s win buffer
-  unfolding pullDef
-  pull-13 g l = rw (g, l)
-
-  pub pull-14 : goodState s ≡ true → eqb (length win) (windowWords (s .width)) ≡ true → ltb (length buffer) reportLeast ≡ true
-      → notPulled s buffer (refused 14 0) ≡ pullDef s win buffer
+  pub pull-14 : admission s win ≡ admitted → ltb (length buffer) reportLeast ≡ true → notPulled s buffer (refused 14 0) ≡ pullDef s win buffer
   unfolding pullDef pullRead
-  pull-14 g l r = rw (g, l, r)
+  pull-14 a r = rw (a, r)
 
-  pub pull-offers : goodState s ≡ true → eqb (length win) (windowWords (s .width)) ≡ true → ltb (length buffer) reportLeast ≡ false
+  pub pull-offers : admission s win ≡ admitted → ltb (length buffer) reportLeast ≡ false
       → (j : Judgement) → j ≡ judgement (s .next .0) (foundHere s win) (ruleIn s) → pulledBy s win buffer (offered j) ≡ pullDef s win buffer
   unfolding pullDef pullRead
-  pull-offers g l r j e = rw (g, l, r, sym e)
+  pull-offers a r j e = rw (a, r, sym e)
+
+-- ---- what the code gives, as a result
+module _ (frames : List ℕ) (f : Fields) (r : PulledFields) where
+  pub gave-as : (a : PullAnswer) (v : Truth) (d : PullRead) (report : List ℕ) → r .answer ≡ a → stateOf frames (r .fields) ≡ stateAfter (stateOf frames f) (gave v) → d ≡ gave v
+      → pullTold a ≡ verdict v → pullOutcome (pulledOf frames r) report ≡ record { answer = pullAnswer d; state = stateAfter (stateOf frames f) d; report = report }
+  gave-as a v d report e s k t = rw (e, s, k, t)
+
+  pub unpulled-as : (buffer : List ℕ) (number : ℕ) → r ≡ record { answer = PullAnswer.Refused (record { number = number; place = 0 }); fields = f }
+      → pullOutcome (pulledOf frames r) buffer ≡ notPulled (stateOf frames f) buffer (refused number 0)
+  unpulled-as buffer number e = rw e
+
+  -- a judgement that is given, with the report that goes with it
+  pub pulled-as : (win : List ℤ) (buffer report : List ℕ) (d : PullRead)
+      → pullOutcome (pulledOf frames r) report ≡ record { answer = pullAnswer d; state = stateAfter (stateOf frames f) d; report = report }
+      → report ≡ pulledBy (stateOf frames f) win buffer d .report → pullOutcome (pulledOf frames r) report ≡ pulledBy (stateOf frames f) win buffer d
+  pulled-as win buffer report d e w = e ∙ ap (λ (x : List ℕ). record { answer = pullAnswer d; state = stateAfter (stateOf frames f) d; report = x }) w
+
+-- a state put together from what a pull by parts gives
+pub pulled-whole : {frames report : List ℕ} (r : PulledFields) (s : State) (d : PullResult) → s ≡ stateOf frames (r .fields) → pullOutcome (pulledOf frames r) report ≡ d
+    → pullOutcome (record { answer = r .answer; state = s }) report ≡ d
+pulled-whole r s d e q = rw e q
+
+-- only a false verdict fills the report
+pub unfilled : (i : ℕ) (refs : List Reference) (found : Reference → Found) (buffer : List ℕ) (j : Judgement) → (j ≡ False → ⊥)
+    → buffer ≡ pullReport i refs found buffer (offered j)
+unfilled i refs found buffer Unsettled h = refl
+unfilled i refs found buffer True h = refl
+unfilled i refs found buffer False h = absurd (h refl)
+unfilled i refs found buffer Unknown h = refl

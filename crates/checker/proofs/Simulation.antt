@@ -5,7 +5,7 @@ use mathlib.Core.List.{List, [], _∷_, _++_, List·Memᴰ, List·Memᴰ·head, 
 use mathlib.Core.Logic.{⊎-elim, _≢_}
 use Prim.Native.Nat.{ℕ, _+_, _<_, _≤_}
 use native.Mathlib.Omega.{arith}
-use borrow.Author.Tests.{eq-eqb, le-leb, leb-true, leb-false, ltb-true, eqb-true}
+use borrow.Author.Tests.{eq-eqb, leb-true, leb-false, ltb-true, eqb-true}
 use lib.Dec.{ltb, leb, eqb}
 use lib.IntN.{ℤ, pos, negsuc}
 use lib.ListN.{length, getD, set, length-append, List·getD-append}
@@ -29,17 +29,19 @@ use Rattle.verdict.specs.declared.Judgement.the-variants.{Unsettled, True, Fals
 use Rattle.verdict.proofs.Main.{own-references}
 use Rattle.checker.specs.Limits.{windowWords, lineLimit, reportLeast}
 use Rattle.checker.specs.Base.{referenced, orZero, base}
-use Rattle.checker.specs.State.{counted, sumOf, Tally, countOf, tallyIn, stateFrames, refsIn, withCount, withPulled}
+use Rattle.checker.specs.State.{Tally, countOf, tallyIn, stateFrames, refsIn, withLine, withVerdict, withTally}
 use Rattle.checker.specs.Ring.{wordAt, kept}
 use Rattle.checker.specs.Found.{windowAt, foundInWindow}
 use Rattle.checker.specs.Open.{widthFits, windowFits}
-use Rattle.checker.specs.Good.{isAccepted, goodRule, goodCount, goodTally, goodState}
-use Rattle.checker.specs.Feed.{FeedRead, turned, skipped, taken, feedEvent, feedRead, feedAnswer, FeedResult, fedBy, feedDef}
-use Rattle.checker.specs.Pull.{PullRead, short, waits, gave, offered, pullRead, pullAnswer, pullReport, PullResult, stateAfter, pullDef}
+use Rattle.checker.specs.Good.{isAccepted, goodRule, goodTally, goodState}
+use Rattle.checker.specs.Admission.{admitted, admission}
+use Rattle.checker.specs.Feed.{FeedRead, turned, skipped, taken, feedEvent, feedRead, feedAnswer, FeedResult, fedBy, fedIf, feedDef}
+use Rattle.checker.specs.Pull.{PullRead, short, waits, gave, offered, pullRead, pullAnswer, pullReport, PullResult, stateAfter, pulledIf, pullDef}
 use Rattle.checker.specs.Calls.{Call, feed, pull, fed, pulled, Checker, checker}
 use Rattle.checker.specs.Machine.{Machine, tabulated, tallyOf, joined, moved, afterFeed, afterPull, machineFeed, machinePull, machineFor}
-use Rattle.checker.specs.declared.Totals.{Totals}
-use Rattle.checker.proofs.Choices.{cond-case, cond-true, less-or, same-or, allTo-true, map-own, getD-tabulated, updated, set-tabulated}
+use Rattle.checker.proofs.Choices.{cond-case, less-or, same-or, map-own, getD-tabulated, updated, set-tabulated}
+use Rattle.checker.proofs.Admissions.{let-in}
+use Rattle.checker.proofs.Tallies.{Sound, tally-good, sound-line, sound-verdict}
 use Rattle.checker.proofs.Ring.{length-kept, kept-other, kept-old, kept-new}
 use Rattle.checker.proofs.Bases.{referenced-below, base-le, base-mono, late-pending}
 
@@ -49,14 +51,6 @@ pub record Fine (frames : List ℕ) (w : ℕ) : Type 0 where
   pub width : widthFits w ≡ true
   pub some : references (treeOf frames) ≡ [] → ⊥
   pub limits : (r : Reference) → List·Memᴰ r (references (treeOf frames)) → LimitsR r
-
--- what holds of the plain machine after any calls
-pub record Inv (refs : List Reference) (w : ℕ) (m : Machine) : Type 0 where
-  pub few : (e : ℕ) → length (m .lists e) ≤ lineLimit
-  pub room : (e : ℕ) → referenced refs e ≡ true → length (m .lists e) ≤ base refs e (m .next) + w
-  pub empty : (e : ℕ) → referenced refs e ≡ false → length (m .lists e) ≡ 0
-  pub low : m .next ≤ instanceLimit
-  pub sum : sumOf (m .totals) ≡ m .next
 
 -- "Each accepted occurrence from base on is found there, all four notes"
 abbrev pub Live : List Reference → ℕ → Machine → List ℤ → Type 0
@@ -74,7 +68,7 @@ pub record Sim (frames : List ℕ) (w : ℕ) (m : Machine) (k : Checker) : Type 
   pub live : Live (references (treeOf frames)) w m (k .words)
 
 pub record Both (frames : List ℕ) (w : ℕ) (m : Machine) (k : Checker) : Type 0 where
-  pub inv : Inv (references (treeOf frames)) w m
+  pub sound : Sound (references (treeOf frames)) w (tallyOf m)
   pub sim : Sim frames w m k
 
 -- both say the same of each of the references
@@ -84,22 +78,6 @@ SameOn rs found found′ = (r : Reference) → List·Memᴰ r rs → found r ≡
 -- ---- counts
 pub count-of : (m : Machine) (e : ℕ) → e < 8 → countOf (tallyOf m) e ≡ length (m .lists e)
 count-of m e h = getD-tabulated 8 (λ (f : ℕ). length (m .lists f)) e 0 h
-
--- ---- a state in step passes 12
-good-count : (refs : List Reference) (w : ℕ) (m : Machine) → Inv refs w m → (e : ℕ) → e < 8 → goodCount refs w (tallyOf m) e ≡ true
-unfolding goodCount
-good-count refs w m i e h =
-    rw (count-of m e h)
-    (true-and (leb (length (m .lists e)) lineLimit) _ (le-leb (length (m .lists e)) lineLimit (i .few e))
-    (cond-case (λ (b : Bool). b ≡ true) (referenced refs e) _ _
-    (λ q. le-leb (length (m .lists e)) (base refs e (m .next) + w) (i .room e q))
-    (λ q. eq-eqb (length (m .lists e)) 0 (i .empty e q))))
-
-good-tally : (refs : List Reference) (w : ℕ) (m : Machine) → Inv refs w m → goodTally refs w (tallyOf m) ≡ true
-unfolding goodTally
-good-tally refs w m i =
-    rw (allTo-true 8 (goodCount refs w (tallyOf m)) (good-count refs w m i))
-    (rw (le-leb (m .next) instanceLimit (i .low)) (eq-eqb (sumOf (m .totals)) (m .next) (i .sum)))
 
 -- ---- what is known of a line that is taken
 abbrev pub Took : List Reference → ℕ → Tally → FeedRead → Type 0
@@ -120,11 +98,8 @@ took refs w t (log.line e n₀ n₁ n₂ n₃) =
     (λ _. tt)
 
 -- ---- a line is taken: the machine
-grown : Tally → ℕ → Tally
-grown t e = record { counts = set (t .counts) e (getD (t .counts) e 0 + 1); next = t .next; totals = t .totals }
-
-tally-joined : (m : Machine) (e : ℕ) (notes : List ℤ) → e < 8 → grown (tallyOf m) e ≡ tallyOf (joined m e notes)
-unfolding grown joined
+tally-joined : (m : Machine) (e : ℕ) (notes : List ℤ) → e < 8 → withLine (tallyOf m) e ≡ tallyOf (joined m e notes)
+unfolding joined
 tally-joined m e notes h =
     ap (λ (cs : List ℕ). record { counts = cs; next = m .next; totals = m .totals })
     (ap (set (tabulated 8 (λ (f : ℕ). length (m .lists f))) e) (ap (λ (n : ℕ). n + 1) (count-of m e h))
@@ -151,18 +126,6 @@ joined-next m e notes = refl
 
 length-same : (m : Machine) (e : ℕ) (notes : List ℤ) → length (joined m e notes .lists e) ≡ length (m .lists e) + 1
 length-same m e notes = rw (list-same m e notes) (length-append (m .lists e) (notes ∷ []))
-
-inv-joined : (refs : List Reference) (w : ℕ) (m : Machine) (e : ℕ) (notes : List ℤ) → Inv refs w m → referenced refs e ≡ true
-    → length (m .lists e) < lineLimit → length (m .lists e) < base refs e (m .next) + w → Inv refs w (joined m e notes)
-inv-joined refs w m e notes i r h₁ h₂ =
-    record {
-      few = λ f. ⊎-elim (λ (q : f ≡ e). rw (q, length-same m e notes) (omega arith)) (λ (q : f ≢ e). rw (list-other m e f notes q) (i .few f)) (same-or f e);
-      room = λ f g. rw (joined-next m e notes)
-          (⊎-elim (λ (q : f ≡ e). rw (q, length-same m e notes) (omega arith)) (λ (q : f ≢ e). rw (list-other m e f notes q) (i .room f g)) (same-or f e));
-      empty = λ f g. ⊎-elim (λ (q : f ≡ e). absurd (true-false (sym r ∙ ap (referenced refs) (sym q) ∙ g))) (λ (q : f ≢ e). rw (list-other m e f notes q) (i .empty f g)) (same-or f e);
-      low = unfold joined in i .low;
-      sum = unfold joined in i .sum;
-    }
 
 -- ---- a line is taken: the window
 module _ (refs : List Reference) (w : ℕ) (m : Machine) (words : List ℤ) (wide : 0 < w) (long : length words ≡ windowWords w) (live : Live refs w m words) where
@@ -237,22 +200,6 @@ unfolding pullRead
 gave-judged rule i found n =
     cond-case (Gave rule i found) (ltb n reportLeast) short (offered (judgement i found rule)) (λ _. tt) (λ _. gave-by rule i found (judgement i found rule) refl)
 
-pub sum-counted : (t : Totals) (v : Truth) → sumOf (counted t v) ≡ sumOf t + 1
-sum-counted t truths.True = omega arith
-sum-counted t truths.False = omega arith
-sum-counted t truths.Unknown = omega arith
-
-inv-moved : (refs : List Reference) (w : ℕ) (m : Machine) (v : Truth) → Inv refs w m → m .next < instanceLimit → Inv refs w (moved m v)
-unfolding moved
-inv-moved refs w m v i l =
-    record {
-      few = i .few;
-      room = λ e q. omega (arith, i .room e q, base-mono refs e (m .next) (m .next + 1) (omega arith));
-      empty = i .empty;
-      low = omega arith;
-      sum = sum-counted (m .totals) v ∙ ap (λ (n : ℕ). n + 1) (i .sum);
-    }
-
 module _ (frames : List ℕ) (w : ℕ) (ok : Fine frames w) where
   abbrev refs : List Reference
   refs = references (treeOf frames)
@@ -261,13 +208,16 @@ module _ (frames : List ℕ) (w : ℕ) (ok : Fine frames w) where
   wide = leb-true 1 w (and-true (leb 1 w) _ (ok .width) .0)
 
   -- an instance with a verdict is not the last
-  gave-low : (m : Machine) (v : Truth) → Inv (references (treeOf frames)) w m → judgement (m .next) (foundIn (m .lists) (m .next)) (treeOf frames) ≡ settling.verdict v → m .next < instanceLimit
-  gave-low m v i q =
+  gave-low : (m : Machine) (v : Truth) → Sound (references (treeOf frames)) w (tallyOf m) → judgement (m .next) (foundIn (m .lists) (m .next)) (treeOf frames) ≡ settling.verdict v → m .next < instanceLimit
+  gave-low m v x q =
       ⊎-elim
       (λ l. l)
       (λ (l : instanceLimit ≤ m .next). absurd (verdict-settled v (sym q ∙ all-pending (treeOf frames) (m .next) (foundIn (m .lists) (m .next)) (ok .some)
-      (λ r h. late-pending (m .lists (r .event)) r (m .next) (ok .limits r h .least) (ok .limits r h .offset) (i .few (r .event)) l))))
+      (λ r h. late-pending (m .lists (r .event)) r (m .next) (ok .limits r h .least) (ok .limits r h .offset) (few r h) l))))
       (less-or (m .next) instanceLimit)
+    where
+      few : (r : Reference) → List·Memᴰ r (references (treeOf frames)) → length (m .lists (r .event)) ≤ lineLimit
+      few r h = omega (arith, count-of m (r .event) (ok .limits r h .event), x .counts (r .event) (ok .limits r h .event) .few)
 
   module _ (m : Machine) (k : Checker) (b : Both frames w m k) where
     -- what goes by the rule, W and the counts goes as in the machine
@@ -284,26 +234,29 @@ module _ (frames : List ℕ) (w : ℕ) (ok : Fine frames w) where
         (true-and _ _
         (true-and _ _ (b .sim .len) (ap (λ (x : List ℕ). isAccepted (checkedOf x)) (b .sim .rule) ∙ ap isAccepted (ok .accepted)))
         (ap widthFits (b .sim .width) ∙ ok .width))
-        (as-machine goodTally ∙ good-tally (references (treeOf frames)) w m (b .inv))
+        (as-machine goodTally ∙ tally-good (references (treeOf frames)) w (tallyOf m) (b .sound))
 
     fits : windowFits (k .state .width) (k .words) ≡ true
     fits = eq-eqb (length (k .words)) (windowWords (k .state .width)) (b .sim .long ∙ ap windowWords (sym (b .sim .width)))
+
+    pub in-step-admitted : admission (k .state) (k .words) ≡ admitted
+    in-step-admitted = let-in (k .state) (k .words) good fits
 
     -- ---- feeding
     feed-eq : (line : List ℕ) → feedDef (k .state) (k .words) line ≡ fedBy (k .state) (k .words) (machineFeed (treeOf frames) w m line)
     unfolding feedDef
     feed-eq line =
-        cond-true _ _ _ good ∙ cond-true _ _ _ fits
+        ap (fedIf (k .state) (k .words) line) in-step-admitted
         ∙ ap (fedBy (k .state) (k .words)) (as-machine (λ (rs : List Reference) (v : ℕ) (t : Tally). feedRead rs v t (lineOf line)))
 
     sim-taken : (e : ℕ) (notes : List ℤ) → e < 8 → length (m .lists e) < base (references (treeOf frames)) e (m .next) + w
         → Sim frames w (joined m e notes) (record { state = fedBy (k .state) (k .words) (taken e notes) .state; words = fedBy (k .state) (k .words) (taken e notes) .words })
     sim-taken e notes he hw =
         record {
-          rule = unfold withCount in b .sim .rule;
-          len = unfold withCount in b .sim .len;
-          width = unfold withCount in b .sim .width;
-          tally = unfold withCount in unfold grown in (ap (λ (t : Tally). grown t e) (b .sim .tally) ∙ tally-joined m e notes he);
+          rule = unfold withTally in b .sim .rule;
+          len = unfold withTally in b .sim .len;
+          width = unfold withTally in b .sim .width;
+          tally = unfold withTally in (ap (λ (t : Tally). withLine t e) (b .sim .tally) ∙ tally-joined m e notes he);
           long = rw words-kept (length-kept w (k .words) notes wide e (base refs e (m .next)) (length (m .lists e)) ∙ b .sim .long);
           live = rw words-kept (live-joined refs w m (k .words) wide (b .sim .long) (b .sim .live) e notes he hw);
         }
@@ -319,10 +272,9 @@ module _ (frames : List ℕ) (w : ℕ) (ok : Fine frames w) where
     both-fed skipped t = b
     both-fed (taken e notes) t =
         let he : e < 8 = referenced-below 8 refs e (λ r h. ok .limits r h .event) (t .0) in
-        let h₁ : length (m .lists e) < lineLimit = omega (arith, t .1, count-of m e he) in
         let h₂ : length (m .lists e) < base refs e (m .next) + w = omega (arith, t .2, count-of m e he) in
         record {
-          inv = inv-joined refs w m e notes (b .inv) (t .0) h₁ h₂;
+          sound = subst (Sound refs w) (tally-joined m e notes he) (sound-line refs w (tallyOf m) (b .sound) e (t .0) (t .1) (t .2));
           sim = sim-taken e notes he h₂;
         }
 
@@ -370,7 +322,7 @@ module _ (frames : List ℕ) (w : ℕ) (ok : Fine frames w) where
     pull-eq : (buffer : List ℕ) → pullDef (k .state) (k .words) buffer ≡ resultAt (m .next) (treeOf frames) (foundIn (m .lists) (m .next)) buffer
     unfolding pullDef
     pull-eq buffer =
-        cond-true _ _ _ good ∙ cond-true _ _ _ fits
+        ap (pulledIf (k .state) (k .words) buffer) in-step-admitted
         ∙ ap (λ (x : List ℕ). resultAt (k .state .next .0) (treeOf x) (foundInWindow (k .state .width) (tallyIn (k .state)) (k .words) (k .state .next .0)) buffer) (b .sim .rule)
         ∙ ap₂ (λ (v : ℕ) (t : Tally). resultAt (t .next) (treeOf frames) (foundInWindow v t (k .words) (t .next)) buffer) (b .sim .width) (b .sim .tally)
         ∙ result-own (m .next) (treeOf frames) (foundInWindow w (tallyOf m) (k .words) (m .next)) (foundIn (m .lists) (m .next)) buffer found-same
@@ -381,13 +333,13 @@ module _ (frames : List ℕ) (w : ℕ) (ok : Fine frames w) where
     both-pulled waits t = b
     both-pulled (gave v) t =
         record {
-          inv = inv-moved refs w m v (b .inv) (gave-low m v (b .inv) t);
+          sound = unfold moved in sound-verdict refs w (tallyOf m) v (b .sound) (gave-low m v (b .sound) t);
           sim =
               record {
-                rule = unfold withPulled in b .sim .rule;
-                len = unfold withPulled in b .sim .len;
-                width = unfold withPulled in b .sim .width;
-                tally = unfold withPulled in unfold moved in ap (λ (y : Tally). record { counts = y .counts; next = y .next + 1; totals = counted (y .totals) v }) (b .sim .tally);
+                rule = unfold withTally in b .sim .rule;
+                len = unfold withTally in b .sim .len;
+                width = unfold withTally in b .sim .width;
+                tally = unfold withTally in unfold moved in ap (λ (y : Tally). withVerdict y v) (b .sim .tally);
                 long = b .sim .long;
                 live = unfold moved in λ e j n he hb hk hn. b .sim .live e j n he (omega (arith, base-mono refs e (m .next) (m .next + 1) (omega arith))) hk hn;
               };

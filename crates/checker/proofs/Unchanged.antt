@@ -12,11 +12,11 @@ use Rattle.rule.specs.declared.Checked.the-variants.{Accepted, Refused}
 use Rattle.log.specs.Line.{lineOf}
 use Rattle.verdict.specs.declared.Truth.{Truth}
 use Rattle.checker.specs.Answer.{opened, accepted, verdict}
-use Rattle.checker.specs.State.{tallyIn, zeroState, ruleIn, refsIn}
+use Rattle.checker.specs.State.{zeroState}
 use Rattle.checker.specs.Open.{OpenResult, widthFits, windowFits, openedAs, notOpened, afterFrames, openDef}
-use Rattle.checker.specs.Good.{goodState}
-use Rattle.checker.specs.Feed.{FeedRead, turned, skipped, taken, feedRead, FeedResult, fedBy, feedDef}
-use Rattle.checker.specs.Pull.{PullRead, short, waits, gave, pullRead, PullResult, foundHere, pulledBy, pullDef}
+use Rattle.checker.specs.Admission.{Admission, admitted, barred, admission}
+use Rattle.checker.specs.Feed.{FeedRead, turned, skipped, taken, FeedResult, fedBy, lineIn, fedIf, feedDef}
+use Rattle.checker.specs.Pull.{PullRead, short, waits, gave, PullResult, pulledBy, nextIn, pulledIf, pullDef}
 use Rattle.checker.specs.declared.State.{State}
 use Rattle.checker.proofs.Choices.{cond-case}
 
@@ -46,12 +46,11 @@ module _ (s : State) (win : List ℤ) (line : List ℕ) where
 
   pub feed-unchanged : KeptF (feedDef s win line)
   unfolding feedDef
-  feed-unchanged =
-      cond-case KeptF (goodState s) _ _
-      (λ _. cond-case KeptF (windowFits (s .width) win) _ _
-      (λ _. fed-by (feedRead (refsIn s) (s .width) (tallyIn s) (lineOf line)))
-      (λ _ h. (refl, refl)))
-      (λ _ h. (refl, refl))
+  feed-unchanged = go (admission s win)
+    where
+      go : (a : Admission) → KeptF (fedIf s win line a)
+      go admitted = fed-by (lineIn s (lineOf line))
+      go (barred number) = λ h. (refl, refl)
 
 -- ---- pulling
 module _ (s : State) (win : List ℤ) (buffer : List ℕ) where
@@ -65,9 +64,8 @@ module _ (s : State) (win : List ℤ) (buffer : List ℕ) where
 
   pub pull-unchanged : KeptP (pullDef s win buffer)
   unfolding pullDef
-  pull-unchanged =
-      cond-case KeptP (goodState s) _ _
-      (λ _. cond-case KeptP (windowFits (s .width) win) _ _
-      (λ _. pulled-by (pullRead (ruleIn s) (s .next .0) (foundHere s win) (length buffer)))
-      (λ _ h. (refl, refl)))
-      (λ _ h. (refl, refl))
+  pull-unchanged = go (admission s win)
+    where
+      go : (a : Admission) → KeptP (pulledIf s win buffer a)
+      go admitted = pulled-by (nextIn s win (length buffer))
+      go (barred number) = λ h. (refl, refl)

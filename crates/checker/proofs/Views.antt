@@ -1,6 +1,6 @@
 -- A view is the instance and the verdict of its report: after one pull, and over every list of calls. Assumes nothing.
 use mathlib.Core.Path.{_≡_, refl, sym, _∙_, ap, ap₂}
-use mathlib.Core.List.{List, [], _∷_, _++_, map}
+use mathlib.Core.List.{List, [], _∷_, map}
 use mathlib.Core.Logic.{_↔_}
 use Prim.Native.Nat.{ℕ, _+_, _*_, _/_, _%_, _≤_}
 use native.Mathlib.Omega.{arith}
@@ -22,10 +22,9 @@ use Rattle.checker.specs.Base.{firstInstance}
 use Rattle.checker.specs.State.{ruleIn, refsIn}
 use Rattle.checker.specs.Report.{reportBytes, written}
 use Rattle.checker.specs.Feed.{FeedRead, turned, skipped, taken, feedAnswer}
-use Rattle.checker.specs.Open.{windowFits}
-use Rattle.checker.specs.Good.{goodState}
+use Rattle.checker.specs.Admission.{Admission, admitted, barred, admission}
 use Rattle.checker.specs.Pull.{PullRead, short, waits, gave, offered, pullRead, pullAnswer, pullReport}
-use Rattle.checker.specs.Pull.{PullResult, foundHere, pullDef}
+use Rattle.checker.specs.Pull.{PullResult, foundHere, nextIn, pulledIf, pullDef}
 use Rattle.checker.specs.Calls.{Call, feed, pull, outs}
 use Rattle.checker.specs.Machine.{Machine, atFirst, joined, moved, afterFeed, afterPull, machineFeed, machinePull, machineFor}
 use Rattle.checker.specs.Demand.{Unrefused, handed, verdicts}
@@ -100,15 +99,11 @@ Viewed i r = r .answer ≡ verdict truths.False → viewDef (r .report) ≡ reco
 
 pub view-after : (s : State) (win : List ℤ) (buffer : List ℕ) → Viewed (s .next .0) (pullDef s win buffer)
 unfolding pullDef
-view-after s win buffer =
-    let i = s .next .0 in
-    let found = foundHere s win in
-    let x = pullRead (ruleIn s) i found (length buffer) in
-    cond-case (Viewed i) (goodState s) _ _
-    (λ _. cond-case (Viewed i) (windowFits (s .width) win) _ _
-    (λ _. view-filled i (refsIn s) found buffer x (enough (ruleIn s) i found (length buffer)))
-    (λ _. no-report (refused 13 0) refl))
-    (λ _. no-report (refused 12 0) refl)
+view-after s win buffer = go (admission s win)
+  where
+    go : (a : Admission) → Viewed (s .next .0) (pulledIf s win buffer a)
+    go admitted = view-filled (s .next .0) (refsIn s) (foundHere s win) buffer (nextIn s win (length buffer)) (enough (ruleIn s) (s .next .0) (foundHere s win) (length buffer))
+    go (barred number) = no-report (refused number 0) refl
 
 -- ---- the views of a list from m on, os being what it gives: those of its verdicts, the first of instance m's p
 module _ (frames : List ℕ) (w : ℕ) where

@@ -9,12 +9,12 @@ use Rattle.rule.specs.Tree.{Reference}
 use Rattle.log.specs.Line.{Told, lineOf}
 use Rattle.log.specs.Line as log
 use Rattle.checker.specs.Limits.{lineLimit}
-use Rattle.checker.specs.Answer.{Answer, accepted, ignored, refused}
+use Rattle.checker.specs.Answer.{Answer, accepted, ignored, refused, feedTold}
 use Rattle.checker.specs.Base.{referenced, base}
-use Rattle.checker.specs.State.{Tally, countOf, tallyIn, refsIn, withCount}
+use Rattle.checker.specs.State.{Tally, countOf, tallyIn, refsIn, withLine, withTally}
 use Rattle.checker.specs.Ring.{kept}
-use Rattle.checker.specs.Open.{windowFits}
-use Rattle.checker.specs.Good.{goodState}
+use Rattle.checker.specs.Admission.{Admission, admitted, barred, admission}
+use Rattle.checker.specs.declared.Fed.{Fed}
 use Rattle.checker.specs.declared.State.{State}
 
 -- ---- the decision, which the plain machine and the checker share
@@ -62,15 +62,27 @@ fedBy s win skipped = notFed s win ignored
 fedBy s win (taken e notes) =
     record {
       answer = accepted;
-      state = withCount s e;
+      state = withTally s (withLine (tallyIn s) e);
       words = kept win (s .width) e (base (refsIn s) e (s .next .0)) (countOf (tallyIn s) e) notes;
     }
 
+-- what a line does to a state that is let through
+abbrev pub lineIn : State → Told → FeedRead
+lineIn s l = feedRead (refsIn s) (s .width) (tallyIn s) l
+
+-- and a line that could be read
+abbrev pub eventIn : State → ℕ → List ℤ → FeedRead
+eventIn s e notes = feedEvent (refsIn s) (s .width) (tallyIn s) e notes
+
+-- "A refusal .. changes nothing"; what is let through is fed the line
+abbrev pub fedIf : State → List ℤ → List ℕ → Admission → FeedResult
+fedIf s win line admitted = fedBy s win (lineIn s (lineOf line))
+fedIf s win line (barred number) = notFed s win (refused number 0)
+
 -- "for .. every argument": 12, then 13, then the line
 unfoldable pub feedDef : State → List ℤ → List ℕ → FeedResult
-feedDef s win line =
-    cond (goodState s)
-    (cond (windowFits (s .width) win)
-    (fedBy s win (feedRead (refsIn s) (s .width) (tallyIn s) (lineOf line)))
-    (notFed s win (refused 13 0)))
-    (notFed s win (refused 12 0))
+feedDef s win line = fedIf s win line (admission s win)
+
+-- what the code's answer and state and the window after the call are, as such a result
+abbrev pub feedOutcome : Fed → List ℤ → FeedResult
+feedOutcome r win = record { answer = feedTold (r .answer); state = r .state; words = win }

@@ -9,6 +9,7 @@ pub mod Found
 pub mod Report
 pub mod Open
 pub mod Good
+pub mod Admission
 pub mod Feed
 pub mod Pull
 pub mod Calls

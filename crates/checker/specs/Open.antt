@@ -10,8 +10,9 @@ use Rattle.rule.specs.Check.{checkedOf}
 use Rattle.rule.specs.declared.Checked.{Checked}
 use Rattle.rule.specs.declared.Checked.the-variants.{Accepted, Refused}
 use Rattle.checker.specs.Limits.{widthLimit, windowWords}
-use Rattle.checker.specs.Answer.{Answer, opened, refused}
+use Rattle.checker.specs.Answer.{Answer, opened, refused, openTold}
 use Rattle.checker.specs.State.{zeroState, freshState}
+use Rattle.checker.specs.declared.Opened.{Opened}
 use Rattle.checker.specs.declared.State.{State}
 
 -- "the answer, the state and all lent words": those of the window
@@ -44,3 +45,7 @@ afterFrames frames w win Accepted = cond (widthFits w && windowFits w win) (open
 -- "opening refuses exactly where one of its checks holds": for every slice of frames, every W and every window
 unfoldable pub openDef : List ℕ → ℕ → List ℤ → OpenResult
 openDef frames w win = afterFrames frames w win (checkedOf frames)
+
+-- what the code's answer and state and the window after the call are, as such a result
+abbrev pub openOutcome : Opened → List ℤ → OpenResult
+openOutcome r win = record { answer = openTold (r .answer); state = r .state; words = win }

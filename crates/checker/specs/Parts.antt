@@ -1,44 +1,27 @@
--- A state put together: from its frames and the rest, and with what a call changes. No contract of open, feed or pull cites it;
--- crates bench and dillplatter call by it. Assumes nothing: definitions.
+-- A state and results put together from frames and the other fields. No contract of open, feed or pull cites it; crates bench and
+-- dillplatter call by it. Assumes nothing: definitions.
 use mathlib.Core.List.{List}
 use Prim.Native.Nat.{ℕ}
-use Rattle.verdict.specs.declared.Instance.{Instance}
-use Rattle.checker.specs.declared.Totals.{Totals}
-use Rattle.checker.specs.declared.apart.Rest.{Rest}
+use Rattle.checker.specs.State.{Tally, stateWith}
+use Rattle.checker.specs.declared.parts.Fields.{Fields}
+use Rattle.checker.specs.declared.feeding.FedFields.{FedFields}
+use Rattle.checker.specs.declared.pulling.PulledFields.{PulledFields}
+use Rattle.checker.specs.declared.Fed.{Fed}
+use Rattle.checker.specs.declared.Pulled.{Pulled}
 use Rattle.checker.specs.declared.State.{State}
 
--- "The state carries frames, W (1 to 256), per-event counts, p, and the totals": of frames and the rest
-abbrev pub stateOf : List ℕ → Rest → State
-stateOf frames r =
-    record {
-      frames = frames;
-      len = r .len;
-      width = r .width;
-      counts = r .counts;
-      next = r .next;
-      totals = r .totals;
-    }
+-- "per-event counts, p, and the totals" among the fields
+abbrev pub tallyOfFields : Fields → Tally
+tallyOfFields f = record { counts = f .counts; next = f .next .0; totals = f .totals }
 
--- with other "per-event counts", as after a feed
-abbrev pub withCounts : State → List ℕ → State
-withCounts s counts =
-    record {
-      frames = s .frames;
-      len = s .len;
-      width = s .width;
-      counts = counts;
-      next = s .next;
-      totals = s .totals;
-    }
+-- "The state carries frames, W (1 to 256), per-event counts, p, and the totals": of frames and the other fields
+abbrev pub stateOf : List ℕ → Fields → State
+stateOf frames f = stateWith frames (f .len) (f .width) (tallyOfFields f)
 
--- with another "p, and the totals", as after a pull
-abbrev pub withTurn : State → Instance → Totals → State
-withTurn s p totals =
-    record {
-      frames = s .frames;
-      len = s .len;
-      width = s .width;
-      counts = s .counts;
-      next = p;
-      totals = totals;
-    }
+-- what a feed by parts gives, with its state put together
+abbrev pub fedOf : List ℕ → FedFields → Fed
+fedOf frames r = record { answer = r .answer; state = stateOf frames (r .fields) }
+
+-- what a pull by parts gives, with its state put together
+abbrev pub pulledOf : List ℕ → PulledFields → Pulled
+pulledOf frames r = record { answer = r .answer; state = stateOf frames (r .fields) }

@@ -14,12 +14,12 @@ use Rattle.verdict.specs.declared.Truth.the-variants as truths
 use Rattle.verdict.specs.declared.Judgement.{Judgement}
 use Rattle.verdict.specs.declared.Judgement.the-variants.{Unsettled, True, False, Unknown}
 use Rattle.checker.specs.Limits.{reportLeast}
-use Rattle.checker.specs.Answer.{Answer, waiting, verdict, refused}
-use Rattle.checker.specs.State.{tallyIn, ruleIn, refsIn, withPulled}
+use Rattle.checker.specs.Answer.{Answer, waiting, verdict, refused, pullTold}
+use Rattle.checker.specs.State.{tallyIn, ruleIn, refsIn, withVerdict, withTally}
 use Rattle.checker.specs.Found.{foundInWindow}
-use Rattle.checker.specs.Open.{windowFits}
-use Rattle.checker.specs.Good.{goodState}
 use Rattle.checker.specs.Report.{reportAfter}
+use Rattle.checker.specs.Admission.{Admission, admitted, barred, admission}
+use Rattle.checker.specs.declared.Pulled.{Pulled}
 use Rattle.checker.specs.declared.State.{State}
 
 -- ---- the decision, which the plain machine and the checker share
@@ -70,7 +70,7 @@ foundHere s win = foundInWindow (s .width) (tallyIn s) win (s .next .0)
 abbrev pub stateAfter : State → PullRead → State
 stateAfter s short = s
 stateAfter s waits = s
-stateAfter s (gave v) = withPulled s v
+stateAfter s (gave v) = withTally s (withVerdict (tallyIn s) v)
 
 -- "the answer is its verdict, a false one fills the report .., and p and that verdict's total go up by 1"
 abbrev pub pulledBy : State → List ℤ → List ℕ → PullRead → PullResult
@@ -81,11 +81,19 @@ pulledBy s win buffer x =
       report = pullReport (s .next .0) (refsIn s) (foundHere s win) buffer x;
     }
 
+-- what a pull of a state that is let through reads: n is the buffer's length
+abbrev pub nextIn : State → List ℤ → ℕ → PullRead
+nextIn s win n = pullRead (ruleIn s) (s .next .0) (foundHere s win) n
+
+-- "A refusal .. changes nothing"; from what is let through a verdict is pulled
+abbrev pub pulledIf : State → List ℤ → List ℕ → Admission → PullResult
+pulledIf s win buffer admitted = pulledBy s win buffer (nextIn s win (length buffer))
+pulledIf s win buffer (barred number) = notPulled s buffer (refused number 0)
+
 -- "for .. every argument": pull is the document's term; 12, then 13, then 14
 unfoldable pub pullDef : State → List ℤ → List ℕ → PullResult
-pullDef s win buffer =
-    cond (goodState s)
-    (cond (windowFits (s .width) win)
-    (pulledBy s win buffer (pullRead (ruleIn s) (s .next .0) (foundHere s win) (length buffer)))
-    (notPulled s buffer (refused 13 0)))
-    (notPulled s buffer (refused 12 0))
+pullDef s win buffer = pulledIf s win buffer (admission s win)
+
+-- what the code's answer and state and the buffer after the call are, as such a result
+abbrev pub pullOutcome : Pulled → List ℕ → PullResult
+pullOutcome r report = record { answer = pullTold (r .answer); state = r .state; report = report }

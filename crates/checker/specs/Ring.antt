@@ -1,11 +1,16 @@
 -- Where an occurrence's notes live in the window. From document 01, "Feeding, pulling and the window".
 -- Assumes nothing: definitions.
 use mathlib.Core.Bool.{cond}
-use mathlib.Core.List.{List}
+use mathlib.Core.List.{List, [], _∷_}
 use Prim.Native.Nat.{ℕ, _+_, _*_, _%_}
 use lib.Dec.{leb}
 use lib.IntN.{ℤ, pos}
 use lib.ListN.{getD, set}
+use Rattle.log.specs.declared.line.Notes.{Notes}
+
+-- "four notes" of a line
+abbrev pub notesOf : Notes → List ℤ
+notesOf n = n .0 ∷ (n .1 ∷ (n .2 ∷ (n .3 ∷ [])))
 
 -- the place of occurrence k in its event's ring: "k mod W"
 abbrev pub ringPlace : ℕ → ℕ → ℕ

@@ -38,34 +38,47 @@ pub record Tally : Type 0 where
 abbrev pub countOf : Tally → ℕ → ℕ
 countOf t e = getD (t .counts) e 0
 
--- "The state carries frames, W (1 to 256), per-event counts, p, and the totals": the last three
+-- no lines and no totals yet: "empty at first .. 0 at first", with p
+abbrev pub tallyFrom : ℕ → Tally
+tallyFrom p = record { counts = replicate eventLimit 0; next = p; totals = noTotals }
+
+-- an accepted line "is counted": one more of its event
+abbrev pub withLine : Tally → ℕ → Tally
+withLine t e = record { counts = set (t .counts) e (countOf t e + 1); next = t .next; totals = t .totals }
+
+-- "p and that verdict's total go up by 1"
+abbrev pub withVerdict : Tally → Truth → Tally
+withVerdict t v = record { counts = t .counts; next = t .next + 1; totals = counted (t .totals) v }
+
+-- ---- states; only here their fields are listed
+-- "The state carries frames, W (1 to 256), per-event counts, p, and the totals"
+abbrev pub stateWith : List ℕ → ℕ → ℕ → Tally → State
+stateWith frames n w t =
+    record {
+      frames = frames;
+      len = n;
+      width = w;
+      counts = t .counts;
+      next = record { 0 = t .next };
+      totals = t .totals;
+    }
+
+-- "per-event counts, p, and the totals" of a state
 abbrev pub tallyIn : State → Tally
 tallyIn s = record { counts = s .counts; next = s .next .0; totals = s .totals }
 
--- ---- states
+-- the one change of a state: other "per-event counts, p, and the totals"
+unfoldable pub withTally : State → Tally → State
+withTally s t = stateWith (s .frames) (s .len) (s .width) t
+
 -- "the state that is zero throughout, with no frames"
 abbrev pub zeroState : State
-zeroState =
-    record {
-      frames = replicate (frameLimit * frameBytes) 0;
-      len = 0;
-      width = 0;
-      counts = replicate eventLimit 0;
-      next = record { 0 = 0 };
-      totals = noTotals;
-    }
+zeroState = stateWith (replicate (frameLimit * frameBytes) 0) 0 0 (tallyFrom 0)
 
 -- "the state .. that an unrefused opening gave back", zero after the last frame
 unfoldable pub freshState : List ℕ → ℕ → State
 freshState frames w =
-    record {
-      frames = frames ++ replicate (frameLimit * frameBytes - length frames) 0;
-      len = length frames / frameBytes;
-      width = w;
-      counts = replicate eventLimit 0;
-      next = record { 0 = firstInstance };
-      totals = noTotals;
-    }
+    stateWith (frames ++ replicate (frameLimit * frameBytes - length frames) 0) (length frames / frameBytes) w (tallyFrom firstInstance)
 
 -- "a state whose frames": those that its rule is
 abbrev pub stateFrames : State → List ℕ
@@ -84,28 +97,3 @@ pub record SameRule (s s′ : State) : Type 0 where
   pub frames : s′ .frames ≡ s .frames
   pub len : s′ .len ≡ s .len
   pub width : s′ .width ≡ s .width
-
--- ---- changes
--- an accepted line "is counted": one more of its event
-unfoldable pub withCount : State → ℕ → State
-withCount s e =
-    record {
-      frames = s .frames;
-      len = s .len;
-      width = s .width;
-      counts = set (s .counts) e (getD (s .counts) e 0 + 1);
-      next = s .next;
-      totals = s .totals;
-    }
-
--- "p and that verdict's total go up by 1"
-unfoldable pub withPulled : State → Truth → State
-withPulled s v =
-    record {
-      frames = s .frames;
-      len = s .len;
-      width = s .width;
-      counts = s .counts;
-      next = record { 0 = s .next .0 + 1 };
-      totals = counted (s .totals) v;
-    }

@@ -2,8 +2,8 @@
 use crate::ChargeAnswer;
 use crate::State;
 use crate::Tariff;
-use crate::apart;
 use crate::good;
+use crate::parts;
 use crate::pricing;
 use rule::Refusal;
 ghost use mathlib.Core.Path.{_≡_};
@@ -24,8 +24,8 @@ pub fn charge(state: State, tariff: Tariff) -> ChargeAnswer
     if pricing::bands_fit(tariff) {
         if pricing::prices_fit(tariff) {
             let frames = state.frames;
-            let rest = apart::rest_of(state);
-            let tested = good::good(&frames, rest);
+            let fields = parts::fields_of(state);
+            let tested = good::good(&frames, fields);
             if tested.fits {
                 ChargeAnswer::Cents(pricing::cents(tariff, state.totals.failed))
             } else {

@@ -1,8 +1,8 @@
 // 12: the states that are turned down.
 use crate::Totals;
-use crate::apart::Rest;
 use crate::base;
 use crate::opening;
+use crate::parts::Fields;
 use rule::Checked;
 use rule::FRAME_BYTES;
 use verdict::Instance;
@@ -102,7 +102,7 @@ fn unfit() -> Tested
 }
 
 // Whether counts, p and totals are those of a checker with these frames.
-fn tally_fits(frames: &[u8], s: Rest) -> Tested
+fn tally_fits(frames: &[u8], s: Fields) -> Tested
     requires { ⌜ (length (now frames) ≡ frameLimit * frameBytes) × ((s .len ≤ frameLimit) × (checkedOf (take (s .len * frameBytes) (now frames)) ≡ Checked.Accepted)) ⌝ }
     ensures { λ r. ⌜ (r .fits ≡ tallyFits (take (s .len * frameBytes) (now (frames .entry))) (s .width) (s .counts) (s .next .0) (s .totals)) × (r .fits ≡ true → r .lows ≡ lowsOf (take (s .len * frameBytes) (now (frames .entry))) (s .next .0)) ⌝ }
 {
@@ -121,8 +121,8 @@ fn tally_fits(frames: &[u8], s: Rest) -> Tested
     }
 }
 
-// Whether 12 lets a state through: its frames, with those after the last, and its rest.
-pub fn good(frames: &[u8], s: Rest) -> Tested
+// Whether 12 lets a state through: its frames, with those after the last, and its other fields.
+pub fn good(frames: &[u8], s: Fields) -> Tested
     requires { ⌜ length (now frames) ≡ frameLimit * frameBytes ⌝ }
     ensures { λ r. ⌜ (r .fits ≡ goodState (stateOf (now (frames .entry)) s)) × (r .fits ≡ true → r .lows ≡ lowsOf (stateFrames (stateOf (now (frames .entry)) s)) (s .next .0)) ⌝ }
 {

@@ -1,5 +1,5 @@
 // Opening, feeding and pulling over a state by value and a lent window; the view of a report; the charge for rework.
-mod apart; // apart.rt: a state as frames and the rest
+mod admission; // admission.rt: 12 and 13, before a line or a pull
 mod base; // base.rt: the base of each event
 mod charging; // charging.rt: 28, 29, 12, the charge for rework
 mod feeding; // feeding.rt: 12, 13, 15, ignored, 16, 17
@@ -9,21 +9,21 @@ mod opening; // opening.rt: 9, 10, 7, 8, 11; a fresh checker
 mod pricing; // pricing.rt: what violations cost by a tariff
 mod pulling; // pulling.rt: 12, 13, 14, the next verdict or waiting
 mod report; // report.rt: the report of a false verdict
+mod parts; // parts.rt: a state taken apart, put together and changed
 mod viewing; // viewing.rt: 14, the view of a report
 mod words; // words.rt: the window's words
 
-pub use apart::Rest;
-pub use apart::rest_of;
-pub use apart::with_counts;
-pub use apart::with_turn;
 pub use charging::charge;
-pub use feeding::Way;
+pub use feeding::FedFields;
 pub use feeding::feed;
 pub use feeding::feed_good;
 pub use feeding::feed_parts;
 pub use opening::open;
+pub use parts::Fields;
+pub use parts::fields_of;
+pub use parts::with_fields;
+pub use pulling::PulledFields;
 pub use pulling::REPORT_LEAST;
-pub use pulling::Turn;
 pub use pulling::pull;
 pub use pulling::pull_good;
 pub use pulling::pull_parts;

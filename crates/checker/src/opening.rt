@@ -2,7 +2,7 @@
 use crate::OpenAnswer;
 use crate::Opened;
 use crate::State;
-use crate::Totals;
+use crate::parts;
 use rule::Checked;
 use rule::FRAME_BYTES;
 use rule::Refusal;
@@ -16,9 +16,8 @@ ghost use lib.ListN.{length, replicate};
 ghost use Rattle.rule.specs.Limits.{frameLimit, frameBytes};
 ghost use Rattle.rule.specs.declared.Refusal.{Refusal};
 ghost use Rattle.checker.specs.Limits.{windowWords};
-ghost use Rattle.checker.specs.Answer.{openTold};
 ghost use Rattle.checker.specs.State.{zeroState, freshState};
-ghost use Rattle.checker.specs.Open.{widthFits, openDef};
+ghost use Rattle.checker.specs.Open.{widthFits, openDef, openOutcome};
 
 // W is 1 to 256.
 const WIDTH_LIMIT: u32 = 256;
@@ -76,20 +75,7 @@ fn fresh(frames: &[u8], width: u32) -> State
 {
     let n = (frames.len() / FRAME_BYTES) as u32;
     let bytes = copied(frames);
-    let counts = [0u32; 8];
-    let totals = Totals {
-        held: 0,
-        failed: 0,
-        unknown: 0,
-    };
-    State {
-        frames: bytes,
-        len: n,
-        width,
-        counts,
-        next: Instance(FIRST_INSTANCE),
-        totals,
-    }
+    parts::first(bytes, n, width, Instance(FIRST_INSTANCE))
 }
 
 // The state that is zero throughout.
@@ -97,20 +83,7 @@ fn zero() -> State
     ensures { λ r. ⌜ r ≡ zeroState ⌝ }
 {
     let bytes = [0u8; 512];
-    let counts = [0u32; 8];
-    let totals = Totals {
-        held: 0,
-        failed: 0,
-        unknown: 0,
-    };
-    State {
-        frames: bytes,
-        len: 0,
-        width: 0,
-        counts,
-        next: Instance(0),
-        totals,
-    }
+    parts::first(bytes, 0, 0, Instance(0))
 }
 
 // A refusal hands back the state that is zero throughout.
@@ -125,7 +98,7 @@ fn refuse(why: Refusal) -> Opened
 
 // Opens a checker, for every slice of frames, every W and every window.
 pub fn open(frames: &[u8], width: u32, window: &mut [i32]) -> Opened
-    ensures { λ r. ⌜ (openTold (r .answer) ≡ openDef (now (frames .entry)) width (now (window .entry)) .answer) × ((r .state ≡ openDef (now (frames .entry)) width (now (window .entry)) .state) × (now (window .exit) ≡ openDef (now (frames .entry)) width (now (window .entry)) .words)) ⌝ }
+    ensures { λ r. ⌜ openOutcome r (now (window .exit)) ≡ openDef (now (frames .entry)) width (now (window .entry)) ⌝ }
 {
     let checked = rule::check(frames);
     match checked {

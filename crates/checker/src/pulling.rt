@@ -2,12 +2,10 @@
 use crate::PullAnswer;
 use crate::Pulled;
 use crate::State;
-use crate::Totals;
-use crate::apart;
-use crate::apart::Rest;
+use crate::admission;
 use crate::found;
-use crate::good;
-use crate::opening;
+use crate::parts;
+use crate::parts::Fields;
 use crate::report;
 use rule::FRAME_BYTES;
 use rule::Refusal;
@@ -16,17 +14,15 @@ use verdict::Judgement;
 use verdict::Truth;
 ghost use mathlib.Core.Path.{_≡_};
 ghost use mathlib.Core.List.{List};
-ghost use Prim.Native.Nat.{ℕ, _+_, _*_, _≤_};
+ghost use Prim.Native.Nat.{ℕ, _*_, _≤_};
 ghost use lib.ListN.{length};
 ghost use Rattle.rule.specs.Limits.{frameLimit, frameBytes};
 ghost use Rattle.rule.specs.Tree.{references};
 ghost use Rattle.rule.specs.Build.{treeOf};
 ghost use Rattle.verdict.specs.Settled.{judgement};
 ghost use Rattle.checker.specs.Limits.{reportLeast};
-ghost use Rattle.checker.specs.Answer.{pullTold};
-ghost use Rattle.checker.specs.State.{counted};
-ghost use Rattle.checker.specs.Parts.{stateOf, withTurn};
-ghost use Rattle.checker.specs.Pull.{offered, pullAnswer, pullReport, stateAfter, pullDef};
+ghost use Rattle.checker.specs.Parts.{stateOf, pulledOf};
+ghost use Rattle.checker.specs.Pull.{gave, offered, pullAnswer, pullReport, stateAfter, pullDef, pullOutcome};
 ghost use Rattle.checker.specs.Sights.{foundBy};
 ghost use Rattle.checker.specs.Offer.{Countable, Offerable};
 ghost use Rattle.checker.specs.Ready.{Ready};
@@ -34,82 +30,47 @@ ghost use Rattle.checker.specs.Ready.{Ready};
 // A report buffer has at least 166 bytes.
 pub const REPORT_LEAST: usize = 166;
 
-// What a pull gives: the answer, and p and the totals after it.
-pub struct Turn {
+// What pulling gives by parts: the answer, and the fields that the state then has beside its frames.
+pub struct PulledFields {
     pub answer: PullAnswer,
-    pub next: Instance,
-    pub totals: Totals,
+    pub fields: Fields,
 }
 
-// An answer that moves nothing.
-fn stay(s: Rest, answer: PullAnswer) -> Turn
-    ensures { λ r. ⌜ r ≡ record { answer = answer; next = s .next; totals = s .totals } ⌝ }
+// A refusal, of which none has a place, changes nothing.
+fn refuse(fields: Fields, number: u8) -> PulledFields
+    ensures { λ r. ⌜ r ≡ record { answer = PullAnswer.Refused (record { number = number; place = 0 }); fields = fields } ⌝ }
 {
-    let next = s.next;
-    let totals = s.totals;
-    Turn {
-        answer,
-        next,
-        totals,
+    PulledFields {
+        answer: PullAnswer::Refused(Refusal { number, place: 0 }),
+        fields,
     }
 }
 
-// A refusal, of which none has a place.
-fn refuse(s: Rest, number: u8) -> Turn
-    ensures { λ r. ⌜ r ≡ record { answer = PullAnswer.Refused (record { number = number; place = 0 }); next = s .next; totals = s .totals } ⌝ }
+// A verdict is handed out.
+fn hand_out(fields: Fields, answer: PullAnswer, v: Truth) -> PulledFields
+    requires { ⌜ Countable (fields .totals) (fields .next .0) ⌝ }
+    ensures { λ r. ⌜ (r .answer ≡ answer) × ((fs : List ℕ) → stateOf fs (r .fields) ≡ stateAfter (stateOf fs fields) (gave v)) ⌝ }
 {
-    stay(s, PullAnswer::Refused(Refusal { number, place: 0 }))
-}
-
-// A verdict's total goes up by 1.
-fn count_verdict(t: Totals, p: Instance, v: Truth) -> Totals
-    requires { ⌜ Countable t (p .0) ⌝ }
-    ensures { λ r. ⌜ r ≡ counted t v ⌝ }
-{
-    match v {
-        Truth::True => Totals {
-            held: t.held + 1,
-            failed: t.failed,
-            unknown: t.unknown,
-        },
-        Truth::False => Totals {
-            held: t.held,
-            failed: t.failed + 1,
-            unknown: t.unknown,
-        },
-        Truth::Unknown => Totals {
-            held: t.held,
-            failed: t.failed,
-            unknown: t.unknown + 1,
-        },
-    }
-}
-
-// p and that verdict's total go up by 1.
-fn move_on(s: Rest, answer: PullAnswer, v: Truth) -> Turn
-    requires { ⌜ Countable (s .totals) (s .next .0) ⌝ }
-    ensures { λ r. ⌜ r ≡ record { answer = answer; next = record { 0 = s .next .0 + 1 }; totals = counted (s .totals) v } ⌝ }
-{
-    let p = s.next;
-    let t = s.totals;
-    let totals = count_verdict(t, p, v);
-    Turn {
+    PulledFields {
         answer,
-        next: Instance(p.0 + 1),
-        totals,
+        fields: parts::with_verdict(fields, v),
     }
 }
 
 // What is given for a judgement of the next instance.
-fn give(s: Rest, judged: Judgement) -> Turn
-    requires { ⌜ Countable (s .totals) (s .next .0) ⌝ }
-    ensures { λ r. ⌜ (pullTold (r .answer) ≡ pullAnswer (offered judged)) × ((frames : List ℕ) → withTurn (stateOf frames s) (r .next) (r .totals) ≡ stateAfter (stateOf frames s) (offered judged)) ⌝ }
+fn give(fields: Fields, judged: Judgement) -> PulledFields
+    requires { ⌜ Countable (fields .totals) (fields .next .0) ⌝ }
+    ensures { λ r. ⌜ ((fs report : List ℕ) → pullOutcome (pulledOf fs r) report
+        ≡ record { answer = pullAnswer (offered judged); state = stateAfter (stateOf fs fields) (offered judged); report = report }) ⌝ }
 {
     match judged {
-        Judgement::Unsettled => stay(s, PullAnswer::Waiting),
-        Judgement::True => move_on(s, PullAnswer::True, Truth::True),
-        Judgement::False => move_on(s, PullAnswer::False, Truth::False),
-        Judgement::Unknown => move_on(s, PullAnswer::Unknown, Truth::Unknown),
+        Judgement::Unsettled => PulledFields {
+            answer: PullAnswer::Waiting,
+            fields,
+        },
+        Judgement::True => hand_out(fields, PullAnswer::True, Truth::True),
+        Judgement::False => hand_out(fields, PullAnswer::False, Truth::False),
+        Judgement::Unknown => hand_out(fields, PullAnswer::Unknown, Truth::Unknown),
     }
 }
 
@@ -123,69 +84,63 @@ fn offer(
     report: &mut [u8],
 ) -> Judgement
     requires { ⌜ Offerable (now frames) (p .0) width (length (now window)) (length (now report)) ⌝ }
-    ensures { λ r. ⌜ (r ≡ judgement (p .0) (foundBy width counts (now (window .entry)) (p .0)) (treeOf (now (frames .entry)))) × (now (report .exit) ≡ pullReport (p .0) (references (treeOf (now (frames .entry)))) (foundBy width counts (now (window .entry)) (p .0)) (now (report .entry)) (offered r)) ⌝ }
+    ensures { λ r. ⌜ (r ≡ judgement (p .0) (foundBy width counts (now (window .entry)) (p .0)) (treeOf (now (frames .entry))))
+        × (now (report .exit) ≡ pullReport (p .0) (references (treeOf (now (frames .entry))))
+        (foundBy width counts (now (window .entry)) (p .0)) (now (report .entry)) (offered r)) ⌝ }
 {
     let mut marks = [0u8; 64];
     let mut notes = [0i32; 64];
     found::look(frames, p, width, counts, window, &mut marks, &mut notes);
     let judged = verdict::judge(frames, p, &marks, &notes);
-    match judged {
-        Judgement::Unsettled => Judgement::Unsettled,
-        Judgement::True => Judgement::True,
-        Judgement::False => {
-            report::fill(report, frames, p, &marks, &notes);
-            Judgement::False
-        }
-        Judgement::Unknown => Judgement::Unknown,
+    if let Judgement::False = judged {
+        report::fill(report, frames, p, &marks, &notes);
     }
+    judged
 }
 
 // Pulls from a checker that 12 and 13 let through, into a buffer that 14 does, without testing them: for callers that carry the
 // state from an opening.
-pub fn pull_good(frames: &[u8], rest: Rest, window: &[i32], report: &mut [u8]) -> Turn
-    requires { ⌜ Ready (now frames) rest (length (now window)) × (reportLeast ≤ length (now report)) ⌝ }
-    ensures { λ r. ⌜ (pullTold (r .answer) ≡ pullDef (stateOf (now (frames .entry)) rest) (now (window .entry)) (now (report .entry)) .answer) × ((withTurn (stateOf (now (frames .entry)) rest) (r .next) (r .totals) ≡ pullDef (stateOf (now (frames .entry)) rest) (now (window .entry)) (now (report .entry)) .state) × (now (report .exit) ≡ pullDef (stateOf (now (frames .entry)) rest) (now (window .entry)) (now (report .entry)) .report)) ⌝ }
+pub fn pull_good(frames: &[u8], fields: Fields, window: &[i32], report: &mut [u8]) -> PulledFields
+    requires { ⌜ Ready (now frames) fields (now window) × (reportLeast ≤ length (now report)) ⌝ }
+    ensures { λ r. ⌜ pullOutcome (pulledOf (now (frames .entry)) r) (now (report .exit))
+        ≡ pullDef (stateOf (now (frames .entry)) fields) (now (window .entry)) (now (report .entry)) ⌝ }
 {
-    let n = rest.len as usize * FRAME_BYTES;
-    let p = rest.next;
-    let counts = rest.counts;
-    let judged = offer(&frames[..n], p, rest.width, counts, window, report);
-    give(rest, judged)
+    let n = fields.len as usize * FRAME_BYTES;
+    let p = fields.next;
+    let counts = fields.counts;
+    let judged = offer(&frames[..n], p, fields.width, counts, window, report);
+    give(fields, judged)
 }
 
 // Pulls from a checker in parts, whatever the state, the window and the report buffer are.
-pub fn pull_parts(frames: &[u8], rest: Rest, window: &[i32], report: &mut [u8]) -> Turn
+pub fn pull_parts(frames: &[u8], fields: Fields, window: &[i32], report: &mut [u8]) -> PulledFields
     requires { ⌜ length (now frames) ≡ frameLimit * frameBytes ⌝ }
-    ensures { λ r. ⌜ (pullTold (r .answer) ≡ pullDef (stateOf (now (frames .entry)) rest) (now (window .entry)) (now (report .entry)) .answer) × ((withTurn (stateOf (now (frames .entry)) rest) (r .next) (r .totals) ≡ pullDef (stateOf (now (frames .entry)) rest) (now (window .entry)) (now (report .entry)) .state) × (now (report .exit) ≡ pullDef (stateOf (now (frames .entry)) rest) (now (window .entry)) (now (report .entry)) .report)) ⌝ }
+    ensures { λ r. ⌜ pullOutcome (pulledOf (now (frames .entry)) r) (now (report .exit))
+        ≡ pullDef (stateOf (now (frames .entry)) fields) (now (window .entry)) (now (report .entry)) ⌝ }
 {
-    let tested = good::good(frames, rest);
-    if tested.fits {
-        if opening::window_fits(rest.width, window.len()) {
-            if report.len() < REPORT_LEAST {
-                refuse(rest, 14)
-            } else {
-                pull_good(frames, rest, window, report)
-            }
+    let tested = admission::admit(frames, fields, window);
+    if tested.number == 0 {
+        if report.len() < REPORT_LEAST {
+            refuse(fields, 14)
         } else {
-            refuse(rest, 13)
+            pull_good(frames, fields, window, report)
         }
     } else {
-        refuse(rest, 12)
+        refuse(fields, tested.number)
     }
 }
 
 // Pulls the next verdict, for every state, every window and every report buffer.
 pub fn pull(state: State, window: &[i32], report: &mut [u8]) -> Pulled
-    ensures { λ r. ⌜ (pullTold (r .answer) ≡ pullDef state (now (window .entry)) (now (report .entry)) .answer) × ((r .state ≡ pullDef state (now (window .entry)) (now (report .entry)) .state) × (now (report .exit) ≡ pullDef state (now (window .entry)) (now (report .entry)) .report)) ⌝ }
+    ensures { λ r. ⌜ pullOutcome r (now (report .exit)) ≡ pullDef state (now (window .entry)) (now (report .entry)) ⌝ }
 {
     let frames = state.frames;
-    let rest = apart::rest_of(state);
-    let turn = pull_parts(&frames, rest, window, report);
-    let answer = turn.answer;
-    let next = turn.next;
-    let totals = turn.totals;
+    let fields = parts::fields_of(state);
+    let pulled = pull_parts(&frames, fields, window, report);
+    let answer = pulled.answer;
+    let after = pulled.fields;
     Pulled {
         answer,
-        state: apart::with_turn(frames, rest, next, totals),
+        state: parts::with_fields(frames, after),
     }
 }

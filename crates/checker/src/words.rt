@@ -2,11 +2,10 @@
 use log::Notes;
 use verdict::Occurrence;
 ghost use mathlib.Core.Path.{_≡_};
-ghost use mathlib.Core.List.{[], _∷_};
 ghost use Prim.Native.Nat.{_<_};
 ghost use lib.ListN.{length};
 ghost use Rattle.checker.specs.Limits.{windowWords};
-ghost use Rattle.checker.specs.Ring.{wordAt, stored, kept};
+ghost use Rattle.checker.specs.Ring.{notesOf, wordAt, stored, kept};
 ghost use Rattle.checker.specs.Within.{InWindow};
 
 // A place has a word for each of 4 notes.
@@ -25,7 +24,7 @@ pub fn word(width: u32, event: u8, k: Occurrence, note: u8) -> usize
 // Stores the four notes of an occurrence.
 fn store(window: &mut [i32], width: u32, event: u8, k: Occurrence, notes: Notes)
     requires { ⌜ InWindow width event 0 × (length (now window) ≡ windowWords width) ⌝ }
-    ensures { λ r. ⌜ now (window .exit) ≡ stored (now (window .entry)) width event (k .0) (notes .0 ∷ (notes .1 ∷ (notes .2 ∷ (notes .3 ∷ [])))) ⌝ }
+    ensures { λ r. ⌜ now (window .exit) ≡ stored (now (window .entry)) width event (k .0) (notesOf notes) ⌝ }
 {
     let a = word(width, event, k, 0);
     let b = word(width, event, k, 1);
@@ -44,7 +43,7 @@ fn store(window: &mut [i32], width: u32, event: u8, k: Occurrence, notes: Notes)
 // An occurrence from base on is stored; one below base is not.
 pub fn keep(window: &mut [i32], width: u32, event: u8, base: u32, k: Occurrence, notes: Notes)
     requires { ⌜ InWindow width event 0 × (length (now window) ≡ windowWords width) ⌝ }
-    ensures { λ r. ⌜ now (window .exit) ≡ kept (now (window .entry)) width event base (k .0) (notes .0 ∷ (notes .1 ∷ (notes .2 ∷ (notes .3 ∷ [])))) ⌝ }
+    ensures { λ r. ⌜ now (window .exit) ≡ kept (now (window .entry)) width event base (k .0) (notesOf notes) ⌝ }
 {
     if base <= k.0 {
         store(window, width, event, k, notes);

@@ -1,13 +1,20 @@
 -- The numbers that the library's calls answer with. From document 01, "What is turned down" and "Feeding, pulling and the window";
 -- the numbers of the answers are this library's own. Assumes nothing: definitions.
+use mathlib.Core.List.{List}
 use Prim.Native.Nat.{ℕ}
+use lib.IntN.{ℤ}
 use Rattle.rule.specs.declared.Reading.{Reading}
 use Rattle.rule.specs.declared.Reading.the-variants.{Frames, Refused}
 use Rattle.log.specs.Earlier as log
 use Rattle.verdict.specs.declared.Truth.{Truth}
 use Rattle.verdict.specs.declared.Truth.the-variants.{True, False, Unknown}
 use Rattle.checker.specs.Answer.{Answer, opened, accepted, ignored, waiting, verdict, refused}
+use Rattle.checker.specs.Open.{OpenResult}
+use Rattle.checker.specs.Feed.{FeedResult}
+use Rattle.checker.specs.Pull.{PullResult}
 use Rattle.checker.specs.Tariff.{Charge, cents, turned}
+use Rattle.checker.specs.declared.State.{State}
+use Rattle.dillplatter.specs.declared.CallResult.{CallResult}
 
 -- an answer of any call: a text was read into so many frames, or an answer of the checker
 pub data Told : Type 0 where
@@ -56,6 +63,44 @@ abbrev pub framesOf : Told → ℕ
 framesOf (read n) = n
 framesOf (checked a) = 0
 
+-- ---- a call of the checker: "the answer, the state and all lent words"
+-- which answer, the refusal's number and place, the state, and what was lent
+pub record CallNumbers (A : Type 0) : Type 0 where
+  pub answer : ℕ
+  pub number : ℕ
+  pub place : ℕ
+  pub state : State
+  pub lent : A
+
+module _ {A : Type 0} where
+  -- what the code gave
+  abbrev pub callOutcome : CallResult → A → CallNumbers A
+  callOutcome r lent = record { answer = r .answer; number = r .number; place = r .place; state = r .state; lent = lent }
+
+  -- what an answer of the checker is in numbers
+  abbrev pub inNumbers : Answer → State → A → CallNumbers A
+  inNumbers a s lent =
+      record {
+        answer = answerOf (checked a);
+        number = numberOf (checked a);
+        place = placeOf (checked a);
+        state = s;
+        lent = lent;
+      }
+
+-- of opening
+abbrev pub openNumbers : OpenResult → CallNumbers (List ℤ)
+openNumbers d = inNumbers (d .answer) (d .state) (d .words)
+
+-- of feeding
+abbrev pub feedNumbers : FeedResult → CallNumbers (List ℤ)
+feedNumbers d = inNumbers (d .answer) (d .state) (d .words)
+
+-- of pulling
+abbrev pub pullNumbers : PullResult → CallNumbers (List ℕ)
+pullNumbers d = inNumbers (d .answer) (d .state) (d .report)
+
+-- ---- the other calls
 -- of a conversion, which is done or refused: the refusal's number, 0 where it is done
 abbrev pub conversionNumber : log.Answer → ℕ
 conversionNumber log.done = 0

@@ -14,7 +14,7 @@ ghost use Rattle.checker.specs.Feed.{feedDef};
 ghost use Rattle.checker.specs.Pull.{pullDef};
 ghost use Rattle.checker.specs.View.{viewDef};
 ghost use Rattle.checker.specs.Tariff.{chargeDef};
-ghost use Rattle.dillplatter.specs.Told.{checked, readTold, answerOf, numberOf, placeOf, framesOf};
+ghost use Rattle.dillplatter.specs.Told.{readTold, answerOf, numberOf, placeOf, framesOf, callOutcome, openNumbers, feedNumbers, pullNumbers};
 ghost use Rattle.dillplatter.specs.Told.{conversionNumber, conversionPlace, chargeNumber, chargePlace, chargeCents};
 
 // The state that a call hands back, its answer, and the number and place of a refusal, 0 where nothing is refused.
@@ -38,7 +38,8 @@ pub extern "C" fn dillplatter_read(text: &[u8], frames: &mut [u8]) -> ReadResult
 // Opens a checker, for every slice of frames, every W and every window.
 #[no_mangle]
 pub extern "C" fn dillplatter_open(frames: &[u8], width: u32, window: &mut [i32]) -> CallResult
-    ensures { λ r. ⌜ (r .answer ≡ answerOf (checked (openDef (now (frames .entry)) width (now (window .entry)) .answer))) × ((r .number ≡ numberOf (checked (openDef (now (frames .entry)) width (now (window .entry)) .answer))) × ((r .place ≡ placeOf (checked (openDef (now (frames .entry)) width (now (window .entry)) .answer))) × ((r .state ≡ openDef (now (frames .entry)) width (now (window .entry)) .state) × (now (window .exit) ≡ openDef (now (frames .entry)) width (now (window .entry)) .words)))) ⌝ }
+    ensures { λ r. ⌜ callOutcome r (now (window .exit))
+        ≡ openNumbers (openDef (now (frames .entry)) width (now (window .entry))) ⌝ }
 {
     let opened = checker::open(frames, width, window);
     let state = opened.state;
@@ -55,16 +56,17 @@ pub extern "C" fn dillplatter_open(frames: &[u8], width: u32, window: &mut [i32]
 // Feeds a line, for every state, every window and every line.
 #[no_mangle]
 pub extern "C" fn dillplatter_feed(state: State, window: &mut [i32], line: &[u8]) -> CallResult
-    ensures { λ r. ⌜ (r .answer ≡ answerOf (checked (feedDef state (now (window .entry)) (now (line .entry)) .answer))) × ((r .number ≡ numberOf (checked (feedDef state (now (window .entry)) (now (line .entry)) .answer))) × ((r .place ≡ placeOf (checked (feedDef state (now (window .entry)) (now (line .entry)) .answer))) × ((r .state ≡ feedDef state (now (window .entry)) (now (line .entry)) .state) × (now (window .exit) ≡ feedDef state (now (window .entry)) (now (line .entry)) .words)))) ⌝ }
+    ensures { λ r. ⌜ callOutcome r (now (window .exit))
+        ≡ feedNumbers (feedDef state (now (window .entry)) (now (line .entry))) ⌝ }
 {
     let frames = state.frames;
-    let rest = checker::rest_of(state);
-    let way = checker::feed_parts(&frames, rest, window, line);
-    let a = way.answer;
+    let fields = checker::fields_of(state);
+    let fed = checker::feed_parts(&frames, fields, window, line);
+    let a = fed.answer;
     let feeding = told::feeding(a);
-    let counts = way.counts;
+    let after = fed.fields;
     CallResult {
-        state: checker::with_counts(frames, rest, counts),
+        state: checker::with_fields(frames, after),
         answer: feeding.answer,
         number: feeding.number,
         place: feeding.place,
@@ -74,17 +76,17 @@ pub extern "C" fn dillplatter_feed(state: State, window: &mut [i32], line: &[u8]
 // Pulls the next verdict, for every state, every window and every report buffer.
 #[no_mangle]
 pub extern "C" fn dillplatter_pull(state: State, window: &[i32], report: &mut [u8]) -> CallResult
-    ensures { λ r. ⌜ (r .answer ≡ answerOf (checked (pullDef state (now (window .entry)) (now (report .entry)) .answer))) × ((r .number ≡ numberOf (checked (pullDef state (now (window .entry)) (now (report .entry)) .answer))) × ((r .place ≡ placeOf (checked (pullDef state (now (window .entry)) (now (report .entry)) .answer))) × ((r .state ≡ pullDef state (now (window .entry)) (now (report .entry)) .state) × (now (report .exit) ≡ pullDef state (now (window .entry)) (now (report .entry)) .report)))) ⌝ }
+    ensures { λ r. ⌜ callOutcome r (now (report .exit))
+        ≡ pullNumbers (pullDef state (now (window .entry)) (now (report .entry))) ⌝ }
 {
     let frames = state.frames;
-    let rest = checker::rest_of(state);
-    let turn = checker::pull_parts(&frames, rest, window, report);
-    let a = turn.answer;
+    let fields = checker::fields_of(state);
+    let pulled = checker::pull_parts(&frames, fields, window, report);
+    let a = pulled.answer;
     let pulling = told::pulling(a);
-    let next = turn.next;
-    let totals = turn.totals;
+    let after = pulled.fields;
     CallResult {
-        state: checker::with_turn(frames, rest, next, totals),
+        state: checker::with_fields(frames, after),
         answer: pulling.answer,
         number: pulling.number,
         place: pulling.place,

@@ -19,4 +19,4 @@ pub use Rattle.rule.proofs.Count.{overReferences, over-references, rule
 -- what accepted frames hold
 pub use Rattle.rule.proofs.Facts.{passed, reference-at, AllWithin, references-within}
 -- bytes, one by one
-pub use Rattle.rule.proofs.Fold.{bytes-by}
+pub use Rattle.rule.proofs.Fold.{bytes-by, bytes-length}

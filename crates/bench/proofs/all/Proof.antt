@@ -1,5 +1,5 @@
 -- `bench::all` ends: reads are counted down; the buffers keep their lengths. Assumes nothing.
-use mathlib.Core.Path.{_≡_, _∙_}
+use mathlib.Core.Path.{_≡_, refl, _∙_}
 use Prim.Native.Nat.{_≤_}
 use lib.ListN.{length}
 use borrow.Author.Needs.{needs}
@@ -11,17 +11,21 @@ use Rattle.bench.proofs.all.Tie as tie
 
 abbrev Inv-loop : tie.InvT-loop
 Inv-loop frames carry₀ window₀ out₀ q₀ turns₀ carry window out q turns =
-    Ready frames (q .rest) (length window)
+    Ready frames (q .fields) window
     × ((q .full ≤ outBytes) × ((q .held ≤ keptLimit) × ((length carry ≡ keptLimit) × ((length out ≡ outBytes) × ((length carry ≡ length carry₀) × ((length window ≡ length window₀) × (length out ≡ length out₀)))))))
 
 abbrev μ-loop : tie.MeasureT-loop
 μ-loop frames carry₀ window₀ out₀ q₀ turns₀ carry window out q turns = turns
 
 loop-holds : tie.Need-loop-holds Inv-loop μ-loop
-loop-holds c = (c .before .before .before .pre .0, search needs)
+loop-holds c =
+    let p = c .before .before .before .pre in
+    (p .ready, (p .full, (p .held, (p .space, (p .room, (refl, (refl, refl)))))))
 
 turn-requires : tie.Need-turn-requires Inv-loop μ-loop
-turn-requires c κs = (c .before .before .before .before .before .loop .inv .0, search needs)
+turn-requires c κs =
+    let i = c .before .before .before .before .before .loop .inv in
+    record { ready = i .0; full = i .1 .0; held = i .1 .1 .0; space = i .1 .1 .1 .0; room = i .1 .1 .1 .1 .0 }
 
 sub-turns : tie.Need-sub-turns Inv-loop μ-loop
 sub-turns c = search needs
@@ -36,7 +40,9 @@ loop-again c =
     (c .before .before .before .before .before .turn .ensures .0, (c .before .before .before .before .before .turn .ensures .1 .0, (c .before .before .before .before .before .turn .ensures .1 .1, (k .0 ∙ i .0, (k .1 .1 .0 ∙ i .1 .0, (k .0 ∙ i .1 .1 .0, (k .1 .0 ∙ i .1 .1 .1 .0, k .1 .1 .0 ∙ i .1 .1 .1 .1)))))))
 
 last-requires : tie.Need-last-requires Inv-loop μ-loop
-last-requires c κs = (c .before .before .before .before .loop .inv .0, search needs)
+last-requires c κs =
+    let i = c .before .before .before .before .loop .inv in
+    record { ready = i .0; full = i .1 .0; held = i .1 .1 .0; space = i .1 .1 .1 .0; room = i .1 .1 .1 .1 .0 }
 
 same-length : tie.Need-same-length Inv-loop μ-loop
 same-length c = search needs

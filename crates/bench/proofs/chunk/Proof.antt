@@ -21,12 +21,12 @@ abbrev μ-loop : tie.MeasureT-loop
 loop-holds : tie.Need-loop-holds Inv-loop μ-loop
 loop-holds c = record {
   within = search needs;
-  ready = c .before .before .before .before .pre .0;
-  full = search needs;
-  held = search needs;
-  carry-long = search needs;
+  ready = c .before .before .before .before .pre .ready;
+  full = c .before .before .before .before .pre .full;
+  held = c .before .before .before .before .pre .held;
+  carry-long = c .before .before .before .before .pre .space;
   win-long = refl;
-  out-long = search needs;
+  out-long = c .before .before .before .before .pre .room;
   same = open-refl _;
 }
 
@@ -61,7 +61,9 @@ part-ended-end : tie.Need-part-ended-end Inv-loop μ-loop
 part-ended-end c = omega (arith, line-within (c .before .before .before .before .before .before .before .before .before .before .before .before .before .before .args .s .now) _ _ _ _ (sym (c .before .before .before .before .before .before .before .line-from .ensures) ∙ c .before .before .before .before .before .start .given .1))
 
 ended-requires : tie.Need-ended-requires Inv-loop μ-loop
-ended-requires c κs = (c .before .before .before .before .before .before .before .before .before .before .loop .inv .ready, (c .before .before .before .before .before .before .before .before .before .before .loop .inv .full, (c .before .before .before .before .before .before .before .before .before .before .loop .inv .held, (search needs, search needs))))
+ended-requires c κs =
+    let i = c .before .before .before .before .before .before .before .before .before .before .loop .inv in
+    record { ready = i .ready; full = i .full; held = i .held; space = i .carry-long; room = i .out-long }
 
 loop-less : tie.Need-loop-less Inv-loop μ-loop
 loop-less c = omega (arith, line-within (c .before .before .before .before .before .before .before .before .before .before .before .before .before .before .before .before .before .before .before .before .before .args .s .now) _ _ _ _ (sym (c .before .before .before .before .before .before .before .before .before .before .before .before .before .before .line-from .ensures) ∙ c .before .before .before .before .before .before .before .before .before .before .before .before .start .given .1))
@@ -70,16 +72,16 @@ loop-again : tie.Need-loop-again Inv-loop μ-loop
 loop-again c =
     let s : List ℕ = c .before .before .before .before .before .before .before .before .before .before .before .before .before .before .before .before .before .before .before .before .before .args .s .now in
     let f = sym (c .before .before .before .before .before .before .before .before .before .before .before .before .before .before .line-from .ensures) ∙ c .before .before .before .before .before .before .before .before .before .before .before .before .start .given .1 in
-    let e : c .before .before .before .before .before .ended .result .held ≡ 0 = c .before .before .before .before .before .ended .ensures .1 .1 .0 in
+    let e : c .before .before .before .before .before .ended .result .held ≡ 0 = c .before .before .before .before .before .ended .ensures .1 in
     record {
       within = omega (arith, line-within s _ _ _ _ f);
-      ready = c .before .before .before .before .before .ended .ensures .0;
-      full = c .before .before .before .before .before .ended .ensures .1 .0;
+      ready = c .before .before .before .before .before .ended .ensures .0 .ready;
+      full = c .before .before .before .before .before .ended .ensures .0 .full;
       held = omega arith;
       carry-long = c .before .before .before .before .before .ended .kept .1 .1 .0 ∙ c .before .before .before .before .before .before .before .before .before .before .before .before .before .before .before .before .loop .inv .carry-long;
       win-long = c .before .before .before .before .before .ended .kept .1 .1 .1 .0 ∙ c .before .before .before .before .before .before .before .before .before .before .before .before .before .before .before .before .loop .inv .win-long;
       out-long = c .before .before .before .before .before .ended .kept .1 .1 .1 .1 .0 ∙ c .before .before .before .before .before .before .before .before .before .before .before .before .before .before .before .before .loop .inv .out-long;
-      same = rw e (chunk-line s (c .before .before .before .before .before .before .before .before .before .before .before .before .before .before .before .before .loop .at) _ _ _ f (omega arith) (omega arith) _ _ _ _ (c .before .before .before .before .before .before .before .before .before .before .before .before .before .before .before .before .loop .inv .same) (c .before .before .before .before .before .ended .ensures .1 .1 .1));
+      same = rw e (chunk-line s (c .before .before .before .before .before .before .before .before .before .before .before .before .before .before .before .before .loop .at) _ _ _ f (omega arith) (omega arith) _ _ _ _ (c .before .before .before .before .before .before .before .before .before .before .before .before .before .before .before .before .loop .inv .same) (c .before .before .before .before .before .ended .ensures .0 .after));
     }
 
 sub-keep : tie.Need-sub-keep Inv-loop μ-loop

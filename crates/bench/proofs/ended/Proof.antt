@@ -11,7 +11,9 @@ use Rattle.bench.proofs.ended.Statement.{statement}
 use Rattle.bench.proofs.ended.Tie as tie
 
 one-line-requires : tie.Need-one-line-requires
-one-line-requires c κs = (c .before .before .before .before .before .before .before .pre .0, (c .before .before .before .before .before .before .before .pre .1 .0, search needs))
+one-line-requires c κs =
+    let p = c .before .before .before .before .before .before .before .pre in
+    record { ready = p .ready; full = p .full; room = p .room }
 
 same-length : tie.Need-same-length
 same-length c = search needs
@@ -23,7 +25,7 @@ returns : tie.Need-returns
 returns c =
     let h : c .before .before .before .before .before .before .before .before .before .before .before .args .r .held ≡ 0 = search needs in
     let e = c .before .before .before .one-line .ensures in
-    (e .0, (e .1 .0, (e .1 .1 .0 ∙ h, rw h (c .before .before .before .one-line .ensures .1 .1 .1))))
+    (record { ready = e .0 .ready; full = e .0 .full; after = rw h (e .0 .after) }, e .1 ∙ h)
 
 keep-requires : tie.Need-keep-requires
 keep-requires c κs = search needs
@@ -35,7 +37,9 @@ slice-aggregate-one-line : tie.Need-slice-aggregate-one-line
 slice-aggregate-one-line c = sym (length-take-le _ _ (search needs))
 
 one-line-requires-2 : tie.Need-one-line-requires-2
-one-line-requires-2 c κs = (c .before .before .before .before .before .before .before .before .before .before .before .before .pre .0, (c .before .before .before .before .before .before .before .before .before .before .before .before .pre .1 .0, search needs))
+one-line-requires-2 c κs =
+    let p = c .before .before .before .before .before .before .before .before .before .before .before .before .pre in
+    record { ready = p .ready; full = p .full; room = p .room }
 
 same-length-3 : tie.Need-same-length-3
 same-length-3 c = search needs
@@ -51,7 +55,9 @@ returns-2 c =
     let a = c .before .before .before .before .before .before .before .before .before .before .before .before .before .before .before .before .args in
     let e = c .before .before .before .one-line2 .ensures in
     let l : List ℕ = take (a .r .held) (a .carry .now) ++ a .part .now in
-    (e .0, (e .1 .0, (refl, rw (c .before .before .before .before .before .before .before .before .before .keep .ensures .1, after-kept (progressOf (a .frames .now) (a .r) (a .window .now) (a .out .now)) l) at (c .before .before .before .one-line2 .ensures .1 .1 .1))))
+    let k = c .before .before .before .before .before .before .before .before .before .keep .ensures .1 in
+    let t = after-kept (progressOf (a .frames .now) (a .r) (a .window .now) (a .out .now)) l in
+    (record { ready = e .0 .ready; full = e .0 .full; after = rw (k, t) at (e .0 .after) }, refl)
 
 pub ended-spec : {M : Type 1} → statement M
 ended-spec =

@@ -13,13 +13,15 @@ use Rattle.bench.proofs.last.Tie as tie
 returns : tie.Need-returns
 returns c =
     let h : c .before .before .before .before .args .r .held ≡ 0 = search needs in
-    (c .before .before .before .before .pre .1 .0, rw h (after-refl _))
+    (c .before .before .before .before .pre .full, rw h (after-refl _))
 
 slice-aggregate-one-line : tie.Need-slice-aggregate-one-line
 slice-aggregate-one-line c = sym (length-take-le _ _ (search needs))
 
 one-line-requires : tie.Need-one-line-requires
-one-line-requires c κs = (c .before .before .before .before .before .before .before .pre .0, (c .before .before .before .before .before .before .before .pre .1 .0, search needs))
+one-line-requires c κs =
+    let p = c .before .before .before .before .before .before .before .pre in
+    record { ready = p .ready; full = p .full; room = p .room }
 
 same-length : tie.Need-same-length
 same-length c = search needs
@@ -30,7 +32,7 @@ same-length-2 c = search needs
 returns-2 : tie.Need-returns-2
 returns-2 c =
     let l : 0 < length (take (c .before .before .before .before .before .before .before .before .before .before .before .args .r .held) (c .before .before .before .before .before .before .before .before .before .before .before .args .carry .now)) = omega (arith, length-take-le (c .before .before .before .before .before .before .before .before .before .before .before .args .r .held) (c .before .before .before .before .before .before .before .before .before .before .before .args .carry .now) (search needs)) in
-    (c .before .before .before .one-line .ensures .1 .0, rw (last-held _ (take (c .before .before .before .before .before .before .before .before .before .before .before .args .r .held) (c .before .before .before .before .before .before .before .before .before .before .before .args .carry .now)) l) (c .before .before .before .one-line .ensures .1 .1 .1))
+    (c .before .before .before .one-line .ensures .0 .full, rw (last-held _ (take (c .before .before .before .before .before .before .before .before .before .before .before .args .r .held) (c .before .before .before .before .before .before .before .before .before .before .before .args .carry .now)) l) (c .before .before .before .one-line .ensures .0 .after))
 
 pub last-spec : {M : Type 1} → statement M
 last-spec =

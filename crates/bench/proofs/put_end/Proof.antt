@@ -20,7 +20,7 @@ same-length c = search needs
 
 returns : tie.Need-returns
 returns c =
-    let t = c .before .before .before .before .before .before .before .before .before .before .args .r .rest .totals in
+    let t = c .before .before .before .before .before .before .before .before .before .before .args .r .fields .totals in
     let n = c .before .before .before .before .before .before .before .before .before .before .args .r .counts in
     let l : length (totalsLine t n) ≡ 49 = line-length (totalsBytes t n) in (
       omega (arith, c .before .before .put-totals .ensures .0, c .before .before .before .before .make-room .ensures .0),

@@ -5,10 +5,14 @@ use Rattle.bench.proofs.run_log.Statement.{statement}
 use Rattle.bench.proofs.run_log.Tie as tie
 
 pull-all-requires : tie.Need-pull-all-requires
-pull-all-requires c κs = (c .before .before .before .before .before .pre .0, search needs)
+pull-all-requires c κs =
+    let p = c .before .before .before .before .before .pre in
+    record { ready = p .0; full = search needs; room = p .1 .1 }
 
 all-requires : tie.Need-all-requires
-all-requires c κs = (c .before .before .before .before .before .pull-all .ensures .0, search needs)
+all-requires c κs =
+    let e = c .before .before .before .before .before .pull-all .ensures in
+    record { ready = e .0 .ready; full = e .0 .full; held = search needs; space = search needs; room = search needs }
 
 finish-requires : tie.Need-finish-requires
 finish-requires c κs = (c .before .before .before .before .before .before .all .ensures, c .before .before .before .before .before .before .all .kept .1 .1 .1 .1 .0 ∙ c .before .before .before .before .before .before .before .before .before .before .before .before .pull-all .kept .1 .1 .1 .0 ∙ c .before .before .before .before .before .before .before .before .before .before .before .before .before .before .before .before .before .before .pre .1 .1)

@@ -10,7 +10,9 @@ read-requires : tie.Need-read-requires
 read-requires c κs = search needs
 
 returns : tie.Need-returns
-returns c = (c .before .before .before .before .before .before .before .pre .0, (search needs, search needs))
+returns c =
+    let p = c .before .before .before .before .before .before .before .pre in
+    (p .ready, (p .full, p .held))
 
 slice-aggregate-count : tie.Need-slice-aggregate-count
 slice-aggregate-count c = search needs
@@ -25,7 +27,7 @@ slice-aggregate-chunk : tie.Need-slice-aggregate-chunk
 slice-aggregate-chunk c = search needs
 
 chunk-requires : tie.Need-chunk-requires
-chunk-requires c κs = (c .before .before .before .before .before .before .before .before .before .before .before .before .before .pre .0, search needs)
+chunk-requires c κs = c .before .before .before .before .before .before .before .before .before .before .before .before .before .pre
 
 same-length : tie.Need-same-length
 same-length c = search needs

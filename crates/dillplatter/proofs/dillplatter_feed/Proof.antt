@@ -1,18 +1,15 @@
 -- `dillplatter::dillplatter_feed` meets its contract. Assumes nothing.
-use mathlib.Core.Path.{_≡_, ap, _∙_}
-use mathlib.Core.List.{List}
-use Prim.Native.Nat.{ℕ}
-use lib.IntN.{ℤ}
+use mathlib.Core.Path.{ap, _∙_}
 use borrow.Author.Needs.{needs}
-use Rattle.checker.specs.Parts.{stateOf}
-use Rattle.checker.specs.Feed.{FeedResult, feedDef}
+use Rattle.checker.specs.Feed.{feedDef}
 use Rattle.checker.specs.declared.State.{State}
-use Rattle.dillplatter.specs.Told.{checked, answerOf, numberOf, placeOf}
+use Rattle.checker.proofs.Laws.{fed-whole}
+use Rattle.dillplatter.proofs.Calls.{feed-numbers}
 use Rattle.dillplatter.proofs.dillplatter_feed.Statement.{statement}
 use Rattle.dillplatter.proofs.dillplatter_feed.Tie as tie
 
-rest-of-requires : tie.Need-rest-of-requires
-rest-of-requires c κs = search needs
+fields-of-requires : tie.Need-fields-of-requires
+fields-of-requires c κs = search needs
 
 slice-aggregate-feed-parts : tie.Need-slice-aggregate-feed-parts
 slice-aggregate-feed-parts c = search needs
@@ -23,8 +20,8 @@ feed-parts-requires c κs = search needs
 feeding-requires : tie.Need-feeding-requires
 feeding-requires c κs = search needs
 
-with-counts-requires : tie.Need-with-counts-requires
-with-counts-requires c κs = search needs
+with-fields-requires : tie.Need-with-fields-requires
+with-fields-requires c κs = search needs
 
 same-length : tie.Need-same-length
 same-length c = search needs
@@ -32,24 +29,20 @@ same-length c = search needs
 returns : tie.Need-returns
 returns c =
     let a = c .before .before .before .before .before .before .before .before .before .before .args in
-    let s = a .state in
-    let win : List ℤ = a .window .now in
-    let line : List ℕ = a .line .now in
-    let e : feedDef (stateOf (s .frames) (c .before .before .before .before .before .before .before .rest-of .result)) win line ≡ feedDef s win line = ap (λ (x : State). feedDef x win line) (c .before .before .before .before .before .before .before .rest-of .ensures) in
-    let answered = c .before .before .before .before .feed-parts .ensures .0 ∙ ap (λ (x : FeedResult). x .answer) e in
-    let told = c .before .before .feeding .ensures in (
-      told .0 ∙ ap (λ x. answerOf (checked x)) answered,
-      (
-        told .1 .0 ∙ ap (λ x. numberOf (checked x)) answered,
-        (
-          told .1 .1 ∙ ap (λ x. placeOf (checked x)) answered,
-          (
-            c .with-counts .ensures ∙ c .before .before .before .before .feed-parts .ensures .1 .0 ∙ ap (λ (x : FeedResult). x .state) e,
-            c .before .before .before .before .feed-parts .ensures .1 .1 ∙ ap (λ (x : FeedResult). x .words) e,
-          ),
-        ),
-      ),
-    )
+    let f = c .before .before .before .before .feed-parts in
+    let d = feedDef (a .state) (a .window .now) (a .line .now) in
+    let s = ap (λ (x : State). feedDef x (a .window .now) (a .line .now)) (c .before .before .before .before .before .before .before .fields-of .ensures) in
+    let w = fed-whole (f .result) (c .with-fields .result) d (c .with-fields .ensures) (f .ensures ∙ s) in
+    feed-numbers (c .before .before .feeding .result) (record { answer = f .result .answer; state = c .with-fields .result }) _ d (c .before .before .feeding .ensures) w
 
 pub dillplatter-feed-spec : {M : Type 1} → statement M
-dillplatter-feed-spec = tie.close (tie.spec rest-of-requires slice-aggregate-feed-parts feed-parts-requires feeding-requires with-counts-requires same-length returns)
+dillplatter-feed-spec =
+    tie.close
+    (tie.spec
+    fields-of-requires
+    slice-aggregate-feed-parts
+    feed-parts-requires
+    feeding-requires
+    with-fields-requires
+    same-length
+    returns)

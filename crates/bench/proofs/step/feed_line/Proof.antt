@@ -1,9 +1,8 @@
 -- `bench::step::feed_line` feeds a line to a checker that 12 and 13 let through, and counts its answer. Assumes nothing.
-use mathlib.Core.Path.{refl, ap, _∙_}
+use mathlib.Core.Path.{refl, ap}
 use borrow.Author.Needs.{needs}
-use Rattle.checker.specs.Answer.{Answer}
-use Rattle.bench.specs.Progress.{countedBy}
-use Rattle.bench.proofs.RunLaws.{ready-fed}
+use Rattle.checker.specs.Feed.{FeedResult}
+use Rattle.bench.proofs.RunLaws.{ready-fed, fed-as}
 use Rattle.bench.proofs.step.feed_line.Statement.{statement}
 use Rattle.bench.proofs.step.feed_line.Tie as tie
 
@@ -18,10 +17,13 @@ same-length c = search needs
 
 returns : tie.Need-returns
 returns c =
-    let a = c .before .before .before .before .before .before .before .before .before .before .before .args in
-    let f = c .before .before .before .before .before .before .feed-good .ensures in (
-      ready-fed (a .frames .now) (a .r .rest) _ (a .window .now) _ (a .line .now) (c .before .before .before .before .before .before .before .before .before .before .before .pre) (f .1 .0) (f .1 .1),
-      (f .1 .0, (c .counted .ensures ∙ ap (λ (x : Answer). countedBy x (a .r .counts)) (f .0), (refl, (refl, (refl, f .1 .1))))),
+    let p = c .before .before .before .before .before .before .before .before .before in
+    let a = p .args in
+    let f = c .before .before .before .before .feed-good in
+    let s = ap (λ (x : FeedResult). x .state) (f .ensures) in
+    let w = ap (λ (x : FeedResult). x .words) (f .ensures) in (
+      ready-fed (a .frames .now) (a .r .fields) (f .result .fields) (a .window .now) _ (a .line .now) (p .pre) s w,
+      (refl, (refl, fed-as (a .frames .now) (a .r) (record { fields = f .result .fields; counts = c .counted .result; held = a .r .held; full = a .r .full; more = a .r .more }) (f .result) (a .window .now) _ (a .line .now) refl (c .counted .ensures) refl (f .ensures))),
     )
 
 pub feed-line-spec : {M : Type 1} → statement M

@@ -14,16 +14,20 @@ use Rattle.bench.proofs.step.pull_all.Tie as tie
 
 abbrev Inv-loop : tie.InvT-loop
 Inv-loop frames window out₀ q₀ left₀ out q left =
-    Ready frames (q .rest) (length window) × ((q .full ≤ outBytes) × ((q .held ≡ q₀ .held) × ((length out ≡ outBytes) × After (pulls pullLimit (progressOf frames q₀ window out₀)) (cond (q .more) (pulls left (progressOf frames q window out)) (progressOf frames q window out)))))
+    Ready frames (q .fields) window × ((q .full ≤ outBytes) × ((q .held ≡ q₀ .held) × ((length out ≡ outBytes) × After (pulls pullLimit (progressOf frames q₀ window out₀)) (cond (q .more) (pulls left (progressOf frames q window out)) (progressOf frames q window out)))))
 
 abbrev μ-loop : tie.MeasureT-loop
 μ-loop frames window out₀ q₀ left₀ out q left = left
 
 loop-holds : tie.Need-loop-holds Inv-loop μ-loop
-loop-holds c = (c .before .before .pre .0, (search needs, (refl, (search needs, after-refl _))))
+loop-holds c =
+    let p = c .before .before .pre in
+    (p .ready, (p .full, (refl, (p .room, after-refl _))))
 
 pull-once-requires : tie.Need-pull-once-requires Inv-loop μ-loop
-pull-once-requires c κs = (c .before .before .before .loop .inv .0, (c .before .before .before .loop .inv .1 .0, search needs))
+pull-once-requires c κs =
+    let i = c .before .before .before .loop .inv in
+    record { ready = i .0; full = i .1 .0; room = i .1 .1 .1 .0 }
 
 sub-left : tie.Need-sub-left Inv-loop μ-loop
 sub-left c = search needs
@@ -36,19 +40,24 @@ loop-again c =
     let e = c .before .before .pull-once .ensures in
     let i = c .before .before .before .before .before .before .loop .inv .1 in
     let p = rw (c .before .before .before .before .if1 .taken) at (c .before .before .before .before .before .before .loop .inv .1 .1 .1 .1) in
-    (e .0, (e .1 .0, (e .1 .1 .0 ∙ i .1 .0, (search needs, pull-next _ _ _ (c .before .before .before .before .before .before .loop .left) _ (omega arith) p (e .1 .1 .1 .1) (e .1 .1 .1 .0)))))
+    (e .0 .ready, (e .0 .full, (e .1 .0 ∙ i .1 .0, (search needs, pull-next _ _ _ (c .before .before .before .before .before .before .loop .left) _ (omega arith) p (e .0 .after) (e .1 .1)))))
 
 same-length : tie.Need-same-length Inv-loop μ-loop
 same-length c = search needs
 
 returns : tie.Need-returns Inv-loop μ-loop
-returns c = (c .before .before .loop .inv .0, (c .before .before .loop .inv .1 .0, (c .before .before .loop .inv .1 .1 .0, rw (c .if1 .left) at (c .before .before .loop .inv .1 .1 .1 .1))))
+returns c =
+    let i = c .before .before .loop .inv in
+    (record { ready = i .0; full = i .1 .0; after = rw (c .if1 .left) at (i .1 .1 .1 .1) }, i .1 .1 .0)
 
 same-length-2 : tie.Need-same-length-2 Inv-loop μ-loop
 same-length-2 c = search needs
 
 returns-2 : tie.Need-returns-2 Inv-loop μ-loop
-returns-2 c = (c .before .loop .inv .0, (c .before .loop .inv .1 .0, (c .before .loop .inv .1 .1 .0, pull-end _ _ (c .before .loop .left) (c .before .loop .q .more) (omega arith) (c .before .loop .inv .1 .1 .1 .1))))
+returns-2 c =
+    let l = c .before .loop in
+    let i = l .inv in
+    (record { ready = i .0; full = i .1 .0; after = pull-end _ _ (l .left) (l .q .more) (omega arith) (i .1 .1 .1 .1) }, i .1 .1 .0)
 
 pub pull-all-spec : {M : Type 1} → statement M
 pull-all-spec =

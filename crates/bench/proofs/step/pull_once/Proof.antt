@@ -7,7 +7,7 @@ slice-aggregate-pull-into : tie.Need-slice-aggregate-pull-into
 slice-aggregate-pull-into c = search needs
 
 pull-into-requires : tie.Need-pull-into-requires
-pull-into-requires c κs = (c .before .before .before .before .pre .0, (c .before .before .before .before .pre .1 .0, (search needs, search needs)))
+pull-into-requires c κs = (c .before .before .before .before .pre, search needs)
 
 same-length : tie.Need-same-length
 same-length c = search needs

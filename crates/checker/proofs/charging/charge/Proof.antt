@@ -17,8 +17,8 @@ prices-fit-requires c κs =
     let b = c .before in
     rise-facts (b .before .args .tariff) (sym (b .bands-fit .ensures) ∙ c .if1 .taken) .few
 
-rest-of-requires : tie.Need-rest-of-requires
-rest-of-requires c κs = search needs
+fields-of-requires : tie.Need-fields-of-requires
+fields-of-requires c κs = search needs
 
 slice-aggregate-good : tie.Need-slice-aggregate-good
 slice-aggregate-good c = search needs
@@ -34,7 +34,7 @@ cents-requires c κs =
     let a = b .before .args in
     let bands : bandsFit (a .tariff) ≡ true = sym (b .bands-fit .ensures) ∙ p .before .if1 .taken in
     let prices : pricesFit (a .tariff) ≡ true = sym (p .prices-fit .ensures) ∙ r .before .before .if2 .taken in
-    let good : goodState (a .state) ≡ true = sym (ap goodState (r .rest-of .ensures)) ∙ sym (c .before .good2 .ensures .0) ∙ c .if3 .taken in
+    let good : goodState (a .state) ≡ true = sym (ap goodState (r .fields-of .ensures)) ∙ sym (c .before .good2 .ensures .0) ∙ c .if3 .taken in
     (bands, (prices, omega (arith, failed-most (a .state) good)))
 
 refuse-requires : tie.Need-refuse-requires
@@ -56,7 +56,7 @@ returns c =
     let a = b .before .args in
     let bands : bandsFit (a .tariff) ≡ true = sym (b .bands-fit .ensures) ∙ p .before .if1 .taken in
     let prices : pricesFit (a .tariff) ≡ true = sym (p .prices-fit .ensures) ∙ r .before .before .if2 .taken in
-    let good : goodState (a .state) ≡ true = sym (ap goodState (r .rest-of .ensures)) ∙ sym (g .good2 .ensures .0) ∙ c .before .if3 .taken in
+    let good : goodState (a .state) ≡ true = sym (ap goodState (r .fields-of .ensures)) ∙ sym (g .good2 .ensures .0) ∙ c .before .if3 .taken in
     ap cents (c .cents .ensures) ∙ sym (charged-by (a .state) (a .tariff) bands prices good)
 
 -- 12
@@ -69,7 +69,7 @@ returns-2 c =
     let a = b .before .args in
     let bands : bandsFit (a .tariff) ≡ true = sym (b .bands-fit .ensures) ∙ p .before .if1 .taken in
     let prices : pricesFit (a .tariff) ≡ true = sym (p .prices-fit .ensures) ∙ r .before .before .if2 .taken in
-    let bad : goodState (a .state) ≡ false = sym (ap goodState (r .rest-of .ensures)) ∙ sym (g .good2 .ensures .0) ∙ c .before .if3 .left in
+    let bad : goodState (a .state) ≡ false = sym (ap goodState (r .fields-of .ensures)) ∙ sym (g .good2 .ensures .0) ∙ c .before .if3 .left in
     ap chargeTold (c .refuse .ensures) ∙ sym (turned-12 (a .state) (a .tariff) bands prices bad)
 
 -- 29
@@ -96,7 +96,7 @@ charge-spec =
     (tie.spec
     bands-fit-requires
     prices-fit-requires
-    rest-of-requires
+    fields-of-requires
     slice-aggregate-good
     good-requires
     cents-requires

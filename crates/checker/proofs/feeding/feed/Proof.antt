@@ -1,17 +1,14 @@
 -- `checker::feeding::feed` meets its contract. Assumes nothing.
-use mathlib.Core.Path.{_≡_, ap, _∙_}
-use mathlib.Core.List.{List}
-use Prim.Native.Nat.{ℕ}
-use lib.IntN.{ℤ}
+use mathlib.Core.Path.{ap, _∙_}
 use borrow.Author.Needs.{needs}
-use Rattle.checker.specs.Parts.{stateOf}
-use Rattle.checker.specs.Feed.{FeedResult, feedDef}
+use Rattle.checker.specs.Feed.{feedDef}
 use Rattle.checker.specs.declared.State.{State}
+use Rattle.checker.proofs.CodeFeed.{fed-whole}
 use Rattle.checker.proofs.feeding.feed.Statement.{statement}
 use Rattle.checker.proofs.feeding.feed.Tie as tie
 
-rest-of-requires : tie.Need-rest-of-requires
-rest-of-requires c κs = search needs
+fields-of-requires : tie.Need-fields-of-requires
+fields-of-requires c κs = search needs
 
 slice-aggregate-feed-parts : tie.Need-slice-aggregate-feed-parts
 slice-aggregate-feed-parts c = search needs
@@ -19,8 +16,8 @@ slice-aggregate-feed-parts c = search needs
 feed-parts-requires : tie.Need-feed-parts-requires
 feed-parts-requires c κs = search needs
 
-with-counts-requires : tie.Need-with-counts-requires
-with-counts-requires c κs = search needs
+with-fields-requires : tie.Need-with-fields-requires
+with-fields-requires c κs = search needs
 
 same-length : tie.Need-same-length
 same-length c = search needs
@@ -28,16 +25,16 @@ same-length c = search needs
 returns : tie.Need-returns
 returns c =
     let a = c .before .before .before .before .before .before .before .before .before .args in
-    let s = a .state in
-    let win : List ℤ = a .window .now in
-    let line : List ℕ = a .line .now in
-    let e : feedDef (stateOf (s .frames) (c .before .before .before .before .before .before .rest-of .result)) win line ≡ feedDef s win line = ap (λ (x : State). feedDef x win line) (c .before .before .before .before .before .before .rest-of .ensures) in (
-      c .before .before .before .feed-parts .ensures .0 ∙ ap (λ (x : FeedResult). x .answer) e,
-      (
-        c .with-counts .ensures ∙ c .before .before .before .feed-parts .ensures .1 .0 ∙ ap (λ (x : FeedResult). x .state) e,
-        c .before .before .before .feed-parts .ensures .1 .1 ∙ ap (λ (x : FeedResult). x .words) e,
-      ),
-    )
+    let s = ap (λ (x : State). feedDef x (a .window .now) (a .line .now)) (c .before .before .before .before .before .before .fields-of .ensures) in
+    fed-whole (c .before .before .before .feed-parts .result) (c .with-fields .result) (feedDef (a .state) (a .window .now) (a .line .now)) (c .with-fields .ensures) (c .before .before .before .feed-parts .ensures ∙ s)
 
 pub feed-spec : {M : Type 1} → statement M
-feed-spec = tie.close (tie.spec rest-of-requires slice-aggregate-feed-parts feed-parts-requires with-counts-requires same-length returns)
+feed-spec =
+    tie.close
+    (tie.spec
+    fields-of-requires
+    slice-aggregate-feed-parts
+    feed-parts-requires
+    with-fields-requires
+    same-length
+    returns)

@@ -1,22 +1,18 @@
 -- `checker::feeding::feed_event` meets its contract. Assumes nothing.
-use mathlib.Core.Path.{_≡_, sym, ap, _∙_}
-use mathlib.Core.List.{List, [], _∷_}
+use mathlib.Core.Path.{ap, _∙_}
 use Prim.Native.Nat.{ℕ, _*_}
-use lib.IntN.{ℤ}
+use native.Mathlib.Omega.{arith}
+use borrow.Author.Needs.{needs}
 use lib.ListN.{getD}
 use Rattle.rule.specs.Frames.{Bytes}
-use Rattle.checker.specs.Answer.{feedTold}
-use Rattle.checker.specs.State.{withCount, stateFrames, refsIn, tallyIn}
-use Rattle.checker.specs.Parts.{stateOf, withCounts}
-use Rattle.checker.specs.Ring.{kept}
-use Rattle.checker.specs.Feed.{FeedRead, turned, skipped, taken, feedEvent, fedBy}
+use Rattle.checker.specs.State.{stateFrames}
+use Rattle.checker.specs.Parts.{stateOf}
+use Rattle.checker.specs.Ring.{notesOf, kept}
 use Rattle.checker.specs.declared.State.{State}
-use Rattle.checker.specs.declared.feeding.Way.{Way}
+use Rattle.checker.proofs.Admissions.{in-good, in-long}
 use Rattle.checker.proofs.CodeBase.{bytes-take}
 use Rattle.checker.proofs.CodeGood.{good-facts}
-use Rattle.checker.proofs.CodeFeed.{lowIn, some-in, high-skipped, none-skipped, many-turned, full-turned, room-taken}
-use borrow.Author.Needs.{needs}
-use native.Mathlib.Omega.{arith}
+use Rattle.checker.proofs.CodeFeed.{some-in, high-skipped, none-skipped, many-turned, full-turned, room-taken, ignored-as, refused-as, taken-as}
 use Rattle.checker.proofs.feeding.feed_event.Statement.{statement}
 use Rattle.checker.proofs.feeding.feed_event.Tie as tie
 
@@ -25,17 +21,12 @@ ignore-requires c κs = search needs
 
 returns : tie.Need-returns
 returns c =
-    let a = c .before .before .before .before .args in
-    let s : State = stateOf (a .frames .now) (a .rest) in
-    let g = c .before .before .before .before .pre .0 .good in
-    let b : Bytes (stateFrames s) = bytes-take (s .len * 8) (s .frames) (λ i. c .before .before .before .shared-slice-known .given i .fits) in
-    let ns : List ℤ = a .notes .0 ∷ (a .notes .1 ∷ (a .notes .2 ∷ (a .notes .3 ∷ []))) in
-    let win : List ℤ = a .window .now in
-    let w : getD (a .t3) (a .event) 0 ≡ lowIn s b g (a .event) = ap (λ (x : List ℕ). getD x (a .event) 0) (c .before .before .before .before .pre .1) in
-    let k : feedEvent (refsIn s) (s .width) (tallyIn s) (a .event) ns ≡ skipped = high-skipped s b g (a .event) ns (c .before .if1 .taken) in (
-      ap (λ (x : Way). feedTold (x .answer)) (c .ignore .ensures) ∙ sym (ap (λ (d : FeedRead). fedBy s win d .answer) k),
-      (ap (λ (x : Way). withCounts s (x .counts)) (c .ignore .ensures) ∙ sym (ap (λ (d : FeedRead). fedBy s win d .state) k), sym (ap (λ (d : FeedRead). fedBy s win d .words) k)),
-    )
+    let p = c .before .before .before in
+    let a = p .args in
+    let s : State = stateOf (a .frames .now) (a .t2) in
+    let b : Bytes (stateFrames s) = bytes-take (s .len * 8) (s .frames) (λ i. c .before .before .shared-slice-known .given i .fits) in
+    let g = in-good s (a .window .now) (p .pre .0 .let-in) in
+    ignored-as (a .frames .now) (a .t2) (a .window .now) (c .ignore .result) _ (c .ignore .ensures) (high-skipped s b g (a .t3) (p .pre .1) (a .event) (notesOf (a .notes)) (c .before .if1 .taken))
 
 mul-low : tie.Need-mul-low
 mul-low c = search needs
@@ -48,96 +39,104 @@ ignore-requires-2 c κs = search needs
 
 returns-2 : tie.Need-returns-2
 returns-2 c =
-    let a = c .before .before .before .before .before .args in
-    let s : State = stateOf (a .frames .now) (a .rest) in
-    let g = c .before .before .before .before .before .pre .0 .good in
-    let b : Bytes (stateFrames s) = bytes-take (s .len * 8) (s .frames) (λ i. c .before .before .before .before .shared-slice-known .given i .fits) in
-    let ns : List ℤ = a .notes .0 ∷ (a .notes .1 ∷ (a .notes .2 ∷ (a .notes .3 ∷ []))) in
-    let win : List ℤ = a .window .now in
-    let w : getD (a .t3) (a .event) 0 ≡ lowIn s b g (a .event) = ap (λ (x : List ℕ). getD x (a .event) 0) (c .before .before .before .before .before .pre .1) in
-    let k : feedEvent (refsIn s) (s .width) (tallyIn s) (a .event) ns ≡ skipped = none-skipped s b g (a .event) ns (c .before .before .if1 .left) (sym w ∙ c .before .if2 .taken) in (
-      ap (λ (x : Way). feedTold (x .answer)) (c .ignore2 .ensures) ∙ sym (ap (λ (d : FeedRead). fedBy s win d .answer) k),
-      (ap (λ (x : Way). withCounts s (x .counts)) (c .ignore2 .ensures) ∙ sym (ap (λ (d : FeedRead). fedBy s win d .state) k), sym (ap (λ (d : FeedRead). fedBy s win d .words) k)),
-    )
+    let p = c .before .before .before .before in
+    let a = p .args in
+    let s : State = stateOf (a .frames .now) (a .t2) in
+    let b : Bytes (stateFrames s) = bytes-take (s .len * 8) (s .frames) (λ i. c .before .before .before .shared-slice-known .given i .fits) in
+    let g = in-good s (a .window .now) (p .pre .0 .let-in) in
+    ignored-as (a .frames .now) (a .t2) (a .window .now) (c .ignore2 .result) _ (c .ignore2 .ensures) (none-skipped s b g (a .t3) (p .pre .1) (a .event) (notesOf (a .notes)) (c .before .before .if1 .left) (c .before .if2 .taken))
 
 mul-c : tie.Need-mul-c
 mul-c c = search needs
 
-array-read-c : tie.Need-array-read-c
-array-read-c c = search needs
+element-copy-out-c : tie.Need-element-copy-out-c
+element-copy-out-c c = search needs
 
 refuse-requires : tie.Need-refuse-requires
 refuse-requires c κs = search needs
 
 returns-3 : tie.Need-returns-3
 returns-3 c =
-    let a = c .before .before .before .before .before .before .args in
-    let s : State = stateOf (a .frames .now) (a .rest) in
-    let g = c .before .before .before .before .before .before .pre .0 .good in
+    let p = c .before .before .before .before .before .before in
+    let a = p .args in
+    let s : State = stateOf (a .frames .now) (a .t2) in
     let b : Bytes (stateFrames s) = bytes-take (s .len * 8) (s .frames) (λ i. c .before .before .before .before .before .shared-slice-known .given i .fits) in
-    let ns : List ℤ = a .notes .0 ∷ (a .notes .1 ∷ (a .notes .2 ∷ (a .notes .3 ∷ []))) in
-    let win : List ℤ = a .window .now in
-    let w : getD (a .t3) (a .event) 0 ≡ lowIn s b g (a .event) = ap (λ (x : List ℕ). getD x (a .event) 0) (c .before .before .before .before .before .before .pre .1) in
-    let k : feedEvent (refsIn s) (s .width) (tallyIn s) (a .event) ns ≡ turned 16 0 = many-turned s b g (a .event) ns (c .before .before .before .if1 .left) (λ q. c .before .before .if2 .left (w ∙ q)) (c .before .if3 .taken) in (
-      ap (λ (x : Way). feedTold (x .answer)) (c .refuse .ensures) ∙ sym (ap (λ (d : FeedRead). fedBy s win d .answer) k),
-      (ap (λ (x : Way). withCounts s (x .counts)) (c .refuse .ensures) ∙ sym (ap (λ (d : FeedRead). fedBy s win d .state) k), sym (ap (λ (d : FeedRead). fedBy s win d .words) k)),
-    )
+    let g = in-good s (a .window .now) (p .pre .0 .let-in) in
+    let k = c .before .before .before in
+    refused-as (a .frames .now) (a .t2) (a .window .now) (c .refuse .result) _ 16 0 (c .refuse .ensures) (many-turned s b g (a .t3) (p .pre .1) (a .event) (notesOf (a .notes)) (k .before .if1 .left) (k .if2 .left) (c .before .if3 .taken))
 
 add-if4 : tie.Need-add-if4
 add-if4 c =
-    let a = c .before .before .before .before .before .args in
-    let s : State = stateOf (a .frames .now) (a .rest) in
-    let g = c .before .before .before .before .before .pre .0 .good in
+    let p = c .before .before .before .before .before in
+    let a = p .args in
+    let s : State = stateOf (a .frames .now) (a .t2) in
     let b : Bytes (stateFrames s) = bytes-take (s .len * 8) (s .frames) (λ i. c .before .before .before .before .shared-slice-known .given i .fits) in
-    let w : getD (a .t3) (a .event) 0 ≡ lowIn s b g (a .event) = ap (λ (x : List ℕ). getD x (a .event) 0) (c .before .before .before .before .before .pre .1) in
-    omega (arith, some-in s b g (a .event) (c .before .before .if1 .left) (λ q. c .before .if2 .left (w ∙ q)) .1 .1, w, good-facts s g .most)
+    let g = in-good s (a .window .now) (p .pre .0 .let-in) in
+    let k = c .before .before in
+    omega (arith, some-in s b g (a .t3) (p .pre .1) (a .event) (k .before .if1 .left) (k .if2 .left) .1 .1, good-facts s g .most)
 
 refuse-requires-2 : tie.Need-refuse-requires-2
 refuse-requires-2 c κs = search needs
 
 returns-4 : tie.Need-returns-4
 returns-4 c =
-    let a = c .before .before .before .before .before .before .before .args in
-    let s : State = stateOf (a .frames .now) (a .rest) in
-    let g = c .before .before .before .before .before .before .before .pre .0 .good in
+    let p = c .before .before .before .before .before .before .before in
+    let a = p .args in
+    let s : State = stateOf (a .frames .now) (a .t2) in
     let b : Bytes (stateFrames s) = bytes-take (s .len * 8) (s .frames) (λ i. c .before .before .before .before .before .before .shared-slice-known .given i .fits) in
-    let ns : List ℤ = a .notes .0 ∷ (a .notes .1 ∷ (a .notes .2 ∷ (a .notes .3 ∷ []))) in
-    let win : List ℤ = a .window .now in
-    let w : getD (a .t3) (a .event) 0 ≡ lowIn s b g (a .event) = ap (λ (x : List ℕ). getD x (a .event) 0) (c .before .before .before .before .before .before .before .pre .1) in
-    let k : feedEvent (refsIn s) (s .width) (tallyIn s) (a .event) ns ≡ turned 17 0 = full-turned s b g (a .event) ns (c .before .before .before .before .if1 .left) (λ q. c .before .before .before .if2 .left (w ∙ q)) (c .before .before .if3 .left) (omega (arith, c .before .if4 .taken, w)) in (
-      ap (λ (x : Way). feedTold (x .answer)) (c .refuse2 .ensures) ∙ sym (ap (λ (d : FeedRead). fedBy s win d .answer) k),
-      (ap (λ (x : Way). withCounts s (x .counts)) (c .refuse2 .ensures) ∙ sym (ap (λ (d : FeedRead). fedBy s win d .state) k), sym (ap (λ (d : FeedRead). fedBy s win d .words) k)),
-    )
+    let g = in-good s (a .window .now) (p .pre .0 .let-in) in
+    let n = c .before .before in
+    let k = n .before .before in
+    refused-as (a .frames .now) (a .t2) (a .window .now) (c .refuse2 .result) _ 17 0 (c .refuse2 .ensures) (full-turned s b g (a .t3) (p .pre .1) (a .event) (notesOf (a .notes)) (k .before .if1 .left) (k .if2 .left) (n .if3 .left) (c .before .if4 .taken))
 
 keep-requires : tie.Need-keep-requires
 keep-requires c κs =
-    let f = good-facts (stateOf (c .before .before .before .before .before .before .before .args .frames .now) (c .before .before .before .before .before .before .before .args .rest)) (c .before .before .before .before .before .before .before .pre .0 .good) in
-    (record { some = f .some; most = f .most; event = omega arith; note = omega arith }, c .before .before .before .before .before .before .before .pre .0 .words)
+    let p = c .before .before .before .before .before .before .before in
+    let a = p .args in
+    let s : State = stateOf (a .frames .now) (a .t2) in
+    let f = good-facts s (in-good s (a .window .now) (p .pre .0 .let-in)) in
+    (record { some = f .some; most = f .most; event = omega arith; note = omega arith }, in-long s (a .window .now) (p .pre .0 .let-in))
 
-one-more-requires : tie.Need-one-more-requires
-one-more-requires c κs = (c .before .before .before .before .before .before .if1 .left, c .before .before .before .before .if3 .left)
+with-line-requires : tie.Need-with-line-requires
+with-line-requires c κs =
+    let n = c .before .before .before .before in
+    (n .before .before .before .if1 .left, n .if3 .left)
 
 same-length : tie.Need-same-length
 same-length c = search needs
 
 returns-5 : tie.Need-returns-5
-unfolding withCount
 returns-5 c =
-    let a = c .before .before .before .before .before .before .before .before .before .before .args in
-    let s : State = stateOf (a .frames .now) (a .rest) in
-    let g = c .before .before .before .before .before .before .before .before .before .before .pre .0 .good in
+    let p = c .before .before .before .before .before .before .before .before .before .before in
+    let a = p .args in
+    let s : State = stateOf (a .frames .now) (a .t2) in
     let b : Bytes (stateFrames s) = bytes-take (s .len * 8) (s .frames) (λ i. c .before .before .before .before .before .before .before .before .before .shared-slice-known .given i .fits) in
-    let ns : List ℤ = a .notes .0 ∷ (a .notes .1 ∷ (a .notes .2 ∷ (a .notes .3 ∷ []))) in
-    let win : List ℤ = a .window .now in
-    let w : getD (a .t3) (a .event) 0 ≡ lowIn s b g (a .event) = ap (λ (x : List ℕ). getD x (a .event) 0) (c .before .before .before .before .before .before .before .before .before .before .pre .1) in
-    let k : feedEvent (refsIn s) (s .width) (tallyIn s) (a .event) ns ≡ taken (a .event) ns = room-taken s b g (a .event) ns (c .before .before .before .before .before .before .before .if1 .left) (λ q. c .before .before .before .before .before .before .if2 .left (w ∙ q)) (c .before .before .before .before .before .if3 .left) (omega (arith, c .before .before .before .before .if4 .left, w)) in
-    let l = some-in s b g (a .event) (c .before .before .before .before .before .before .before .if1 .left) (λ q. c .before .before .before .before .before .before .if2 .left (w ∙ q)) .1 .0 in (
-      sym (ap (λ (d : FeedRead). fedBy s win d .answer) k),
-      (
-        ap (withCounts s) (c .one-more .ensures) ∙ sym (ap (λ (d : FeedRead). fedBy s win d .state) k),
-        c .before .before .keep .ensures ∙ ap (λ (x : ℕ). kept win (s .width) (a .event) x (getD (s .counts) (a .event) 0) ns) (w ∙ l) ∙ sym (ap (λ (d : FeedRead). fedBy s win d .words) k),
-      ),
-    )
+    let g = in-good s (a .window .now) (p .pre .0 .let-in) in
+    let n = c .before .before .before .before .before in
+    let k = n .before .before in
+    let l = some-in s b g (a .t3) (p .pre .1) (a .event) (k .before .if1 .left) (k .if2 .left) .1 .0 in
+    let t = room-taken s b g (a .t3) (p .pre .1) (a .event) (notesOf (a .notes)) (k .before .if1 .left) (k .if2 .left) (n .if3 .left) (c .before .before .before .before .if4 .left) in
+    let w = c .before .before .keep .ensures ∙ ap (λ (x : ℕ). kept (a .window .now) (s .width) (a .event) x (getD (s .counts) (a .event) 0) (notesOf (a .notes))) l in
+    taken-as (a .frames .now) (a .t2) (c .with-line .result) (a .window .now) _ _ (a .event) (notesOf (a .notes)) t (c .with-line .ensures (a .frames .now)) w
 
 pub feed-event-spec : {M : Type 1} → statement M
-feed-event-spec = tie.close (tie.spec ignore-requires returns mul-low array-read-low ignore-requires-2 returns-2 mul-c array-read-c refuse-requires returns-3 add-if4 refuse-requires-2 returns-4 keep-requires one-more-requires same-length returns-5)
+feed-event-spec =
+    tie.close
+    (tie.spec
+    ignore-requires
+    returns
+    mul-low
+    array-read-low
+    ignore-requires-2
+    returns-2
+    mul-c
+    element-copy-out-c
+    refuse-requires
+    returns-3
+    add-if4
+    refuse-requires-2
+    returns-4
+    keep-requires
+    with-line-requires
+    same-length
+    returns-5)

@@ -3,8 +3,7 @@ use mathlib.Core.Path.{sym}
 use native.Mathlib.Omega.{arith}
 use lib.Seq.{length-take-le}
 use borrow.Author.Needs.{needs}
-use Rattle.checker.specs.Parts.{stateOf}
-use Rattle.checker.proofs.CodeGood.{good-facts}
+use Rattle.checker.proofs.CodeGood.{ready-facts}
 use Rattle.checker.proofs.feeding.feed_good.Statement.{statement}
 use Rattle.checker.proofs.feeding.feed_good.Tie as tie
 
@@ -12,15 +11,16 @@ cast-n : tie.Need-cast-n
 cast-n c = search needs
 
 mul-n : tie.Need-mul-n
-mul-n c = omega (arith, good-facts (stateOf (c .before .before .before .args .frames .now) (c .before .before .before .args .rest)) (c .before .before .before .pre .good) .few)
+mul-n c = omega (arith, ready-facts (c .before .before .before .pre) .few)
 
 slice-aggregate-lows : tie.Need-slice-aggregate-lows
 slice-aggregate-lows c =
-    sym (length-take-le _ _ (omega (arith, c .before .before .before .before .before .pre .long, good-facts (stateOf (c .before .before .before .before .before .args .frames .now) (c .before .before .before .before .before .args .rest)) (c .before .before .before .before .before .pre .good) .few)))
+    let p = c .before .before .before .before .before .pre in
+    sym (length-take-le _ _ (omega (arith, p .long, ready-facts p .few)))
 
 lows-requires : tie.Need-lows-requires
 lows-requires c κs =
-    let f = good-facts (stateOf (c .before .before .before .before .before .args .frames .now) (c .before .before .before .before .before .args .rest)) (c .before .before .before .before .before .pre .good) in
+    let f = ready-facts (c .before .before .before .before .before .pre) in
     record { accepted = f .accepted; instance-in = f .totals .low }
 
 feed-with-requires : tie.Need-feed-with-requires

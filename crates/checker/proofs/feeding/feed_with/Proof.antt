@@ -1,23 +1,13 @@
 -- `checker::feeding::feed_with` meets its contract. Assumes nothing.
-use mathlib.Core.Path.{_≡_, sym, ap, _∙_}
-use mathlib.Core.Bool.{true}
-use mathlib.Core.List.{List}
+use mathlib.Core.Path.{_≡_, refl, sym, ap, _∙_}
 use Prim.Native.Nat.{ℕ}
-use borrow.Author.Tests.{eq-eqb}
-use lib.Dec.{eqb}
-use lib.IntN.{ℤ}
-use lib.ListN.{length}
+use borrow.Author.Needs.{needs}
 use Rattle.log.specs.Line.{Told, told, lineOf}
 use Rattle.log.specs.Line as log
-use Rattle.checker.specs.Limits.{windowWords}
-use Rattle.checker.specs.Answer.{feedTold, refused}
-use Rattle.checker.specs.State.{refsIn, tallyIn}
-use Rattle.checker.specs.Parts.{stateOf, withCounts}
-use Rattle.checker.specs.Feed.{FeedResult, feedRead, fedBy, notFed, feedDef}
+use Rattle.checker.specs.Parts.{stateOf}
+use Rattle.checker.specs.Feed.{turned}
 use Rattle.checker.specs.declared.State.{State}
-use Rattle.checker.specs.declared.feeding.Way.{Way}
-use Rattle.checker.proofs.CodeFeed.{fed-by}
-use borrow.Author.Needs.{needs}
+use Rattle.checker.proofs.CodeFeed.{fed-by, refused-as}
 use Rattle.checker.proofs.feeding.feed_with.Statement.{statement}
 use Rattle.checker.proofs.feeding.feed_with.Tie as tie
 
@@ -34,22 +24,18 @@ enum-known-read-2 : tie.Need-enum-known-read-2
 enum-known-read-2 c = search needs
 
 feed-event-requires : tie.Need-feed-event-requires
-feed-event-requires c κs = c .before .before .before .before .before .before .before .before .pre
+feed-event-requires c κs = c .before .before .before .before .before .before .before .pre
 
 returns : tie.Need-returns
 unfolding told
 returns c =
-    let a = c .before .before .before .before .before .before .before .before .args in
-    let s : State = stateOf (a .frames .now) (a .rest) in
-    let win : List ℤ = a .window .now in
-    let line : List ℕ = a .line .now in
-    let l : eqb (length win) (windowWords (s .width)) ≡ true = eq-eqb (length win) (windowWords (s .width)) (c .before .before .before .before .before .before .before .before .pre .0 .words) in
-    let p : ℕ = c .before .before .read .given .0 .0 in
-    let q : lineOf line ≡ log.refused 15 p = sym (c .before .before .before .before .read-line .ensures) ∙ ap told (c .before .before .read .given .1) in
-    let d : feedDef s win line ≡ notFed s win (refused 15 p) = fed-by s win line (c .before .before .before .before .before .before .before .before .pre .0 .good) l (log.refused 15 p) q in (
-      ap (λ (x : Way). feedTold (x .answer)) (c .refuse .ensures) ∙ sym (ap (λ (f : FeedResult). f .answer) d),
-      (ap (λ (x : Way). withCounts s (x .counts)) (c .refuse .ensures) ∙ sym (ap (λ (f : FeedResult). f .state) d), sym (ap (λ (f : FeedResult). f .words) d)),
-    )
+    let p = c .before .before .before .before .before .before .before in
+    let a = p .args in
+    let s : State = stateOf (a .frames .now) (a .fields) in
+    let n : ℕ = c .before .before .read .given .0 .0 in
+    let q : lineOf (a .line .now) ≡ log.refused 15 n = sym (c .before .before .before .before .read-line .ensures) ∙ ap told (c .before .before .read .given .1) in
+    let d = fed-by s (a .window .now) (a .line .now) (p .pre .0 .let-in) (log.refused 15 n) q in
+    refused-as (a .frames .now) (a .fields) (a .window .now) (c .refuse .result) (turned 15 n) 15 n (c .refuse .ensures) refl ∙ sym d
 
 same-length : tie.Need-same-length
 same-length c = search needs
@@ -57,19 +43,24 @@ same-length c = search needs
 returns-2 : tie.Need-returns-2
 unfolding told
 returns-2 c =
-    let a = c .before .before .before .before .before .before .before .before .before .before .args in
-    let s : State = stateOf (a .frames .now) (a .rest) in
-    let win : List ℤ = a .window .now in
-    let line : List ℕ = a .line .now in
-    let l : eqb (length win) (windowWords (s .width)) ≡ true = eq-eqb (length win) (windowWords (s .width)) (c .before .before .before .before .before .before .before .before .before .before .pre .0 .words) in
-    let e : ℕ = c .before .before .before .before .read2 .given .0 .0 in
-    let n = c .before .before .before .before .read2 .given .0 .1 .0 in
-    let t : Told = log.line e (n .0) (n .1) (n .2) (n .3) in
-    let q : lineOf line ≡ t = sym (c .before .before .before .before .before .before .read-line .ensures) ∙ ap told (c .before .before .before .before .read2 .given .1) in
-    let d : feedDef s win line ≡ fedBy s win (feedRead (refsIn s) (s .width) (tallyIn s) t) = fed-by s win line (c .before .before .before .before .before .before .before .before .before .before .pre .0 .good) l t q in (
-      c .before .feed-event .ensures .0 ∙ sym (ap (λ (f : FeedResult). f .answer) d),
-      (c .before .feed-event .ensures .1 .0 ∙ sym (ap (λ (f : FeedResult). f .state) d), c .before .feed-event .ensures .1 .1 ∙ sym (ap (λ (f : FeedResult). f .words) d)),
-    )
+    let p = c .before .before .before .before .before .before .before .before .before in
+    let a = p .args in
+    let s : State = stateOf (a .frames .now) (a .fields) in
+    let r = c .before .before .before .before .read2 .given in
+    let n = r .0 .1 .0 in
+    let t : Told = log.line (r .0 .0) (n .0) (n .1) (n .2) (n .3) in
+    let q : lineOf (a .line .now) ≡ t = sym (c .before .before .before .before .before .before .read-line .ensures) ∙ ap told (r .1) in
+    c .before .feed-event .ensures ∙ sym (fed-by s (a .window .now) (a .line .now) (p .pre .0 .let-in) t q)
 
 pub feed-with-spec : {M : Type 1} → statement M
-feed-with-spec = tie.close (tie.spec read-line-requires enum-known-read refuse-requires enum-known-read-2 feed-event-requires returns same-length returns-2)
+feed-with-spec =
+    tie.close
+    (tie.spec
+    read-line-requires
+    enum-known-read
+    refuse-requires
+    enum-known-read-2
+    feed-event-requires
+    returns
+    same-length
+    returns-2)

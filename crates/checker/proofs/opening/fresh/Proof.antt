@@ -1,6 +1,7 @@
 -- `checker::opening::fresh` meets its contract. Assumes nothing.
-use Rattle.checker.specs.State.{freshState}
+use mathlib.Core.Path.{sym}
 use borrow.Author.Needs.{needs}
+use Rattle.checker.specs.State.{freshState}
 use Rattle.checker.proofs.opening.fresh.Statement.{statement}
 use Rattle.checker.proofs.opening.fresh.Tie as tie
 
@@ -10,9 +11,12 @@ cast-n c = search needs
 copied-requires : tie.Need-copied-requires
 copied-requires c κs = search needs
 
+first-requires : tie.Need-first-requires
+first-requires c κs = search needs
+
 returns : tie.Need-returns
 unfolding freshState
-returns c = rw (c .copied .ensures)
+returns c = rw (sym (c .before .copied .ensures)) (c .first .ensures)
 
 pub fresh-spec : {M : Type 1} → statement M
-fresh-spec = tie.close (tie.spec cast-n copied-requires returns)
+fresh-spec = tie.close (tie.spec cast-n copied-requires first-requires returns)

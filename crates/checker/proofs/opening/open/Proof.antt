@@ -11,8 +11,7 @@ use Rattle.rule.specs.Check.{checkedOf}
 use Rattle.rule.specs.declared.Checked.the-variants.{Accepted, Refused}
 use Rattle.rule.proofs.Laws.{passed}
 use Rattle.checker.specs.Limits.{windowWords}
-use Rattle.checker.specs.Answer.{openTold}
-use Rattle.checker.specs.Open.{widthFits, openDef}
+use Rattle.checker.specs.Open.{widthFits, openDef, openOutcome}
 use Rattle.checker.specs.declared.Opened.{Opened}
 use borrow.Author.Needs.{needs}
 use Rattle.checker.proofs.opening.open.Statement.{statement}
@@ -49,7 +48,7 @@ returns : tie.Need-returns
 unfolding openDef
 returns c =
     let e : checkedOf (c .before .before .before .before .before .before .args .frames .now) ≡ Refused (c .before .before .checked .given .0 .0) = sym (c .before .before .before .before .check .ensures .0) ∙ c .before .before .checked .given .1 in
-    (rw e (ap (λ (x : Opened). openTold (x .answer)) (c .refuse .ensures)), (rw e (ap (λ (x : Opened). x .state) (c .refuse .ensures)), rw e))
+    rw e (ap (λ (x : Opened). openOutcome x (c .before .before .before .before .before .before .args .window .now)) (c .refuse .ensures))
 
 same-length : tie.Need-same-length
 same-length c = search needs
@@ -63,7 +62,8 @@ returns-2 c =
     let e : checkedOf s ≡ Accepted = sym (c .before .before .before .before .before .before .before .before .before .check .ensures .0) ∙ c .before .before .before .before .before .before .before .enum-told .given .1 in
     let t : (widthFits (a .width) && eqb (length win) (windowWords (a .width))) ≡ true = rw (c .before .before .before .before .before .before .width-fits .ensures, c .before .before .before .before .before .window-fits .ensures) at (c .before .before .before .before .if1 .taken) in
     let l : length win ≡ windowWords (a .width) = eqb-true (length win) (windowWords (a .width)) (and-true (widthFits (a .width)) (eqb (length win) (windowWords (a .width))) t .1) in
-    (rw (e, t), (rw (e, t) (c .fresh .ensures), rw (e, t) (c .before .before .clear .ensures ∙ ap (λ (n : ℕ). replicate n (pos 0)) l)))
+    let w = c .before .before .clear .ensures ∙ ap (λ (n : ℕ). replicate n (pos 0)) l in
+    rw (e, t, c .fresh .ensures, w)
 
 returns-3 : tie.Need-returns-3
 unfolding openDef
@@ -73,7 +73,7 @@ returns-3 c =
     let win = a .window .now in
     let e : checkedOf s ≡ Accepted = sym (c .before .before .before .before .before .before .check .ensures .0) ∙ c .before .before .before .before .enum-told .given .1 in
     let t : (widthFits (a .width) && eqb (length win) (windowWords (a .width))) ≡ false = rw (c .before .before .before .width-fits .ensures, c .before .before .window-fits .ensures) at (c .before .if1 .left) in
-    (rw (e, t) (ap (λ (x : Opened). openTold (x .answer)) (c .refuse2 .ensures)), (rw (e, t) (ap (λ (x : Opened). x .state) (c .refuse2 .ensures)), rw (e, t)))
+    rw (e, t) (ap (λ (x : Opened). openOutcome x win) (c .refuse2 .ensures))
 
 pub open-spec : {M : Type 1} → statement M
 open-spec = tie.close (tie.spec check-requires enum-known-checked refuse-requires enum-told width-fits-requires window-fits-requires clear-requires fresh-requires refuse-requires-2 returns same-length returns-2 returns-3)

@@ -1,23 +1,29 @@
 -- `checker::pulling::offer` meets its contract. Assumes nothing.
-use mathlib.Core.Path.{refl, ap, _∙_}
-use mathlib.Core.List.{List}
+use mathlib.Core.Path.{_≡_, refl, sym, ap, _∙_}
+use mathlib.Core.List.{List, [], _∷_}
 use Prim.Native.Nat.{ℕ}
 use lib.IntN.{ℤ}
 use lib.ListN.{length}
+use types.Run.{miss}
+use borrow.Author.Needs.{needs}
 use Rattle.rule.specs.Frames.{Bytes}
-use Rattle.rule.specs.Tree.{Reference}
+use Rattle.rule.specs.Tree.{Reference, references}
+use Rattle.rule.specs.Build.{treeOf}
 use Rattle.rule.proofs.Laws.{bytes-by}
 use Rattle.verdict.specs.Found.{Found}
-use Rattle.verdict.specs.declared.Judgement.the-variants.{Unsettled, True, False, Unknown}
+use Rattle.verdict.specs.declared.Judgement.{Judgement}
+use Rattle.verdict.specs.declared.Judgement.the-variants.{False}
 use Rattle.checker.specs.Report.{written}
+use Rattle.checker.specs.Pull.{offered, pullReport}
 use Rattle.checker.specs.Sights.{foundBy}
-use Rattle.checker.proofs.PullOffer.{offer-judge, offer-fill, offer-judged, offer-report}
-use borrow.Author.Needs.{needs}
+use Rattle.checker.proofs.PullOffer.{offer-judge, offer-fill, offer-judged, offer-report, unfilled}
 use Rattle.checker.proofs.pulling.offer.Statement.{statement}
 use Rattle.checker.proofs.pulling.offer.Tie as tie
 
 look-requires : tie.Need-look-requires
-look-requires c κs = (c .before .before .before .before .pre .accepted, (c .before .before .before .before .pre .look, (refl, refl)))
+look-requires c κs =
+    let p = c .before .before .before .before .pre in
+    (p .accepted, (p .look, (refl, refl)))
 
 slice-aggregate-judge : tie.Need-slice-aggregate-judge
 slice-aggregate-judge c = search needs
@@ -27,21 +33,16 @@ slice-aggregate-judge-2 c = search needs
 
 judge-requires : tie.Need-judge-requires
 judge-requires c κs =
-    let a = c .before .before .before .before .before .before .before .args in
+    let p = c .before .before .before .before .before .before .before in
+    let a = p .args in
     let l = c .before .before .look in
     let marks : List ℕ = l .last .1 .1 .1 .1 .1 .0 in
     let notes : List ℤ = l .last .1 .1 .1 .1 .1 .1 .0 in
     let found : Reference → Found = foundBy (a .width) (a .counts) (a .window .now) (a .p .0) in
-    offer-judge (a .frames .now) (a .p .0) (a .width) (length (a .window .now)) (length (a .report .now)) (c .before .before .before .before .before .before .before .pre) found marks notes (l .ensures)
+    offer-judge (a .frames .now) (a .p .0) (a .width) (length (a .window .now)) (length (a .report .now)) (p .pre) found marks notes (l .ensures)
 
 enum-told : tie.Need-enum-told
 enum-told c = search needs
-
-enum-told-2 : tie.Need-enum-told-2
-enum-told-2 c = search needs
-
-enum-told-3 : tie.Need-enum-told-3
-enum-told-3 c = search needs
 
 slice-aggregate-fill : tie.Need-slice-aggregate-fill
 slice-aggregate-fill c = search needs
@@ -51,55 +52,55 @@ slice-aggregate-fill-2 c = search needs
 
 fill-requires : tie.Need-fill-requires
 fill-requires c κs =
-    let a = c .before .before .before .before .before .before .before .before .before .before .before .before .before .args in
+    let p = c .before .before .before .before .before .before .before .before .before .before .before .before .before in
+    let a = p .args in
     let l = c .before .before .before .before .before .before .before .before .look in
     let marks : List ℕ = l .last .1 .1 .1 .1 .1 .0 in
     let notes : List ℤ = l .last .1 .1 .1 .1 .1 .1 .0 in
     let found : Reference → Found = foundBy (a .width) (a .counts) (a .window .now) (a .p .0) in
-    offer-fill (a .frames .now) (a .p .0) (a .width) (length (a .window .now)) (length (a .report .now)) (c .before .before .before .before .before .before .before .before .before .before .before .before .before .pre) found marks notes (l .ensures)
-
-enum-told-4 : tie.Need-enum-told-4
-enum-told-4 c = search needs
-
-returns : tie.Need-returns
-returns c =
-    let a = c .before .before .before .before .before .before .before .before .before .before .args in
-    let l = c .before .before .before .before .before .look in
-    let marks : List ℕ = l .last .1 .1 .1 .1 .1 .0 in
-    let notes : List ℤ = l .last .1 .1 .1 .1 .1 .1 .0 in
-    let found : Reference → Found = foundBy (a .width) (a .counts) (a .window .now) (a .p .0) in
-    (offer-judged (a .frames .now) (a .p .0) (a .width) (length (a .window .now)) (length (a .report .now)) (c .before .before .before .before .before .before .before .before .before .before .pre) found marks notes (l .ensures) (c .before .before .judge .result) Unsettled (c .before .before .judge .ensures) (c .enum-told .given .1), refl)
-
-returns-2 : tie.Need-returns-2
-returns-2 c =
-    let a = c .before .before .before .before .before .before .before .before .before .before .args in
-    let l = c .before .before .before .before .before .look in
-    let marks : List ℕ = l .last .1 .1 .1 .1 .1 .0 in
-    let notes : List ℤ = l .last .1 .1 .1 .1 .1 .1 .0 in
-    let found : Reference → Found = foundBy (a .width) (a .counts) (a .window .now) (a .p .0) in
-    (offer-judged (a .frames .now) (a .p .0) (a .width) (length (a .window .now)) (length (a .report .now)) (c .before .before .before .before .before .before .before .before .before .before .pre) found marks notes (l .ensures) (c .before .before .judge .result) True (c .before .before .judge .ensures) (c .enum-told2 .given .1), refl)
+    offer-fill (a .frames .now) (a .p .0) (a .width) (length (a .window .now)) (length (a .report .now)) (p .pre) found marks notes (l .ensures)
 
 same-length : tie.Need-same-length
 same-length c = search needs
 
-returns-3 : tie.Need-returns-3
-returns-3 c =
-    let a = c .before .before .before .before .before .before .before .before .before .before .before .before .before .before .before .before .args in
+returns : tie.Need-returns
+returns c =
+    let p = c .before .before .before .before .before .before .before .before .before .before .before .before .before .before .before .before in
+    let a = p .args in
     let l = c .before .before .before .before .before .before .before .before .before .before .before .look in
     let marks : List ℕ = l .last .1 .1 .1 .1 .1 .0 in
     let notes : List ℤ = l .last .1 .1 .1 .1 .1 .1 .0 in
     let found : Reference → Found = foundBy (a .width) (a .counts) (a .window .now) (a .p .0) in
-    let b : Bytes (a .frames .now) = bytes-by (a .frames .now) (λ i l. c .before .before .before .before .before .before .before .before .before .before .before .before .before .before .before .shared-slice-known .given i .fits) in
-    (offer-judged (a .frames .now) (a .p .0) (a .width) (length (a .window .now)) (length (a .report .now)) (c .before .before .before .before .before .before .before .before .before .before .before .before .before .before .before .before .pre) found marks notes (l .ensures) (c .before .before .before .before .before .before .before .before .judge .result) False (c .before .before .before .before .before .before .before .before .judge .ensures) (c .before .before .before .before .before .before .enum-told3 .given .1), c .before .before .fill .ensures ∙ ap (λ (x : List ℕ). written x (a .report .now)) (offer-report (a .frames .now) (a .p .0) (a .width) (length (a .window .now)) (length (a .report .now)) (c .before .before .before .before .before .before .before .before .before .before .before .before .before .before .before .before .pre) found marks notes (l .ensures) b))
+    let j = c .before .before .before .before .before .before .before .before .judge in
+    let e : j .result ≡ False = c .before .before .before .before .before .before .enum-told .given .1 in
+    let b : Bytes (a .frames .now) = bytes-by (a .frames .now) (λ i _. c .before .before .before .before .before .before .before .before .before .before .before .before .before .before .before .shared-slice-known .given i .fits) in
+    let w = ap (λ (x : List ℕ). written x (a .report .now)) (offer-report (a .frames .now) (a .p .0) (a .width) (length (a .window .now)) (length (a .report .now)) (p .pre) found marks notes (l .ensures) b) in
+    (offer-judged (a .frames .now) (a .p .0) (a .width) (length (a .window .now)) (length (a .report .now)) (p .pre) found marks notes (l .ensures) (j .result) (j .ensures), c .before .before .fill .ensures ∙ w ∙ ap (λ (x : Judgement). pullReport (a .p .0) (references (treeOf (a .frames .now))) found (a .report .now) (offered x)) (sym e))
 
-returns-4 : tie.Need-returns-4
-returns-4 c =
-    let a = c .before .before .before .before .before .before .before .before .before .before .args in
-    let l = c .before .before .before .before .before .look in
+returns-2 : tie.Need-returns-2
+returns-2 c =
+    let p = c .before .before .before .before .before .before .before .before .before in
+    let a = p .args in
+    let l = c .before .before .before .before .look in
     let marks : List ℕ = l .last .1 .1 .1 .1 .1 .0 in
     let notes : List ℤ = l .last .1 .1 .1 .1 .1 .1 .0 in
     let found : Reference → Found = foundBy (a .width) (a .counts) (a .window .now) (a .p .0) in
-    (offer-judged (a .frames .now) (a .p .0) (a .width) (length (a .window .now)) (length (a .report .now)) (c .before .before .before .before .before .before .before .before .before .before .pre) found marks notes (l .ensures) (c .before .before .judge .result) Unknown (c .before .before .judge .ensures) (c .enum-told4 .given .1), refl)
+    let j = c .before .judge in
+    let n : j .result ≡ False → ⊥ = λ e. miss (0 ∷ (1 ∷ (3 ∷ []))) 2 tt (rw e at (c .match .keys2)) in
+    (offer-judged (a .frames .now) (a .p .0) (a .width) (length (a .window .now)) (length (a .report .now)) (p .pre) found marks notes (l .ensures) (j .result) (j .ensures), unfilled (a .p .0) (references (treeOf (a .frames .now))) found (a .report .now) (j .result) n)
 
 pub offer-spec : {M : Type 1} → statement M
-offer-spec = tie.close (tie.spec look-requires slice-aggregate-judge slice-aggregate-judge-2 judge-requires enum-told enum-told-2 enum-told-3 slice-aggregate-fill slice-aggregate-fill-2 fill-requires enum-told-4 returns returns-2 same-length returns-3 returns-4)
+offer-spec =
+    tie.close
+    (tie.spec
+    look-requires
+    slice-aggregate-judge
+    slice-aggregate-judge-2
+    judge-requires
+    enum-told
+    slice-aggregate-fill
+    slice-aggregate-fill-2
+    fill-requires
+    same-length
+    returns
+    returns-2)

@@ -1,20 +1,16 @@
 -- `checker::pulling::pull_good` meets its contract. Assumes nothing.
-use mathlib.Core.Path.{_≡_, sym, ap, _∙_}
-use mathlib.Core.List.{List}
-use Prim.Native.Nat.{ℕ}
+use mathlib.Core.Path.{sym, _∙_}
 use native.Mathlib.Omega.{arith}
 use borrow.Author.Needs.{needs}
-use borrow.Author.Tests.{eq-eqb, le-ltb}
-use lib.IntN.{ℤ}
+use borrow.Author.Tests.{le-ltb}
 use lib.ListN.{length}
 use lib.Seq.{length-take-le}
-use Rattle.verdict.specs.declared.Judgement.{Judgement}
-use Rattle.checker.specs.Limits.{windowWords}
 use Rattle.checker.specs.Parts.{stateOf}
-use Rattle.checker.specs.Pull.{PullResult, offered, pulledBy, pullDef}
+use Rattle.checker.specs.Pull.{offered}
 use Rattle.checker.specs.declared.State.{State}
-use Rattle.checker.proofs.CodeGood.{good-facts}
-use Rattle.checker.proofs.PullOffer.{pull-offers}
+use Rattle.checker.proofs.Admissions.{in-long}
+use Rattle.checker.proofs.CodeGood.{ready-facts}
+use Rattle.checker.proofs.PullOffer.{pull-offers, pulled-as}
 use Rattle.checker.proofs.pulling.pull_good.Statement.{statement}
 use Rattle.checker.proofs.pulling.pull_good.Tie as tie
 
@@ -22,39 +18,39 @@ cast-n : tie.Need-cast-n
 cast-n c = search needs
 
 mul-n : tie.Need-mul-n
-mul-n c = omega (arith, good-facts (stateOf (c .before .before .before .args .frames .now) (c .before .before .before .args .rest)) (c .before .before .before .pre .0 .good) .few)
+mul-n c = omega (arith, ready-facts (c .before .before .before .pre .0) .few)
 
 slice-aggregate-offer : tie.Need-slice-aggregate-offer
 slice-aggregate-offer c =
-    sym (length-take-le _ _ (omega (arith, c .before .before .before .before .before .before .pre .0 .long, good-facts (stateOf (c .before .before .before .before .before .before .args .frames .now) (c .before .before .before .before .before .before .args .rest)) (c .before .before .before .before .before .before .pre .0 .good) .few)))
+    let r = c .before .before .before .before .before .before .pre .0 in
+    sym (length-take-le _ _ (omega (arith, r .long, ready-facts r .few)))
 
 offer-requires : tie.Need-offer-requires
 offer-requires c κs =
-    let f = good-facts (stateOf (c .before .before .before .before .before .before .before .args .frames .now) (c .before .before .before .before .before .before .before .args .rest)) (c .before .before .before .before .before .before .before .pre .0 .good) in
+    let p = c .before .before .before .before .before .before .before in
+    let a = p .args in
+    let f = ready-facts (p .pre .0) in
+    let l = in-long (stateOf (a .frames .now) (a .fields)) (a .window .now) (p .pre .0 .let-in) in
     record {
       accepted = f .accepted;
-      look = record { instance-in = f .totals .low; some = f .some; most = f .most; words = c .before .before .before .before .before .before .before .pre .0 .words };
-      room = c .before .before .before .before .before .before .before .pre .1;
+      look = record { instance-in = f .totals .low; some = f .some; most = f .most; words = l };
+      room = p .pre .1;
     }
 
 give-requires : tie.Need-give-requires
-give-requires c κs = good-facts (stateOf (c .before .before .before .before .before .before .before .before .before .before .args .frames .now) (c .before .before .before .before .before .before .before .before .before .before .args .rest)) (c .before .before .before .before .before .before .before .before .before .before .pre .0 .good) .totals
+give-requires c κs = ready-facts (c .before .before .before .before .before .before .before .before .before .before .pre .0) .totals
 
 same-length : tie.Need-same-length
 same-length c = search needs
 
 returns : tie.Need-returns
 returns c =
-    let a = c .before .before .before .before .before .before .before .before .before .before .before .args in
-    let s : State = stateOf (a .frames .now) (a .rest) in
-    let win : List ℤ = a .window .now in
-    let out : List ℕ = a .report .now in
-    let j : Judgement = c .before .before .before .offer .result in
-    let e : pulledBy s win out (offered j) ≡ pullDef s win out =
-    pull-offers s win out (c .before .before .before .before .before .before .before .before .before .before .before .pre .0 .good) (eq-eqb (length win) (windowWords (s .width)) (c .before .before .before .before .before .before .before .before .before .before .before .pre .0 .words)) (le-ltb (length out) 166 (c .before .before .before .before .before .before .before .before .before .before .before .pre .1)) j (c .before .before .before .offer .ensures .0) in (
-      c .give .ensures .0 ∙ ap (λ (x : PullResult). x .answer) e,
-      (c .give .ensures .1 (a .frames .now) ∙ ap (λ (x : PullResult). x .state) e, c .before .before .before .offer .ensures .1 ∙ ap (λ (x : PullResult). x .report) e),
-    )
+    let p = c .before .before .before .before .before .before .before .before .before .before .before in
+    let a = p .args in
+    let s : State = stateOf (a .frames .now) (a .fields) in
+    let o = c .before .before .before .offer in
+    let d = pull-offers s (a .window .now) (a .report .now) (p .pre .0 .let-in) (le-ltb (length (a .report .now)) 166 (p .pre .1)) (o .result) (o .ensures .0) in
+    pulled-as (a .frames .now) (a .fields) (c .give .result) (a .window .now) (a .report .now) _ (offered (o .result)) (c .give .ensures (a .frames .now) _) (o .ensures .1) ∙ d
 
 pub pull-good-spec : {M : Type 1} → statement M
 pull-good-spec =

@@ -1,7 +1,7 @@
--- `checker::pulling::count_verdict` meets its contract. Assumes nothing.
+-- `checker::parts::count_verdict` meets its contract. Assumes nothing.
 use borrow.Author.Needs.{needs}
-use Rattle.checker.proofs.pulling.count_verdict.Statement.{statement}
-use Rattle.checker.proofs.pulling.count_verdict.Tie as tie
+use Rattle.checker.proofs.parts.count_verdict.Statement.{statement}
+use Rattle.checker.proofs.parts.count_verdict.Tie as tie
 
 enum-told : tie.Need-enum-told
 enum-told c = search needs
