@@ -222,7 +222,7 @@ impl Machine {
 }
 
 /// Writes the report of a false verdict; later bytes keep.
-pub fn fill(report: &mut [u8], p: u32, statuses: &[Status]) {
+fn fill(report: &mut [u8], p: u32, statuses: &[Status]) {
     let mut bytes = Vec::with_capacity(REPORT);
     bytes.extend(p.to_be_bytes());
     bytes.push(0);

@@ -2,7 +2,7 @@
 
 use super::frames::{check, Reference, Rule};
 use super::line::read_line;
-use super::machine::{fill, open, width_fits, window_fits, Fed, Pulled, Totals};
+use super::machine::{open, width_fits, window_fits, Fed, Pulled, Totals};
 use super::machine::{EVENTS, MOST_LINES, REPORT};
 use super::tariff::Tariff;
 use super::verdict::{verdict, Status, Truth};
@@ -96,7 +96,7 @@ impl State {
             return Pulled::Waiting;
         };
         if verdict == Truth::False {
-            fill(report, self.p, &statuses);
+            lay_out(report, self.p, &statuses);
         }
         self.p += 1;
         self.totals.count(verdict);
@@ -146,5 +146,34 @@ impl State {
             && sum == u64::from(self.p)
             && (0..EVENTS).all(count_fits);
         fits.then_some(rule)
+    }
+}
+
+/// Lays out the report of instance i, byte by byte: the instance in bytes 0 to 3, the most significant first; false in
+/// byte 4; the number of references in byte 5; from byte 6 on five for each reference, its mark and its value. Later
+/// bytes keep.
+fn lay_out(report: &mut [u8], i: u32, statuses: &[Status]) {
+    put_word(&mut report[0..4], i);
+    report[4] = 0x00;
+    report[5] = u8::try_from(statuses.len()).expect("a rule has at most 32 references");
+    for (k, status) in statuses.iter().enumerate() {
+        let entry = &mut report[6 + 5 * k..][..5];
+        entry[0] = match status {
+            Status::Present(_) => 0x00,
+            Status::Pending => 0x01,
+            Status::Void => 0x02,
+        };
+        let value = match status {
+            Status::Present(note) => *note,
+            _ => 0,
+        };
+        put_word(&mut entry[1..], value as u32);
+    }
+}
+
+/// Writes 32 bits, the most significant byte first.
+fn put_word(bytes: &mut [u8], word: u32) {
+    for (byte, shift) in bytes.iter_mut().zip([24, 16, 8, 0]) {
+        *byte = (word >> shift) as u8;
     }
 }

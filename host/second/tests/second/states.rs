@@ -207,6 +207,23 @@ fn a_pull_reads_the_window_that_it_is_given() {
 }
 
 #[test]
+fn a_report_has_each_mark_and_value_at_its_place() {
+    // Instance 9,998, which is 270E: a[9999] has come, b[10000] has not, and c[-1] is void.
+    let rule = "events a b c; notes t; 0 > 0 && t(a[i+1]) + t(b[i+2]) > t(c[i-9999])";
+    let mut forged = state(rule, 1, [10_000, 0, 0], 9_998);
+    let mut window = vec![7; 32];
+    window[0] = i32::MIN + 0x0A0B0C;
+    let mut report = [0xA5; 170];
+    let verdict = forged.pull(&window, &mut report);
+    assert_eq!(verdict, Pulled::Verdict(Truth::False));
+    let expected = [
+        0, 0, 0x27, 0x0E, 0, 3, 0, 0x80, 0x0A, 0x0B, 0x0C, 1, 0, 0, 0, 0, 2, 0, 0, 0, 0,
+    ];
+    assert_eq!(report[..21], expected);
+    assert_eq!(report[21..], [0xA5; 149]);
+}
+
+#[test]
 fn a_feed_changes_four_words_or_none() {
     let rule = "events a b; notes t; t(b[2*i]) > 0";
     // Base of b is 8; count 7 comes below it, 8 does not.
