@@ -6,6 +6,7 @@ mod shared;
 mod bench;
 mod calls;
 mod common;
+mod documents;
 mod earlier;
 mod examples;
 mod logs;

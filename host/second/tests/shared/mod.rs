@@ -1,5 +1,6 @@
 //! What the tests of the part and of the second checker share. Each of the two gives `TOP`, the folder of the repository.
 
+pub mod documents;
 pub mod driven;
 pub mod examples;
 pub mod log;
