@@ -86,43 +86,46 @@ enum dillplatter_answer {
     DILLPLATTER_UNKNOWN = 8   /* pull: it is unknown */
 };
 
-/* The field `number` of every result, which dillplatter_view returns, and what `place` counts, from 0. Where no place is named it
- * is 0. Each call gives the first that holds, in the order that stands with the call. */
+/* The field `number` of every result, which dillplatter_view returns: the calls that give it, what is wrong, and what `place` is.
+ * Places count from 0: bytes of a text or a line, where a token's place is its first byte, and frames at opening. Where no place is
+ * named it is 0. Each call gives the first number that holds, in the order that stands with the call. docs/REFUSALS.md has the same
+ * as one table. */
 enum dillplatter_refusal {
     DILLPLATTER_NO_REFUSAL = 0,
     DILLPLATTER_BUFFER_SIZE = 1,   /* read: the frame buffer isn't 512 bytes */
     DILLPLATTER_TEXT_SIZE = 2,     /* read: the text has 0 or over 1,024 bytes */
-    DILLPLATTER_GRAMMAR = 3,       /* read: outside the grammar; place: the first byte of the first token that does not fit,
-                                      the text's length if it ends early */
-    DILLPLATTER_NAME = 4,          /* read: a name over 12 letters, twice in its list, a 9th event, a 5th note, or undeclared in
-                                      its role; place: its first byte */
-    DILLPLATTER_NUMBER = 5,        /* read: a number beyond its limit; place: its first byte */
+    DILLPLATTER_GRAMMAR = 3,       /* read: outside the grammar; place: the first token that with those before it begins no rule,
+                                      the length if the text ends early */
+    DILLPLATTER_NAME = 4,          /* read: a name over 12 letters, twice in its list, a 9th event, a 5th note, or undeclared in its
+                                      role; place: the first such name */
+    DILLPLATTER_NUMBER = 5,        /* read: a number beyond its limit; place: the first such number */
     DILLPLATTER_DEPTH = 6,         /* read: depth over 16 or over 64 frames */
-    DILLPLATTER_NO_REFERENCE = 7,  /* read, open: the condition has no reference */
-    DILLPLATTER_MAGNITUDE = 8,     /* read, open: a sum whose magnitude, a bound on its value, is over 2^62 */
+    DILLPLATTER_NO_REFERENCE = 7,  /* read, open: the rule has no reference */
+    DILLPLATTER_MAGNITUDE = 8,     /* read, open: a sum whose magnitude is over 2^62. A magnitude is a bound on the sum's value */
     DILLPLATTER_FRAMES_SIZE = 9,   /* open: the frames' length isn't 8 to 512 in steps of 8 */
     DILLPLATTER_FRAMES_ORDER = 10, /* open: not a rule in postfix order with fields within the limits; place: the first frame that
-                                      does not fit, the number of frames if only the end is wrong */
+                                      with those before it begins no such rule of any length, their count if only the end is
+                                      wrong */
     DILLPLATTER_WINDOW_WIDTH = 11, /* open: W outside 1 to 256, or a window not 32 * W words */
-    DILLPLATTER_BAD_STATE = 12,    /* feed, pull, charge: a state whose frames or W open would refuse, a count over 1,000,000,
-                                      `next` over 1,009,999, totals that do not sum to `next`, a count other than 0 of an event that
-                                      the rule does not reference, or a count above that event's base plus W */
+    DILLPLATTER_BAD_STATE = 12,    /* feed, pull, charge: a state whose frames or W opening would refuse, a count over 1,000,000, p
+                                      over 1,009,999, totals not summing to p, a count other than 0 of an event that the rule
+                                      doesn't reference, or a count above base plus W. p is the field `next` */
     DILLPLATTER_WINDOW_SIZE = 13,  /* feed, pull: a window not 32 * W words, with the W of the state */
     DILLPLATTER_REPORT_SIZE = 14,  /* pull, view: a report buffer under 166 bytes */
-    DILLPLATTER_BAD_LINE = 15,     /* feed, lower: not 34 digits 0-9, A-F or a-f; place: the lower of the first byte that is none
-                                      and the shorter of the length and 34 */
+    DILLPLATTER_BAD_LINE = 15,     /* feed, lower: a line that isn't 34 digits 0-9, A-F or a-f; place: the lower of the first byte
+                                      that is none and the shorter of the length and 34 */
     DILLPLATTER_LINES_MOST = 16,   /* feed: that event has 1,000,000 lines already */
-    DILLPLATTER_WINDOW_FULL = 17,  /* feed: the count of that event has reached its base plus W: no room for another line of it
-                                      until more verdicts are pulled. An event's base is the smallest line number of it that
-                                      instance `next` refers to, 0 where that is negative */
-    DILLPLATTER_BAD_OLD_LINE = 23, /* raise: not 14 digits 0-9, A-F or a-f; place: the lower of the first byte that is none and the
-                                      shorter of the length and 14 */
+    DILLPLATTER_WINDOW_FULL = 17,  /* feed: the count of that event has reached base plus W ('window full'). There is no room for
+                                      another line of it until more verdicts are pulled. An event's base is the smallest line number
+                                      of it that instance `next` refers to, 0 where that is negative */
+    DILLPLATTER_BAD_OLD_LINE = 23, /* raise: an old line that isn't 14 digits 0-9, A-F or a-f; place: the lower of the first byte
+                                      that is none and the shorter of the length and 14 */
     DILLPLATTER_FOURTH_NOTE = 24,  /* lower: a fourth note other than 0 */
-    DILLPLATTER_WIDE_NOTE = 25,    /* lower: one of the first three notes that 16 bits can't hold, so one below -32,768 or above
-                                      32,767; place: the first digit of the first such note, 2, 10 or 18 */
+    DILLPLATTER_WIDE_NOTE = 25,    /* lower: one of the first three notes that 16 bits can't hold; place: the first such note's
+                                      first digit. So one below -32,768 or above 32,767; the place is 2, 10 or 18 */
     DILLPLATTER_TARIFF_BANDS = 28, /* charge: more than four bands, or last numbers that don't rise strictly from above 0 or exceed
                                       1,010,000 */
-    DILLPLATTER_TARIFF_PRICES = 29 /* charge: a price over 10,000 or a surcharge over 100 */
+    DILLPLATTER_TARIFF_PRICES = 29 /* charge: a price over 10,000 cents or a surcharge over 100 percent */
 };
 
 /* ---- what calls take and give ---- */
@@ -240,8 +243,8 @@ dillplatter_result dillplatter_pull(dillplatter_state state, const int32_t *wind
 
 /* Makes a report buffer its view: what machine hands may see of a report, its instance and its verdict, and none of the notes'
  * values. `*part` is the report buffer, whole, before the call, and the view after it: a part of the same memory, no copy.
- * Answers: DILLPLATTER_NO_REFUSAL, and the view is the buffer's first 5 bytes; or DILLPLATTER_REPORT_SIZE, 14, for a buffer under
- * 166 bytes, and the view is empty: it begins where the buffer does and has length 0. The refusal has no place.
+ * Answers: DILLPLATTER_NO_REFUSAL, and the view is the buffer's first 5 bytes; or refused with 14, DILLPLATTER_REPORT_SIZE, and the
+ * view is empty: it begins where the buffer does and has length 0. The refusal has no place.
  * Writes: `*part`, and no byte of the buffer.
  * Memory: `*part` must not overlap the buffer. The call looks at no byte of the buffer, so only after a pull into it that answered
  * false does the view show a report; and with the next such pull it shows the next one.

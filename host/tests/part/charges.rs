@@ -11,7 +11,7 @@ use crate::shared::tariff::{damage, example, random_tariff, violations};
 use crate::shared::tariff::{with_failed, with_totals, MOST_VERDICTS};
 use crate::tariff::{cents, charge, refused, rounded, WRONG_STATES};
 use dillplatter_host::part::{self, read_rule, Checker};
-use dillplatter_host::second::{Refusal, State, Tariff};
+use dillplatter_second::{Refusal, State, Tariff};
 
 #[test]
 fn only_false_verdicts_cost() {

@@ -7,7 +7,7 @@ use crate::shared::log::{damage, events, line, mix_cases, old_line, old_note, ra
 use crate::shared::random::{frames, Random};
 use crate::shared::seen::Seen;
 use dillplatter_host::part::{self, Converted, Lowered, Raised};
-use dillplatter_host::second::{open, Fed, Line, Machine, OldLine, Refusal};
+use dillplatter_second::{open, Fed, Line, Machine, OldLine, Refusal};
 use std::panic::catch_unwind;
 
 const DIGITS: &[u8; 22] = b"0123456789ABCDEFabcdef";

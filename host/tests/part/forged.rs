@@ -8,7 +8,7 @@ use crate::shared::log::{events, random_line};
 use crate::shared::random::{frames, Random};
 use crate::shared::seen::Seen;
 use crate::shared::tariff::example;
-use dillplatter_host::second::{Fed, Pulled, State, Totals};
+use dillplatter_second::{Fed, Pulled, State, Totals};
 
 fn word(random: &mut Random) -> u32 {
     let any = (random.below(1 << 32)) as u32;

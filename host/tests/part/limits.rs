@@ -2,7 +2,7 @@
 
 use crate::pair::Pair;
 use crate::shared::driven::Driven;
-use dillplatter_host::second::Refusal;
+use dillplatter_second::Refusal;
 
 const HEAD: &str = "events a b; notes t u;";
 

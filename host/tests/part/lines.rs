@@ -4,7 +4,7 @@ use crate::pair::Pair;
 use crate::quota::Quota;
 use crate::shared::driven::Driven;
 use crate::shared::log::line;
-use dillplatter_host::second::{Fed, Pulled, Refusal};
+use dillplatter_second::{Fed, Pulled, Refusal};
 
 const RULE: &str = "events a b; notes t; t(a[i]) > 0";
 

@@ -6,7 +6,7 @@ use crate::shared::driven::Driven;
 use crate::shared::log::{events, random_line};
 use crate::shared::random::{frames, Random};
 use crate::shared::seen::Seen;
-use dillplatter_host::second::{Fed, Pulled, Truth};
+use dillplatter_second::{Fed, Pulled, Truth};
 
 /// A window of another length, with whatever in it.
 fn wrong_window(random: &mut Random, w: u32) -> Vec<i32> {

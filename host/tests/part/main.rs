@@ -1,6 +1,6 @@
 //! Tests of the proved part: each call beside the same call of the second checker.
 
-#[path = "../shared/mod.rs"]
+#[path = "../../second/tests/shared/mod.rs"]
 mod shared;
 
 mod charges;
@@ -21,3 +21,6 @@ mod texts;
 mod vectors;
 mod view;
 mod widths;
+
+/// The folder of the whole repository.
+const TOP: &str = concat!(env!("CARGO_MANIFEST_DIR"), "/..");

@@ -5,8 +5,8 @@
 use crate::quota::count;
 use crate::shared::driven::{Driven, Twin};
 use dillplatter_host::part::{self, Charged, Converted, Lowered, Raised, Viewed};
-use dillplatter_host::second::{Fed, Line, Machine, OldLine, Pulled, Refusal, State, Totals};
-use dillplatter_host::second::{Tariff, Truth, View};
+use dillplatter_second::{Fed, Line, Machine, OldLine, Pulled, Refusal, State, Totals};
+use dillplatter_second::{Tariff, Truth, View};
 use std::fmt::Debug;
 use std::ops::Range;
 

@@ -4,8 +4,8 @@ use crate::shared::log::{line, random_line, random_old_line};
 use crate::shared::random::{rule, text, Random};
 use crate::shared::vectors::bench_cases;
 use dillplatter_host::part::raise;
-use dillplatter_host::second::line::lines;
-use dillplatter_host::second::{bench, bench_old, read};
+use dillplatter_second::line::lines;
+use dillplatter_second::{bench, bench_old, read};
 use std::fs::File;
 use std::io::{Seek, Write};
 use std::os::fd::OwnedFd;
@@ -20,8 +20,7 @@ const RULE: &[u8] = b"events in out; notes t; t(out[i]) - t(in[i]) <= 25";
 
 /// The program, which `rt check bench` builds.
 fn program() -> PathBuf {
-    let top = Path::new(env!("CARGO_MANIFEST_DIR")).join("..");
-    let program = top.join("target").join("bin").join("bench");
+    let program = Path::new(crate::TOP).join("target/bin/bench");
     assert!(
         program.is_file(),
         "target/bin/bench is missing: run `rt check bench` at the top first"

@@ -6,7 +6,7 @@ use crate::shared::driven::Driven;
 use crate::shared::log::line;
 use crate::shared::refusals;
 use dillplatter_host::part::{self, Checker};
-use dillplatter_host::second::{Fed, Pulled, Refusal, Truth};
+use dillplatter_second::{Fed, Pulled, Refusal, Truth};
 
 #[test]
 fn each_number_is_seen() {

@@ -5,7 +5,7 @@ use crate::quota::Quota;
 use crate::shared::driven::Driven;
 use crate::shared::tariff::{example, with_totals, MOST_VERDICTS};
 use dillplatter_host::part::{self, Charged};
-use dillplatter_host::second::{Refusal, State, Tariff};
+use dillplatter_second::{Refusal, State, Tariff};
 use std::panic::catch_unwind;
 
 /// Numbers of bands over four.

@@ -5,7 +5,7 @@ use crate::pair::Pair;
 use crate::quota::Quota;
 use crate::shared::driven::Driven;
 use crate::shared::random::{rule, text, Random};
-use dillplatter_host::second::Refusal;
+use dillplatter_second::Refusal;
 use std::collections::BTreeMap;
 
 /// How often each answer came: 0 for a text that was read, else the number of its refusal.

@@ -6,7 +6,7 @@ use crate::shared::driven::{Driven, FALSE};
 use crate::shared::log::{events, line, note, random_line};
 use crate::shared::random::{frames, Random};
 use dillplatter_host::part::{self, read_rule, Checker, Viewed};
-use dillplatter_host::second::{open, Pulled, Refusal, Reported, Truth, View};
+use dillplatter_second::{open, Pulled, Refusal, Reported, Truth, View};
 use std::panic::catch_unwind;
 
 const FIRST: &str = "events in out; notes t; t(out[i]) - t(in[i]) <= 25";

@@ -6,7 +6,7 @@ use crate::quota::Quota;
 use crate::shared::driven::Driven;
 use crate::shared::log::{events, line, note};
 use crate::shared::random::{frames, Random};
-use dillplatter_host::second::{Fed, Pulled, State, Truth};
+use dillplatter_second::{Fed, Pulled, State, Truth};
 
 /// The lines of each event.
 type Log = Vec<Vec<Vec<u8>>>;

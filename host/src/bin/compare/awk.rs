@@ -1,6 +1,6 @@
 //! An awk script that does for one rule what the bench program does: the same lines in, the same lines out.
 
-use dillplatter_host::second::frames::{Condition, Reference, Relation, Rule, Sum};
+use dillplatter_second::frames::{Condition, Reference, Relation, Rule, Sum};
 use std::collections::BTreeSet;
 
 const FUNCTIONS: &str = r#"

@@ -4,7 +4,7 @@ use crate::rules::{kinds, Kind};
 use crate::ways::{self, Room};
 use crate::{awk, logs};
 use dillplatter_host::part::{Fed, Pulled, State};
-use dillplatter_host::second;
+use dillplatter_second as second;
 use std::hint::black_box;
 use std::io::Read;
 use std::process::{Command, Stdio};

@@ -1,7 +1,7 @@
 //! The rules that are measured: the five kinds of source 003 and one of 64 frames.
 
-use dillplatter_host::second::frames::{check, Rule};
-use dillplatter_host::second::read;
+use dillplatter_second::frames::{check, Rule};
+use dillplatter_second::read;
 
 /// Both events of every log; its lines take turns.
 const HEAD: &str = "events stimuli display; notes t; ";

@@ -4,7 +4,7 @@
 use crate::clock;
 use crate::rules::Kind;
 use dillplatter_host::part::{self, Checker};
-use dillplatter_host::second::{self, Fed, Pulled};
+use dillplatter_second::{self as second, Fed, Pulled};
 use std::fs::File;
 use std::hint::black_box;
 use std::io::Write;

@@ -1,0 +1,94 @@
+//! Random lists of calls: whole lists against state and window, and what document 01 says of such a list.
+
+use crate::shared::driven::{Driven, Twin};
+use crate::shared::log::{events, line, random_line};
+use crate::shared::random::{frames, Random};
+use crate::shared::seen::Seen;
+use dillplatter_second::line::read_line;
+use dillplatter_second::{open, Fed, Machine, Pulled, Truth};
+
+/// Each accepted occurrence from base on is in its words.
+fn window_holds_the_lists(machine: &Machine, window: &[i32]) {
+    let w = machine.w() as usize;
+    for event in 0..8 {
+        let Some(base) = machine.base(event) else {
+            assert!(machine.list(event).is_empty());
+            continue;
+        };
+        for (k, notes) in machine.list(event).iter().enumerate().skip(base as usize) {
+            let word = (event * w + k % w) * 4;
+            assert_eq!(window[word..word + 4], *notes);
+        }
+    }
+}
+
+/// One random call; its answer is counted, and a verdict is added to a list.
+fn call(random: &mut Random, twin: &mut Twin, seen: &mut Seen, verdicts: &mut Vec<Truth>) {
+    if random.once_in(2) {
+        let line = random_line(random, &events(twin.machine()));
+        let answer = twin.feed(&line);
+        if answer == Fed::Accepted {
+            let (event, notes) = read_line(&line).unwrap();
+            assert_eq!(twin.machine().list(event).last(), Some(&notes));
+        }
+        seen.fed(answer);
+    } else {
+        let length = random.pick(&[166, 166, 166, 166, 200, 165, 0]);
+        let answer = twin.pull(&mut vec![0xA5; length]);
+        if let Pulled::Verdict(verdict) = answer {
+            verdicts.push(verdict);
+        }
+        seen.pulled(answer);
+    }
+}
+
+#[test]
+fn whole_lists_and_window_agree() {
+    let mut seen = Seen::default();
+    for seed in 0..1_250 {
+        let random = &mut Random::new(seed + 2_000_000);
+        let frames = frames(random);
+        let w = random.pick(&[1, 1, 2, 3, 5, 16, 64, 256]);
+        let mut twin = Twin::open(&frames, w, &vec![-1; 32 * w as usize]).unwrap();
+        let mut verdicts = Vec::new();
+        for turn in 0..200 {
+            call(random, &mut twin, &mut seen, &mut verdicts);
+            let refusal = twin.state().refusal(twin.window().len());
+            assert_eq!(refusal, None, "{seed} {turn}");
+        }
+        let machine = twin.machine();
+        window_holds_the_lists(machine, twin.window());
+        // The verdicts handed out are those by the lists after the last call.
+        let last: Vec<Truth> = (0..machine.p())
+            .map(|i| machine.verdict_of(i).expect("it stays settled"))
+            .collect();
+        assert_eq!(verdicts, last, "{seed}");
+        other_orders_agree(random, &frames, machine, &verdicts);
+    }
+    // Accepted, ignored, 15, 17; three verdicts, waiting, 14.
+    seen.more_than(9, 500);
+}
+
+/// The same lines in another order between events, with other pulls and a wider window, give the same verdicts
+/// wherever both give one.
+fn other_orders_agree(random: &mut Random, frames: &[u8], first: &Machine, verdicts: &[Truth]) {
+    let mut machine = open(frames, 256, 32 * 256).unwrap();
+    let mut next = [0; 8];
+    let mut others = Vec::new();
+    let mut report = [0; 166];
+    for _ in 0..400 {
+        let event = random.below(8);
+        if let Some(notes) = first.list(event).get(next[event]) {
+            let answer = machine.feed(&line(event as u8, *notes));
+            assert_eq!(answer, Fed::Accepted);
+            next[event] += 1;
+        }
+        if random.once_in(3) {
+            if let Pulled::Verdict(verdict) = machine.pull(&mut report) {
+                others.push(verdict);
+            }
+        }
+    }
+    let both = verdicts.len().min(others.len());
+    assert_eq!(verdicts[..both], others[..both]);
+}

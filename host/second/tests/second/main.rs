@@ -1,0 +1,24 @@
+//! Tests of the second checker. They need nothing that the toolchain builds.
+
+#[path = "../shared/mod.rs"]
+mod shared;
+
+mod bench;
+mod calls;
+mod common;
+mod documents;
+mod earlier;
+mod examples;
+mod logs;
+mod opening;
+mod places;
+mod refusals;
+mod states;
+mod tariff;
+mod texts;
+mod trees;
+mod vectors;
+mod view;
+
+/// The folder of the whole repository.
+const TOP: &str = concat!(env!("CARGO_MANIFEST_DIR"), "/../..");

@@ -1,0 +1,173 @@
+//! A checker as tests drive it, and the second checker in this form.
+
+use dillplatter_second::{self as second, Fed, Machine, Pulled, Refusal, State, Truth, View};
+use dillplatter_second::{Line, OldLine, Tariff};
+
+pub const TRUE: Pulled = Pulled::Verdict(Truth::True);
+pub const FALSE: Pulled = Pulled::Verdict(Truth::False);
+pub const UNKNOWN: Pulled = Pulled::Verdict(Truth::Unknown);
+/// What feeding answers where the window is full.
+pub const FULL: Fed = Fed::Refused(Refusal {
+    number: 17,
+    place: 0,
+});
+
+/// A checker, with calls on memory as it is.
+pub trait Driven: Sized {
+    /// Reads a text into a buffer: the number of frames.
+    fn read(text: &[u8], buffer: &mut [u8]) -> Result<usize, Refusal>;
+
+    /// Opens with a window.
+    fn open(frames: &[u8], w: u32, window: &[i32]) -> Result<Self, Refusal>;
+
+    /// A state and a window that a caller hands in.
+    fn forged(state: State, window: Vec<i32>) -> Self;
+
+    /// Feeds a line.
+    fn feed(&mut self, line: &[u8]) -> Fed;
+
+    /// Pulls into a report buffer.
+    fn pull(&mut self, report: &mut [u8]) -> Pulled;
+
+    /// Views a report buffer.
+    fn view(report: &[u8]) -> Result<View, Refusal>;
+
+    /// Raises a line of the earlier edition.
+    fn raise(old: &[u8]) -> Result<Line, Refusal>;
+
+    /// Lowers a line to the earlier edition.
+    fn lower(line: &[u8]) -> Result<OldLine, Refusal>;
+
+    /// Charges for the false verdicts so far.
+    fn charge(&self, tariff: &Tariff) -> Result<u64, Refusal>;
+
+    /// The state.
+    fn state(&self) -> &State;
+
+    /// The plain machine after the same calls, unless the state was handed in.
+    fn machine(&self) -> &Machine;
+
+    /// The frames of a text, with a buffer that was not empty, or the refusal, which leaves the buffer as it was.
+    #[track_caller]
+    fn frames_of(text: &[u8]) -> Result<Vec<u8>, Refusal> {
+        let mut buffer = [0xA5; 512];
+        let answer = Self::read(text, &mut buffer);
+        let after = 8 * answer.unwrap_or_default();
+        let rest = if answer.is_ok() { 0 } else { 0xA5 };
+        assert!(buffer[after..].iter().all(|byte| *byte == rest));
+        answer.map(|_| buffer[..after].to_vec())
+    }
+
+    /// Opens for a text with W.
+    #[track_caller]
+    fn of_text(text: &str, w: u32) -> Self {
+        let frames = Self::frames_of(text.as_bytes()).expect("the text is read");
+        Self::open(&frames, w, &vec![-1; 32 * w as usize]).expect("the frames open")
+    }
+}
+
+/// The second checker twice, driven by the same calls: a state with its window, and the plain machine.
+pub struct Twin {
+    state: State,
+    window: Vec<i32>,
+    /// Nothing if the state was handed in.
+    machine: Option<Machine>,
+}
+
+impl Driven for Twin {
+    #[track_caller]
+    fn read(text: &[u8], buffer: &mut [u8]) -> Result<usize, Refusal> {
+        let frames = second::read(text, buffer.len());
+        let answer = second::read_into(text, buffer);
+        let filled = 8 * answer.unwrap_or_default();
+        assert_eq!(answer.map(|_| buffer[..filled].to_vec()), frames);
+        answer
+    }
+
+    #[track_caller]
+    fn open(frames: &[u8], w: u32, window: &[i32]) -> Result<Twin, Refusal> {
+        let mut lent = window.to_vec();
+        let opened = State::open(frames, w, &mut lent);
+        let machine = second::open(frames, w, window.len());
+        assert_eq!(
+            machine.as_ref().map(Machine::state),
+            opened.as_ref().cloned()
+        );
+        if opened.is_ok() {
+            assert!(lent.iter().all(|word| *word == 0));
+        } else {
+            assert!(lent == window, "a refused opening changed the window");
+        }
+        opened.map(|state| Twin {
+            state,
+            window: lent,
+            machine: machine.ok(),
+        })
+    }
+
+    fn forged(state: State, window: Vec<i32>) -> Twin {
+        Twin {
+            state,
+            window,
+            machine: None,
+        }
+    }
+
+    #[track_caller]
+    fn feed(&mut self, line: &[u8]) -> Fed {
+        let answer = self.state.feed(&mut self.window, line);
+        if let Some(machine) = &mut self.machine {
+            assert_eq!(machine.feed(line), answer, "{}", line.escape_ascii());
+            assert_eq!(machine.state(), self.state);
+        }
+        answer
+    }
+
+    #[track_caller]
+    fn pull(&mut self, report: &mut [u8]) -> Pulled {
+        let mut other_report = report.to_vec();
+        let answer = self.state.pull(&self.window, report);
+        if let Some(machine) = &mut self.machine {
+            assert_eq!(machine.pull(&mut other_report), answer);
+            assert!(other_report == report, "the machine's report is another");
+            assert_eq!(machine.state(), self.state);
+        }
+        answer
+    }
+
+    fn view(report: &[u8]) -> Result<View, Refusal> {
+        second::view(report)
+    }
+
+    fn raise(old: &[u8]) -> Result<Line, Refusal> {
+        second::raise(old)
+    }
+
+    fn lower(line: &[u8]) -> Result<OldLine, Refusal> {
+        second::lower(line)
+    }
+
+    #[track_caller]
+    fn charge(&self, tariff: &Tariff) -> Result<u64, Refusal> {
+        let answer = self.state.charge(tariff);
+        if let Some(machine) = &self.machine {
+            assert_eq!(machine.charge(tariff), answer, "{tariff:?}");
+        }
+        answer
+    }
+
+    fn state(&self) -> &State {
+        &self.state
+    }
+
+    fn machine(&self) -> &Machine {
+        self.machine.as_ref().expect("the state was not handed in")
+    }
+}
+
+impl Twin {
+    /// The window.
+    pub fn window(&self) -> &[i32] {
+        &self.window
+    }
+}

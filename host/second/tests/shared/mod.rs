@@ -1,0 +1,11 @@
+//! What the tests of the part and of the second checker share. Each of the two gives `TOP`, the folder of the repository.
+
+pub mod documents;
+pub mod driven;
+pub mod examples;
+pub mod log;
+pub mod random;
+pub mod refusals;
+pub mod seen;
+pub mod tariff;
+pub mod vectors;

@@ -1,0 +1,284 @@
+//! The stored vectors, and every line of them through any checker: answers, numbers, places, frames, reports, cents.
+
+use super::driven::Driven;
+use super::random::Random;
+use super::tariff::{with_failed, MOST_VERDICTS};
+use dillplatter_second::{Fed, Pulled, Refusal, Tariff, Truth};
+use std::path::{Path, PathBuf};
+
+/// A path below host/vectors.
+fn vector(name: &str) -> PathBuf {
+    Path::new(crate::TOP).join("host/vectors").join(name)
+}
+
+/// The lines of a file of vectors, without those that begin with '#', each with its number from 1.
+fn vector_lines(name: &str) -> Vec<(usize, String)> {
+    let text = std::fs::read_to_string(vector(name)).unwrap();
+    text.lines()
+        .enumerate()
+        .filter(|(_, line)| !line.starts_with('#'))
+        .map(|(k, line)| (k + 1, line.to_string()))
+        .collect()
+}
+
+/// Bytes from hexadecimal; '-' is none.
+fn unhex(digits: &str) -> Vec<u8> {
+    if digits == "-" {
+        return Vec::new();
+    }
+    assert!(digits.len().is_multiple_of(2), "odd number of digits");
+    (0..digits.len() / 2)
+        .map(|k| u8::from_str_radix(&digits[2 * k..2 * k + 2], 16).unwrap())
+        .collect()
+}
+
+/// Bytes as small hexadecimal digits.
+pub fn hex(bytes: &[u8]) -> String {
+    bytes.iter().map(|byte| format!("{byte:02x}")).collect()
+}
+
+/// reading.txt.
+pub fn reading<C: Driven>() {
+    let lines = vector_lines("reading.txt");
+    assert_eq!(lines.len(), 700);
+    for (at, line) in lines {
+        let (text, expected) = line.split_once(' ').unwrap();
+        let answer = match C::frames_of(&unhex(text)) {
+            Ok(frames) => format!("frames {} {}", frames.len() / 8, hex(&frames)),
+            Err(refusal) => refusal_words(refusal),
+        };
+        assert_eq!(answer, expected, "reading.txt line {at}");
+    }
+}
+
+/// opening.txt.
+pub fn opening<C: Driven>() {
+    let lines = vector_lines("opening.txt");
+    assert_eq!(lines.len(), 500);
+    for (at, line) in lines {
+        let mut fields = line.splitn(4, ' ');
+        let mut field = || fields.next().unwrap();
+        let frames = unhex(field());
+        let w = field().parse().unwrap();
+        let words: usize = field().parse().unwrap();
+        let answer = match C::open(&frames, w, &vec![-1; words]) {
+            Ok(_) => "opened".to_string(),
+            Err(refusal) => refusal_words(refusal),
+        };
+        assert_eq!(answer, field(), "opening.txt line {at}");
+    }
+}
+
+/// The files of calls, with how many rules, feeds and pulls each has.
+const CALLS: [(&str, [usize; 3]); 2] = [
+    ("calls.txt", [86, 2_812, 2_266]),
+    ("points/07/calls.txt", [60, 1_994, 1_548]),
+];
+
+/// Each file of calls.
+pub fn calls<C: Driven>() {
+    for (name, counts) in CALLS {
+        assert_eq!(calls_of::<C>(name), counts, "{name}");
+    }
+}
+
+/// A file of calls: lists of feeds and pulls, each behind its rule. The answer is how many of each there are.
+fn calls_of<C: Driven>(name: &str) -> [usize; 3] {
+    let mut checker: Option<C> = None;
+    let [mut rules, mut feeds, mut pulls] = [0; 3];
+    for (at, line) in vector_lines(name) {
+        let fields: Vec<&str> = line.split(' ').collect();
+        let words = match fields[0] {
+            "rule" => {
+                rules += 1;
+                let w: u32 = fields[2].parse().unwrap();
+                let opened = C::open(&unhex(fields[1]), w, &vec![-1; 32 * w as usize]);
+                checker = Some(opened.unwrap_or_else(|_| panic!("{name} line {at}")));
+                continue;
+            }
+            "feed" => {
+                feeds += 1;
+                fed_words(checker.as_mut().unwrap().feed(&unhex(fields[1])))
+            }
+            "pull" => {
+                pulls += 1;
+                pull(checker.as_mut().unwrap(), fields[1].parse().unwrap())
+            }
+            other => panic!("{name} line {at}: {other}"),
+        };
+        assert_eq!(words, fields[2..].join(" "), "{name} line {at}");
+    }
+    [rules, feeds, pulls]
+}
+
+/// points/08/converting.txt.
+pub fn converting<C: Driven>() {
+    let name = "points/08/converting.txt";
+    let lines = vector_lines(name);
+    assert_eq!(lines.len(), 400);
+    let (mut raised, mut lowered) = (0, 0);
+    for (at, line) in lines {
+        let mut fields = line.splitn(3, ' ');
+        let mut field = || fields.next().unwrap();
+        let (way, bytes) = (field(), unhex(field()));
+        let words = match way {
+            "up" => converted_words(C::raise(&bytes), &mut raised),
+            "down" => converted_words(C::lower(&bytes), &mut lowered),
+            other => panic!("{name} line {at}: {other}"),
+        };
+        assert_eq!(words, field(), "{name} line {at}");
+    }
+    assert_eq!((raised, lowered), (145, 18));
+}
+
+/// An answer as the file of conversions writes it; a line is counted.
+fn converted_words<const DIGITS: usize>(
+    answer: Result<[u8; DIGITS], Refusal>,
+    lines: &mut usize,
+) -> String {
+    match answer {
+        Ok(line) => {
+            *lines += 1;
+            format!("line {}", hex(&line))
+        }
+        Err(refusal) => refusal_words(refusal),
+    }
+}
+
+/// A case of points/13/tariff.txt.
+pub struct Charge {
+    /// Its line.
+    pub at: usize,
+    pub tariff: Tariff,
+    pub violations: u32,
+    /// The answer.
+    pub words: String,
+}
+
+/// Every case of points/13/tariff.txt. Of five bands the fifth has no entry, and the number of bands is 5.
+pub fn charges() -> Vec<Charge> {
+    let lines = vector_lines("points/13/tariff.txt");
+    assert_eq!(lines.len(), 301);
+    lines
+        .iter()
+        .map(|(at, line)| {
+            let mut fields = line.splitn(5, ' ');
+            let mut field = || fields.next().unwrap();
+            let bands = bands(field());
+            let [beyond, surcharge, violations] = [0; 3].map(|_| field().parse().unwrap());
+            Charge {
+                at: *at,
+                tariff: Tariff::of(&bands, beyond, surcharge),
+                violations,
+                words: field().to_string(),
+            }
+        })
+        .collect()
+}
+
+/// Bands as that file writes them.
+fn bands(words: &str) -> Vec<(u32, u32)> {
+    let band = |words: &str| {
+        let (last, price) = words.split_once(':').unwrap();
+        (last.parse().unwrap(), price.parse().unwrap())
+    };
+    match words {
+        "-" => Vec::new(),
+        words => words.split(',').map(band).collect(),
+    }
+}
+
+/// The cases of points/13/tariff.txt, each with a state of so many false verdicts. The file also has 1,010,000 of them.
+/// A state with these has a p over 1,009,999, so where the tariff is taken the call refuses it with 12.
+pub fn charging<C: Driven>() {
+    let random = &mut Random::new(270_000_000);
+    let [mut cents, mut impossible, mut refused] = [0; 3];
+    for case in charges() {
+        let state = with_failed(random, case.violations);
+        let words = charged_words(C::forged(state, Vec::new()).charge(&case.tariff));
+        let mut expected = &case.words[..];
+        match expected.starts_with("cents") {
+            true if case.violations > MOST_VERDICTS => {
+                impossible += 1;
+                expected = "refused 12 0";
+            }
+            true => cents += 1,
+            false => refused += 1,
+        }
+        assert_eq!(words, expected, "points/13/tariff.txt line {}", case.at);
+    }
+    assert_eq!((cents, impossible, refused), (212, 13, 76));
+}
+
+/// An answer as the file of charges writes it.
+pub fn charged_words(answer: Result<u64, Refusal>) -> String {
+    match answer {
+        Ok(cents) => format!("cents {cents}"),
+        Err(refusal) => refusal_words(refusal),
+    }
+}
+
+/// The answer of a pull with a buffer of some length, and the report; all other bytes of the buffer keep.
+fn pull(checker: &mut impl Driven, length: usize) -> String {
+    let mut report = vec![0xA5; length];
+    let mut words = pulled_words(checker.pull(&mut report));
+    if words == "false" {
+        let filled = 6 + 5 * usize::from(report[5]);
+        words = format!("false {}", hex(&report[..filled]));
+        report.drain(..filled);
+    }
+    assert!(report.iter().all(|byte| *byte == 0xA5));
+    words
+}
+
+/// An answer as the files of vectors write it.
+fn fed_words(answer: Fed) -> String {
+    match answer {
+        Fed::Accepted => "accepted".into(),
+        Fed::Ignored => "ignored".into(),
+        Fed::Refused(refusal) => refusal_words(refusal),
+    }
+}
+
+/// An answer as the files of vectors write it.
+fn pulled_words(answer: Pulled) -> String {
+    match answer {
+        Pulled::Verdict(Truth::True) => "true".into(),
+        Pulled::Verdict(Truth::False) => "false".into(),
+        Pulled::Verdict(Truth::Unknown) => "unknown".into(),
+        Pulled::Waiting => "waiting".into(),
+        Pulled::Refused(refusal) => refusal_words(refusal),
+    }
+}
+
+/// A refusal as the files of vectors write it.
+fn refusal_words(refusal: Refusal) -> String {
+    format!("refused {} {}", refusal.number, refusal.place)
+}
+
+/// The folders of cases of the bench program, with how many each has.
+const BENCH: [(&str, usize); 2] = [("bench", 40), ("points/07/bench", 16)];
+
+/// A case of the bench program.
+pub struct Case {
+    pub name: String,
+    pub rule: Vec<u8>,
+    pub log: Vec<u8>,
+    pub stdout: String,
+}
+
+/// Every case of the bench program.
+pub fn bench_cases() -> Vec<Case> {
+    let of = |folder: &str, number: usize| {
+        let name = format!("{folder}/{number:02}");
+        let file = |file: &str| std::fs::read(vector(&name).join(file)).unwrap();
+        Case {
+            rule: file("rule.loc"),
+            log: file("log"),
+            stdout: String::from_utf8(file("stdout")).unwrap(),
+            name,
+        }
+    };
+    let all = BENCH.map(|(folder, cases)| (0..cases).map(|n| of(folder, n)).collect::<Vec<Case>>());
+    all.into_iter().flatten().collect()
+}
