@@ -3,12 +3,11 @@ use mathlib.Core.Path.{_≡_, refl, sym, _∙_, subst}
 use mathlib.Core.Bool.{Bool, true, false, _&&_, cond}
 use mathlib.Core.List.{List, [], _∷_, List·Memᴰ}
 use mathlib.Core.Logic.{⊎-elim, _≢_}
-use Prim.Native.Nat.{ℕ, zero, suc, _+_, _*_, _-_, _<_, _≤_}
-use native.Mathlib.Nat.{mul-le-mul-right}
+use Prim.Native.Nat.{ℕ, zero, suc, _+_, _<_, _≤_}
 use native.Mathlib.Omega.{arith}
-use borrow.Author.Tests.{leb-true, eqb-true, le-leb, le-ltb, eq-eqb}
+use borrow.Author.Tests.{leb-true, eqb-true, le-leb, eq-eqb}
 use lib.Dec.{leb, eqb}
-use lib.IntN.{ℤ, pos, negsuc, natAbs, _+ℤ_}
+use lib.IntN.{ℤ}
 use lib.ListN.{length, getD, set}
 use lib.Seq.{getD-set-other}
 use Rattle.numbers.proofs.Bools.{true-false, and-true, true-and}
@@ -19,14 +18,14 @@ use Rattle.rule.specs.Build.{treeOf}
 use Rattle.rule.specs.Opening.{Proper}
 use Rattle.rule.proofs.Main.{frames-exactly, tree-of}
 use Rattle.log.specs.Line.{lineOf}
-use Rattle.verdict.specs.Found.{instanceLimit, pending, occurrence}
+use Rattle.verdict.specs.Found.{instanceLimit, pending}
 use Rattle.verdict.specs.Settled.{judgement}
 use Rattle.verdict.specs.Settled as settling
 use Rattle.verdict.specs.declared.Truth.{Truth}
 use Rattle.checker.specs.Limits.{lineLimit}
 use Rattle.checker.specs.Base.{referenced, base}
 use Rattle.checker.specs.State.{counted, sumOf, Tally, countOf, tallyIn, stateFrames, ruleIn, refsIn, SameRule, withCount, withPulled}
-use Rattle.checker.specs.Found.{windowAt}
+use Rattle.checker.specs.Found.{byWindow}
 use Rattle.checker.specs.Open.{windowFits, openDef}
 use Rattle.checker.specs.Good.{allTo, goodRule, goodCount, goodTally, goodState}
 use Rattle.checker.specs.Feed.{FeedRead, turned, skipped, taken, feedRead, FeedResult, fedBy, feedDef}
@@ -36,7 +35,7 @@ use Rattle.checker.specs.Demand.{Unrefused, fresh}
 use Rattle.checker.specs.declared.State.{State}
 use Rattle.checker.proofs.Choices.{cond-case, less-or, same-or, allTo-true}
 use Rattle.checker.proofs.Ring.{length-kept}
-use Rattle.checker.proofs.Bases.{base-mono}
+use Rattle.checker.proofs.Bases.{base-mono, late-pending}
 use Rattle.checker.proofs.Simulation.{good, Took, took, all-pending, verdict-settled, Gave, gave-judged, sum-counted}
 use Rattle.checker.proofs.Fresh.{opened-fine, both-opened, within-member}
 use Rattle.checker.proofs.CodeBase.{within-in}
@@ -139,13 +138,6 @@ sound-moved refs w t v x l =
       sum = sum-counted (t .totals) v ∙ omega (arith, x .sum);
     }
 
--- at p = 1,009,999 each reference means an occurrence from 1,000,000 on
-late-at : (w : ℕ) (win : List ℤ) (c e n : ℕ) (z : ℤ) (a : ℕ) → c + 9999 ≤ a → natAbs z ≤ 9999 → windowAt w win c e n (pos a +ℤ z) ≡ pending
-late-at w win c e n (pos k) a h l = rw (le-ltb (a + k) c (omega arith))
-late-at w win c e n (negsuc k) a h l =
-    let s : suc k ≤ 9999 = l in
-    rw (le-ltb a (suc k) (omega arith)) (rw (le-ltb (a - suc k) c (omega arith)))
-
 -- ---- the state
 module _ (s : State) (g : goodState s ≡ true) where
   sound-in : Sound (refsIn s) (s .width) (tallyIn s)
@@ -200,8 +192,7 @@ module _ (s : State) (g : goodState s ≡ true) where
         late : instanceLimit ≤ s .next .0 → (r : Reference) → List·Memᴰ r (refsIn s) → foundHere s win r ≡ pending
         late l r h =
             let m = limits-in r h in
-            late-at (s .width) win (countOf (tallyIn s) (r .event)) (r .event) (r .note) (r .offset) (r .factor * s .next .0)
-            (omega (arith, mul-le-mul-right (s .next .0) (m .least), sound-in .counts (r .event) (m .event) .few)) (m .offset)
+            late-pending (byWindow (s .width) (s .counts) win) r (s .next .0) (m .least) (m .offset) (sound-in .counts (r .event) (m .event) .few) l
 
     pulled-good : (win : List ℤ) (buffer : List ℕ) (x : PullRead) → Gave (ruleIn s) (s .next .0) (foundHere s win) x → goodState (pulledBy s win buffer x .state) ≡ true
     pulled-good win buffer short t = g

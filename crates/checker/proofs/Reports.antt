@@ -1,18 +1,20 @@
 -- The report of each false verdict that a list hands out, and what two lists for one rule leave free in it. Assumes nothing.
-use mathlib.Core.Path.{_≡_, refl, sym, _∙_, ap, subst}
+use mathlib.Core.Path.{_≡_, refl, sym, ap, subst}
 use mathlib.Core.Bool.{Bool, true, false, cond}
 use mathlib.Core.List.{List, [], _∷_, _++_, map}
+use mathlib.Core.Logic.{inl, inr}
 use Prim.Native.Nat.{ℕ, zero, suc, _+_}
 use native.Mathlib.Omega.{arith}
 use native.Mathlib.Nat.{add-zero}
-use borrow.Author.Tests.{ltb-true}
 use lib.Dec.{ltb}
-use lib.IntN.{ℤ, pos, negsuc}
-use lib.ListN.{length, getD, List·getD-append}
+use lib.IntN.{ℤ}
+use lib.ListN.{getD}
 use Rattle.rule.specs.Tree.{Reference, references}
 use Rattle.rule.specs.Build.{treeOf}
-use Rattle.verdict.specs.Found.{present, pending, void, occurrence, foundAt, foundIn}
-use Rattle.verdict.specs.Later.{MoreLines}
+use Rattle.verdict.specs.Found.{meant, Found, present, pending, void, Lookup, foundBy, byLists, foundIn}
+use Rattle.verdict.specs.Later.{Gains, MoreLines}
+use Rattle.verdict.specs.declared.Meant.{Meant}
+use Rattle.verdict.specs.declared.Meant.the-variants.{Void, At}
 use Rattle.verdict.specs.declared.Truth.{Truth}
 use Rattle.verdict.specs.declared.Truth.the-variants.{False, Unknown}
 use Rattle.verdict.proofs.Main.{lines-gain}
@@ -135,30 +137,23 @@ module _ {frames : List ℕ} {w : ℕ} {win : List ℤ} (o : Unrefused frames w 
       rw (lists.answers o cs) (reported frames w cs (firstInstance + i) _ h)
 
 -- ---- two lists whose lines begin the same ones
-module _ (a b more more′ : List (List ℤ)) (e : a ++ more ≡ b ++ more′) (note : ℕ) where
-  same-line : (k : ℕ) → ltb k (length a) ≡ true → ltb k (length b) ≡ true → getD a k [] ≡ getD b k []
-  same-line k p q =
-      sym (List·getD-append a more [] k (ltb-true k (length a) p))
-      ∙ ap (λ (l : List (List ℤ)). getD l k []) e
-      ∙ List·getD-append b more′ [] k (ltb-true k (length b) q)
+free-by : (x y : Found) (z : ℤ) (t : Bool) → Gains x (cond t (present z) pending) → Gains y (cond t (present z) pending) → FreeBetween x y
+free-by x y z t (inl p) (inl q) = rw (p, q) (equal (cond t (present z) pending))
+free-by x y z t (inr p) (inr q) = rw (p, q) (equal pending)
+free-by x y z true (inl p) (inr q) = rw (p, q) (present-pending z)
+free-by x y z true (inr p) (inl q) = rw (p, q) (pending-present z)
+free-by x y z false (inl p) (inr q) = rw (p, q) (equal pending)
+free-by x y z false (inr p) (inl q) = rw (p, q) (equal pending)
 
-  free-by : (k : ℕ) (s t : Bool) → ltb k (length a) ≡ s → ltb k (length b) ≡ t
-      → FreeBetween (cond s (present (getD (getD a k []) note (pos 0))) pending)
-      (cond t (present (getD (getD b k []) note (pos 0))) pending)
-  free-by k true true p q = rw (same-line k p q) (equal (present (getD (getD b k []) note (pos 0))))
-  free-by k true false p q = present-pending (getD (getD a k []) note (pos 0))
-  free-by k false true p q = pending-present (getD (getD b k []) note (pos 0))
-  free-by k false false p q = equal pending
-
-  free-at : (k : ℤ) → FreeBetween (foundAt a note k) (foundAt b note k)
-  free-at (negsuc k) = equal void
-  free-at (pos k) = free-by k (ltb k (length a)) (ltb k (length b)) refl refl
+free-at : (l l′ l″ : Lookup) (e n : ℕ) (m : Meant) → Gains (foundBy l e n m) (foundBy l″ e n m) → Gains (foundBy l′ e n m) (foundBy l″ e n m)
+    → FreeBetween (foundBy l e n m) (foundBy l′ e n m)
+free-at l l′ l″ e n Void p q = equal void
+free-at l l′ l″ e n (At k) p q = free-by _ _ (l″ .noteAt e n (k .0)) (ltb (k .0) (l″ .count e)) p q
 
 free-between : (a b c : ℕ → List (List ℤ)) → MoreLines a c → MoreLines b c
     → (i : ℕ) (r : Reference) → FreeBetween (foundIn a i r) (foundIn b i r)
 free-between a b c p q i r =
-    let e = r .event in
-    free-at (a e) (b e) (p e .0) (q e .0) (p e .1 ∙ sym (q e .1)) (r .note) (occurrence (r .factor) (r .offset) i)
+    free-at (byLists a) (byLists b) (byLists c) (r .event) (r .note) (meant i r) (lines-gain a c p i r) (lines-gain b c q i r)
 
 module _ {frames : List ℕ} {w w′ : ℕ} {win win′ : List ℤ}
     (o : Unrefused frames w win) (o′ : Unrefused frames w′ win′) (cs cs′ : List Call) where

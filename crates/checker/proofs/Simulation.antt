@@ -5,9 +5,9 @@ use mathlib.Core.List.{List, [], _∷_, _++_, List·Memᴰ, List·Memᴰ·head, 
 use mathlib.Core.Logic.{⊎-elim, _≢_}
 use Prim.Native.Nat.{ℕ, _+_, _<_, _≤_}
 use native.Mathlib.Omega.{arith}
-use borrow.Author.Tests.{eq-eqb, le-leb, leb-true, leb-false, ltb-true, eqb-true}
+use borrow.Author.Tests.{eq-eqb, le-leb, leb-true, leb-false, eqb-true}
 use lib.Dec.{ltb, leb, eqb}
-use lib.IntN.{ℤ, pos, negsuc}
+use lib.IntN.{ℤ, pos}
 use lib.ListN.{length, getD, set, length-append, List·getD-append}
 use lib.Seq.{getD-append-seam}
 use Rattle.rule.specs.Limits.{frameLimit}
@@ -18,7 +18,7 @@ use Rattle.rule.specs.declared.Checked.the-variants.{Accepted}
 use Rattle.log.specs.Line.{Told, lineOf}
 use Rattle.log.specs.Line as log
 use Rattle.numbers.proofs.Bools.{true-false, and-true, true-and}
-use Rattle.verdict.specs.Found.{instanceLimit, Found, present, pending, occurrence, foundAt, foundIn, isPresent, isPending, someOf}
+use Rattle.verdict.specs.Found.{instanceLimit, meant, Found, pending, byLists, foundIn, isPresent, isPending, someOf}
 use Rattle.verdict.specs.Value.{value}
 use Rattle.verdict.specs.Settled.{settledBy, judgement}
 use Rattle.verdict.specs.Settled as settling
@@ -27,11 +27,12 @@ use Rattle.verdict.specs.declared.Truth.the-variants as truths
 use Rattle.verdict.specs.declared.Judgement.{Judgement}
 use Rattle.verdict.specs.declared.Judgement.the-variants.{Unsettled, True, False, Unknown}
 use Rattle.verdict.proofs.Main.{own-references}
+use Rattle.verdict.proofs.Laws.{found-same}
 use Rattle.checker.specs.Limits.{windowWords, lineLimit, reportLeast}
 use Rattle.checker.specs.Base.{referenced, orZero, base}
 use Rattle.checker.specs.State.{counted, sumOf, Tally, countOf, tallyIn, stateFrames, refsIn, withCount, withPulled}
 use Rattle.checker.specs.Ring.{wordAt, kept}
-use Rattle.checker.specs.Found.{windowAt, foundInWindow}
+use Rattle.checker.specs.Found.{byWindow, foundInWindow}
 use Rattle.checker.specs.Open.{widthFits, windowFits}
 use Rattle.checker.specs.Good.{isAccepted, goodRule, goodCount, goodTally, goodState}
 use Rattle.checker.specs.Feed.{FeedRead, turned, skipped, taken, feedEvent, feedRead, feedAnswer, FeedResult, fedBy, feedDef}
@@ -266,7 +267,7 @@ module _ (frames : List ℕ) (w : ℕ) (ok : Fine frames w) where
       ⊎-elim
       (λ l. l)
       (λ (l : instanceLimit ≤ m .next). absurd (verdict-settled v (sym q ∙ all-pending (treeOf frames) (m .next) (foundIn (m .lists) (m .next)) (ok .some)
-      (λ r h. late-pending (m .lists (r .event)) r (m .next) (ok .limits r h .least) (ok .limits r h .offset) (i .few (r .event)) l))))
+      (λ r h. late-pending (byLists (m .lists)) r (m .next) (ok .limits r h .least) (ok .limits r h .offset) (i .few (r .event)) l))))
       (less-or (m .next) instanceLimit)
 
   module _ (m : Machine) (k : Checker) (b : Both frames w m k) where
@@ -327,20 +328,11 @@ module _ (frames : List ℕ) (w : ℕ) (ok : Fine frames w) where
         }
 
     -- ---- pulling
-    found-at : (e n : ℕ) (z : ℤ) → e < 8 → n < 4 → base (references (treeOf frames)) e (m .next) ≤ orZero z
-        → windowAt w (k .words) (countOf (tallyOf m) e) e n z ≡ foundAt (m .lists e) n z
-    found-at e n (negsuc j) he hn h = refl
-    found-at e n (pos j) he hn h =
-        rw (count-of m e he)
-        (cond-case (λ (v : Found). v ≡ cond (ltb j (length (m .lists e))) (present (getD (getD (m .lists e) j []) n (pos 0))) pending) (ltb j (length (m .lists e))) (present (getD (k .words) (wordAt w e j n) (pos 0))) pending
-        (λ q. rw q (ap present (b .sim .live e j n he h (ltb-true j (length (m .lists e)) q) hn)))
-        (λ q. rw q))
-
     -- the window says of each reference what the lists say
-    found-same : SameOn (references (treeOf frames)) (foundInWindow w (tallyOf m) (k .words) (m .next)) (foundIn (m .lists) (m .next))
-    found-same r h =
-        found-at (r .event) (r .note) (occurrence (r .factor) (r .offset) (m .next)) (ok .limits r h .event) (ok .limits r h .note)
-        (base-le (references (treeOf frames)) (m .next) r h)
+    window-same : SameOn (references (treeOf frames)) (foundInWindow w (tallyOf m .counts) (k .words) (m .next)) (foundIn (m .lists) (m .next))
+    window-same r h =
+        found-same (byWindow w (tallyOf m .counts) (k .words)) (byLists (m .lists)) (r .event) (r .note) (count-of m (r .event) (ok .limits r h .event)) (meant (m .next) r)
+        (λ o q l. b .sim .live (r .event) (o .0) (r .note) (ok .limits r h .event) (omega (arith, base-le (references (treeOf frames)) (m .next) r h, ap orZero q)) l (ok .limits r h .note))
 
     abbrev resultOf : ℕ → Cond → (Reference → Found) → List ℕ → PullRead → PullResult
     resultOf p t found buffer x =
@@ -371,9 +363,9 @@ module _ (frames : List ℕ) (w : ℕ) (ok : Fine frames w) where
     unfolding pullDef
     pull-eq buffer =
         cond-true _ _ _ good ∙ cond-true _ _ _ fits
-        ∙ ap (λ (x : List ℕ). resultAt (k .state .next .0) (treeOf x) (foundInWindow (k .state .width) (tallyIn (k .state)) (k .words) (k .state .next .0)) buffer) (b .sim .rule)
-        ∙ ap₂ (λ (v : ℕ) (t : Tally). resultAt (t .next) (treeOf frames) (foundInWindow v t (k .words) (t .next)) buffer) (b .sim .width) (b .sim .tally)
-        ∙ result-own (m .next) (treeOf frames) (foundInWindow w (tallyOf m) (k .words) (m .next)) (foundIn (m .lists) (m .next)) buffer found-same
+        ∙ ap (λ (x : List ℕ). resultAt (k .state .next .0) (treeOf x) (foundInWindow (k .state .width) (k .state .counts) (k .words) (k .state .next .0)) buffer) (b .sim .rule)
+        ∙ ap₂ (λ (v : ℕ) (t : Tally). resultAt (t .next) (treeOf frames) (foundInWindow v (t .counts) (k .words) (t .next)) buffer) (b .sim .width) (b .sim .tally)
+        ∙ result-own (m .next) (treeOf frames) (foundInWindow w (tallyOf m .counts) (k .words) (m .next)) (foundIn (m .lists) (m .next)) buffer window-same
 
     both-pulled : (x : PullRead) → Gave (treeOf frames) (m .next) (foundIn (m .lists) (m .next)) x
         → Both frames w (afterPull m x) (record { state = stateAfter (k .state) x; words = k .words })

@@ -4,9 +4,10 @@ use mathlib.Core.Bool.{Bool, true, false, cond}
 use mathlib.Core.List.{List, [], _∷_, map}
 use Prim.Native.Nat.{ℕ, min}
 use lib.Dec.{eqb}
-use lib.IntN.{ℤ, pos, negsuc}
 use Rattle.rule.specs.Tree.{Reference}
-use Rattle.verdict.specs.Found.{occurrence}
+use Rattle.verdict.specs.Found.{meant}
+use Rattle.verdict.specs.declared.Meant.{Meant}
+use Rattle.verdict.specs.declared.Meant.the-variants.{Void, At}
 
 -- "its references": those that name the event
 unfoldable pub ofEvent : ℕ → List Reference → List Reference
@@ -22,14 +23,14 @@ isSome (r ∷ rs) = true
 unfoldable pub referenced : List Reference → ℕ → Bool
 referenced refs e = isSome (ofEvent e refs)
 
--- max(0, z), for "max(0, factor × p + offset)"
-abbrev pub orZero : ℤ → ℕ
-orZero (pos k) = k
-orZero (negsuc k) = 0
+-- the occurrence that is meant, 0 where it is void, for "max(0, factor × p + offset)"
+abbrev pub orZero : Meant → ℕ
+orZero Void = 0
+orZero (At k) = k .0
 
 -- "max(0, factor × p + offset)"
 abbrev pub startAt : ℕ → Reference → ℕ
-startAt p r = orZero (occurrence (r .factor) (r .offset) p)
+startAt p r = orZero (meant p r)
 
 -- "the smallest of" some numbers, 0 where there is none
 unfoldable pub smallest : List ℕ → ℕ

@@ -15,7 +15,7 @@ use Rattle.verdict.specs.declared.Judgement.{Judgement}
 use Rattle.verdict.specs.declared.Judgement.the-variants.{Unsettled, True, False, Unknown}
 use Rattle.checker.specs.Limits.{reportLeast}
 use Rattle.checker.specs.Answer.{Answer, waiting, verdict, refused}
-use Rattle.checker.specs.State.{tallyIn, ruleIn, refsIn, withPulled}
+use Rattle.checker.specs.State.{ruleIn, refsIn, withPulled}
 use Rattle.checker.specs.Found.{foundInWindow}
 use Rattle.checker.specs.Open.{windowFits}
 use Rattle.checker.specs.Good.{goodState}
@@ -64,7 +64,7 @@ notPulled s buffer a = record { answer = a; state = s; report = buffer }
 
 -- "A reference of instance i", where i is p: what it is by the counts and the window
 abbrev pub foundHere : State → List ℤ → Reference → Found
-foundHere s win = foundInWindow (s .width) (tallyIn s) win (s .next .0)
+foundHere s win = foundInWindow (s .width) (s .counts) win (s .next .0)
 
 -- "A refused .. pull .. and 'waiting' change nothing"
 abbrev pub stateAfter : State → PullRead → State

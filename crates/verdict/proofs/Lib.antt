@@ -1,5 +1,6 @@
 mod Tables
 mod Own
+mod Resolve
 mod Stays
 mod Numbers
 mod Meanings

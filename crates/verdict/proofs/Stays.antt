@@ -1,18 +1,16 @@
 -- What later lines leave: a known truth value, and the verdict of a settled instance. Assumes nothing.
-use mathlib.Core.Path.{_≡_, refl, ap, ap₂, _∙_, sym, subst}
+use mathlib.Core.Path.{_≡_, refl, ap, ap₂, _∙_, sym}
 use mathlib.Core.Bool.{Bool, true, false, cond, not, _&&_, _||_, or-true}
 use mathlib.Core.Logic.{inl, inr}
 use mathlib.Core.List.{List, [], _∷_, _++_, List·Memᴰ, List·Memᴰ·head, List·Memᴰ·tail, Memᴰ·append-left, Memᴰ·append-right}
 use Prim.Native.Nat.{ℕ, _<_}
 use native.Mathlib.Omega.{arith}
-use lib.Dec.{ltb}
-use lib.IntN.{ℤ, pos, negsuc}
+use lib.IntN.{ℤ, pos}
 use lib.ListN.{length, getD, length-append, List·getD-append}
-use borrow.Author.Tests.{ltb-true, lt-ltb}
 use Rattle.rule.specs.Frames.{Relation}
 use Rattle.rule.specs.Tree.{Reference, Sum, Cond, relation, connective, referencesS, references}
 use Rattle.numbers.proofs.Bools.{true-false}
-use Rattle.verdict.specs.Found.{Found, present, pending, isMissing, isPending, isPresent, someOf, foundAt, foundIn, occurrence}
+use Rattle.verdict.specs.Found.{meant, Found, pending, byLists, foundIn, isMissing, isPending, isPresent, someOf}
 use Rattle.verdict.specs.Kleene.{truth, isKnown}
 use Rattle.verdict.specs.Value.{holds, valueS, value}
 use Rattle.verdict.specs.Settled.{settledBy, verdict, settled, judgement}
@@ -21,6 +19,7 @@ use Rattle.verdict.specs.declared.Truth.{Truth}
 use Rattle.verdict.specs.declared.Truth.the-variants.{Unknown}
 use Rattle.verdict.specs.declared.Judgement.the-variants as judgements
 use Rattle.verdict.proofs.Tables.{not-sharpens, joined-sharpens}
+use Rattle.verdict.proofs.Resolve.{found-gains}
 use Rattle.verdict.proofs.Own.{SameOn, value-own, settled-own, none-so}
 
 -- a reference that is not so, where pending is so, stays
@@ -98,23 +97,18 @@ module _ (i : ℕ) (found found′ : Reference → Found) where
     judgement-stays h = judged (settled i found t) refl h
 
 -- ---- lines
-present-still : (a more : List (List ℤ)) (n k : ℕ) (t : Bool) → ltb k (length a) ≡ t
-    → Gains (cond t (present (getD (getD a k []) n (pos 0))) pending) (foundAt (a ++ more) n (pos k))
-present-still a more n k true e =
-    let l : k < length a = ltb-true k (length a) e in
-    let h : k < length (a ++ more) = rw length-append (omega arith) in
-    inl (sym (rw (lt-ltb k (length (a ++ more)) h, List·getD-append a more [] k l)))
-present-still a more n k false e = inr refl
-
-found-gains : (a more : List (List ℤ)) (n : ℕ) (z : ℤ) → Gains (foundAt a n z) (foundAt (a ++ more) n z)
-found-gains a more n (pos k) = present-still a more n k (ltb k (length a)) refl
-found-gains a more n (negsuc k) = inl refl
+more-still : (a b more : List (List ℤ)) → a ++ more ≡ b → (n k : ℕ) → k < length a
+    → (k < length b) × (getD (getD a k []) n (pos 0) ≡ getD (getD b k []) n (pos 0))
+more-still a b more e n k h = (
+  omega (arith, ap length e, length-append a more),
+  ap (λ (l : List ℤ). getD l n (pos 0)) (sym (List·getD-append a more [] k h) ∙ ap (λ (l : List (List ℤ)). getD l k []) e),
+)
 
 pub lines-gain : (lines lines′ : ℕ → List (List ℤ)) → MoreLines lines lines′ → (i : ℕ) (r : Reference) → Gains (foundIn lines i r) (foundIn lines′ i r)
 lines-gain lines lines′ m i r =
     let q = m (r .event) in
-    subst (λ (b : List (List ℤ)). Gains (foundIn lines i r) (foundAt b (r .note) (occurrence (r .factor) (r .offset) i))) (q .1)
-    (found-gains (lines (r .event)) (q .0) (r .note) (occurrence (r .factor) (r .offset) i))
+    found-gains (byLists lines) (byLists lines′) (r .event) (r .note)
+    (more-still (lines (r .event)) (lines′ (r .event)) (q .0) (q .1) (r .note)) (meant i r)
 
 pub lines-stay : (i : ℕ) (lines lines′ : ℕ → List (List ℤ)) (t : Cond) → MoreLines lines lines′ → (judgement i (foundIn lines i) t ≡ judgements.Unsettled → ⊥)
     → judgement i (foundIn lines′ i) t ≡ judgement i (foundIn lines i) t

@@ -10,7 +10,7 @@ use Rattle.rule.proofs.Laws.{bytes-by}
 use Rattle.verdict.specs.Found.{Found}
 use Rattle.verdict.specs.declared.Judgement.the-variants.{Unsettled, True, False, Unknown}
 use Rattle.checker.specs.Report.{written}
-use Rattle.checker.specs.Sights.{foundBy}
+use Rattle.checker.specs.Found.{foundInWindow}
 use Rattle.checker.proofs.PullOffer.{offer-judge, offer-fill, offer-judged, offer-report}
 use borrow.Author.Needs.{needs}
 use Rattle.checker.proofs.pulling.offer.Statement.{statement}
@@ -31,7 +31,7 @@ judge-requires c κs =
     let l = c .before .before .look in
     let marks : List ℕ = l .last .1 .1 .1 .1 .1 .0 in
     let notes : List ℤ = l .last .1 .1 .1 .1 .1 .1 .0 in
-    let found : Reference → Found = foundBy (a .width) (a .counts) (a .window .now) (a .p .0) in
+    let found : Reference → Found = foundInWindow (a .width) (a .counts) (a .window .now) (a .p .0) in
     offer-judge (a .frames .now) (a .p .0) (a .width) (length (a .window .now)) (length (a .report .now)) (c .before .before .before .before .before .before .before .pre) found marks notes (l .ensures)
 
 enum-told : tie.Need-enum-told
@@ -55,7 +55,7 @@ fill-requires c κs =
     let l = c .before .before .before .before .before .before .before .before .look in
     let marks : List ℕ = l .last .1 .1 .1 .1 .1 .0 in
     let notes : List ℤ = l .last .1 .1 .1 .1 .1 .1 .0 in
-    let found : Reference → Found = foundBy (a .width) (a .counts) (a .window .now) (a .p .0) in
+    let found : Reference → Found = foundInWindow (a .width) (a .counts) (a .window .now) (a .p .0) in
     offer-fill (a .frames .now) (a .p .0) (a .width) (length (a .window .now)) (length (a .report .now)) (c .before .before .before .before .before .before .before .before .before .before .before .before .before .pre) found marks notes (l .ensures)
 
 enum-told-4 : tie.Need-enum-told-4
@@ -67,7 +67,7 @@ returns c =
     let l = c .before .before .before .before .before .look in
     let marks : List ℕ = l .last .1 .1 .1 .1 .1 .0 in
     let notes : List ℤ = l .last .1 .1 .1 .1 .1 .1 .0 in
-    let found : Reference → Found = foundBy (a .width) (a .counts) (a .window .now) (a .p .0) in
+    let found : Reference → Found = foundInWindow (a .width) (a .counts) (a .window .now) (a .p .0) in
     (offer-judged (a .frames .now) (a .p .0) (a .width) (length (a .window .now)) (length (a .report .now)) (c .before .before .before .before .before .before .before .before .before .before .pre) found marks notes (l .ensures) (c .before .before .judge .result) Unsettled (c .before .before .judge .ensures) (c .enum-told .given .1), refl)
 
 returns-2 : tie.Need-returns-2
@@ -76,7 +76,7 @@ returns-2 c =
     let l = c .before .before .before .before .before .look in
     let marks : List ℕ = l .last .1 .1 .1 .1 .1 .0 in
     let notes : List ℤ = l .last .1 .1 .1 .1 .1 .1 .0 in
-    let found : Reference → Found = foundBy (a .width) (a .counts) (a .window .now) (a .p .0) in
+    let found : Reference → Found = foundInWindow (a .width) (a .counts) (a .window .now) (a .p .0) in
     (offer-judged (a .frames .now) (a .p .0) (a .width) (length (a .window .now)) (length (a .report .now)) (c .before .before .before .before .before .before .before .before .before .before .pre) found marks notes (l .ensures) (c .before .before .judge .result) True (c .before .before .judge .ensures) (c .enum-told2 .given .1), refl)
 
 same-length : tie.Need-same-length
@@ -88,7 +88,7 @@ returns-3 c =
     let l = c .before .before .before .before .before .before .before .before .before .before .before .look in
     let marks : List ℕ = l .last .1 .1 .1 .1 .1 .0 in
     let notes : List ℤ = l .last .1 .1 .1 .1 .1 .1 .0 in
-    let found : Reference → Found = foundBy (a .width) (a .counts) (a .window .now) (a .p .0) in
+    let found : Reference → Found = foundInWindow (a .width) (a .counts) (a .window .now) (a .p .0) in
     let b : Bytes (a .frames .now) = bytes-by (a .frames .now) (λ i l. c .before .before .before .before .before .before .before .before .before .before .before .before .before .before .before .shared-slice-known .given i .fits) in
     (offer-judged (a .frames .now) (a .p .0) (a .width) (length (a .window .now)) (length (a .report .now)) (c .before .before .before .before .before .before .before .before .before .before .before .before .before .before .before .before .pre) found marks notes (l .ensures) (c .before .before .before .before .before .before .before .before .judge .result) False (c .before .before .before .before .before .before .before .before .judge .ensures) (c .before .before .before .before .before .before .enum-told3 .given .1), c .before .before .fill .ensures ∙ ap (λ (x : List ℕ). written x (a .report .now)) (offer-report (a .frames .now) (a .p .0) (a .width) (length (a .window .now)) (length (a .report .now)) (c .before .before .before .before .before .before .before .before .before .before .before .before .before .before .before .before .pre) found marks notes (l .ensures) b))
 
@@ -98,7 +98,7 @@ returns-4 c =
     let l = c .before .before .before .before .before .look in
     let marks : List ℕ = l .last .1 .1 .1 .1 .1 .0 in
     let notes : List ℤ = l .last .1 .1 .1 .1 .1 .1 .0 in
-    let found : Reference → Found = foundBy (a .width) (a .counts) (a .window .now) (a .p .0) in
+    let found : Reference → Found = foundInWindow (a .width) (a .counts) (a .window .now) (a .p .0) in
     (offer-judged (a .frames .now) (a .p .0) (a .width) (length (a .window .now)) (length (a .report .now)) (c .before .before .before .before .before .before .before .before .before .before .pre) found marks notes (l .ensures) (c .before .before .judge .result) Unknown (c .before .before .judge .ensures) (c .enum-told4 .given .1), refl)
 
 pub offer-spec : {M : Type 1} → statement M
