@@ -120,9 +120,9 @@ verdicts-kept (pulled a report ∷ os) = ap (handed a) (verdicts-kept os)
 pub raised-log : {frames : List ℕ} {w : ℕ} {win : List ℤ} → Unrefused frames w win
     → (other : List ℕ) → lineOf other ≡ line.refused 15 0 → (cs : List Call) → RaisedLog frames w win other cs
 raised-log {frames} {w} o other named cs =
-    let same = Lists.answers o (map (raisedCall other) cs) ∙ all-outs frames w other named cs atFirst in
+    let same = Lists.answers o (map (raisedCall other) cs) ∙ all-outs frames w other named cs (atFirst frames) in
     record {
       answers = same;
-      verdicts-same = ap verdicts same ∙ verdicts-kept (outs (oldMachineFor frames w) cs atFirst);
-      state = Lists.state o (map (raisedCall other) cs) ∙ ap tallyOf (all-end frames w other named cs atFirst);
+      verdicts-same = ap verdicts same ∙ verdicts-kept (outs (oldMachineFor frames w) cs (atFirst frames));
+      state = Lists.state o (map (raisedCall other) cs) ∙ ap tallyOf (all-end frames w other named cs (atFirst frames));
     }

@@ -90,7 +90,7 @@ module _ (e : ℕ) (notes : List ℤ) where
 
 module _ {frames : List ℕ} {w : ℕ} {win : List ℤ} (o : Unrefused frames w win) (cs : List Call) where
   abbrev machineEnd : Machine
-  machineEnd = end (machineFor frames w) cs atFirst
+  machineEnd = end (machineFor frames w) cs (atFirst frames)
 
   abbrev checkerEnd : Checker
   checkerEnd = end checker cs (fresh frames w win)
@@ -105,7 +105,7 @@ module _ {frames : List ℕ} {w : ℕ} {win : List ℤ} (o : Unrefused frames w 
   feed-answer line = ap answerOf (out-step frames w (opened-fine o) machineEnd checkerEnd (in-step o cs) (feed line))
 
   pub waiting-exactly : (buffer : List ℕ) → (pullDef (end checker cs (fresh frames w win) .state) (end checker cs (fresh frames w win) .words) buffer .answer ≡ waiting)
-      ↔ ((reportLeast ≤ length buffer) × (settled (end (machineFor frames w) cs atFirst .next) (foundIn (end (machineFor frames w) cs atFirst .lists) (end (machineFor frames w) cs atFirst .next)) (treeOf frames) ≡ false))
+      ↔ ((reportLeast ≤ length buffer) × (settled (end (machineFor frames w) cs (atFirst frames) .next) (foundIn (end (machineFor frames w) cs (atFirst frames) .lists) (end (machineFor frames w) cs (atFirst frames) .next)) (treeOf frames) ≡ false))
   unfolding pullRead
   waiting-exactly buffer =
       let a = pull-answer buffer in
@@ -127,8 +127,8 @@ module _ {frames : List ℕ} {w : ℕ} {win : List ℤ} (o : Unrefused frames w 
     count-e r = count-of machineEnd e (referenced-below 8 (references (treeOf frames)) e (λ x h. opened-fine o .limits x h .event) r)
 
     pub accepted-exactly : (feedDef (end checker cs (fresh frames w win) .state) (end checker cs (fresh frames w win) .words) line .answer ≡ accepted)
-        ↔ ((referenced (references (treeOf frames)) e ≡ true) × (length (end (machineFor frames w) cs atFirst .lists e) < lineLimit)
-        × (length (end (machineFor frames w) cs atFirst .lists e) < base (references (treeOf frames)) e (end (machineFor frames w) cs atFirst .next) + w))
+        ↔ ((referenced (references (treeOf frames)) e ≡ true) × (length (end (machineFor frames w) cs (atFirst frames) .lists e) < lineLimit)
+        × (length (end (machineFor frames w) cs (atFirst frames) .lists e) < base (references (treeOf frames)) e (end (machineFor frames w) cs (atFirst frames) .next) + w))
     accepted-exactly =
         let n = countOf (tallyOf machineEnd) e in
         let B = base (references (treeOf frames)) e (machineEnd .next) + w in (
@@ -139,8 +139,8 @@ module _ {frames : List ℕ} {w : ℕ} {win : List ℤ} (o : Unrefused frames w 
         )
 
     pub full-exactly : (feedDef (end checker cs (fresh frames w win) .state) (end checker cs (fresh frames w win) .words) line .answer ≡ refused 17 0)
-        ↔ ((referenced (references (treeOf frames)) e ≡ true) × (length (end (machineFor frames w) cs atFirst .lists e) < lineLimit)
-        × (base (references (treeOf frames)) e (end (machineFor frames w) cs atFirst .next) + w ≤ length (end (machineFor frames w) cs atFirst .lists e)))
+        ↔ ((referenced (references (treeOf frames)) e ≡ true) × (length (end (machineFor frames w) cs (atFirst frames) .lists e) < lineLimit)
+        × (base (references (treeOf frames)) e (end (machineFor frames w) cs (atFirst frames) .next) + w ≤ length (end (machineFor frames w) cs (atFirst frames) .lists e)))
     full-exactly =
         let n = countOf (tallyOf machineEnd) e in
         let B = base (references (treeOf frames)) e (machineEnd .next) + w in (
@@ -150,8 +150,8 @@ module _ {frames : List ℕ} {w : ℕ} {win : List ℤ} (o : Unrefused frames w 
               (lt-leb lineLimit n (subst (λ (x : ℕ). x < lineLimit) (sym (count-e (h .0))) (h .1))) (le-leb B n (subst (λ (x : ℕ). B ≤ x) (sym (count-e (h .0))) (h .2))),
         )
 
-  pub window-holds : (e k n : ℕ) → e < 8 → base (references (treeOf frames)) e (end (machineFor frames w) cs atFirst .next) ≤ k → k < length (end (machineFor frames w) cs atFirst .lists e) → n < 4
-      → getD (end checker cs (fresh frames w win) .words) (wordAt w e k n) (pos 0) ≡ getD (getD (end (machineFor frames w) cs atFirst .lists e) k []) n (pos 0)
+  pub window-holds : (e k n : ℕ) → e < 8 → base (references (treeOf frames)) e (end (machineFor frames w) cs (atFirst frames) .next) ≤ k → k < length (end (machineFor frames w) cs (atFirst frames) .lists e) → n < 4
+      → getD (end checker cs (fresh frames w win) .words) (wordAt w e k n) (pos 0) ≡ getD (getD (end (machineFor frames w) cs (atFirst frames) .lists e) k []) n (pos 0)
   window-holds = in-step o cs .sim .live
 
 -- ---- opening

@@ -17,7 +17,7 @@ use Rattle.verdict.specs.declared.Truth.the-variants as truths
 use Rattle.verdict.specs.declared.Judgement.{Judgement}
 use Rattle.verdict.specs.declared.Judgement.the-variants.{Unsettled}
 use Rattle.verdict.proofs.Main.{lines-stay}
-use Rattle.checker.specs.Base.{firstInstance}
+use Rattle.checker.specs.Base.{firstFor}
 use Rattle.checker.specs.Feed.{FeedRead, turned, skipped, taken, feedAnswer}
 use Rattle.checker.specs.Pull.{PullRead, short, waits, gave, pullAnswer}
 use Rattle.checker.specs.Calls.{Call, feed, pull, outs, end, checker}
@@ -108,13 +108,13 @@ module _ (frames : List ℕ) (w : ℕ) where
       (all-handed cs (afterPull m x))
 
 module _ {frames : List ℕ} {w : ℕ} {win : List ℤ} (o : Unrefused frames w win) (cs : List Call) where
-  pub verdicts-same : verdicts (outs checker cs (fresh frames w win)) ≡ verdicts (outs (machineFor frames w) cs atFirst)
+  pub verdicts-same : verdicts (outs checker cs (fresh frames w win)) ≡ verdicts (outs (machineFor frames w) cs (atFirst frames))
   verdicts-same = ap verdicts (lists.answers o cs)
 
   -- instance by instance from the first on, over the machine's lists after the last call
   pub final : map settling.verdict (verdicts (outs checker cs (fresh frames w win)))
-      ≡ span firstInstance (length (verdicts (outs checker cs (fresh frames w win)))) (said frames (end (machineFor frames w) cs atFirst))
-  final = rw verdicts-same (all-handed frames w cs atFirst .0)
+      ≡ span (firstFor frames) (length (verdicts (outs checker cs (fresh frames w win)))) (said frames (end (machineFor frames w) cs (atFirst frames)))
+  final = rw verdicts-same (all-handed frames w cs (atFirst frames) .0)
 
 -- ---- one verdict
 truthIn : Judgement → Truth

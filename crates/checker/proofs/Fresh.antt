@@ -22,6 +22,7 @@ use Rattle.rule.proofs.Laws.{rule-length, AllWithin, references-within}
 use Rattle.numbers.proofs.Bools.{true-false, and-true}
 use Rattle.checker.specs.Limits.{windowWords}
 use Rattle.checker.specs.Answer.{Answer, opened, accepted, ignored, waiting, verdict, refused}
+use Rattle.checker.specs.Base.{firstInstance}
 use Rattle.checker.specs.State.{freshState}
 use Rattle.checker.specs.Open.{OpenResult, widthFits, windowFits, openedAs, notOpened, afterFrames, openDef}
 use Rattle.checker.specs.Calls.{Checker}
@@ -96,8 +97,8 @@ whole-length frames b e =
 abbrev holding : OpenResult → Checker
 holding x = record { state = x .state; words = x .words }
 
-both-fresh : (frames : List ℕ) (w : ℕ) → Bytes frames → checkedOf frames ≡ Accepted → Both frames w atFirst (holding (openedAs frames w))
-unfolding freshState tabulated
+both-fresh : (frames : List ℕ) (w : ℕ) → Bytes frames → checkedOf frames ≡ Accepted → Both frames w (atFirst frames) (holding (openedAs frames w))
+unfolding firstInstance freshState tabulated
 both-fresh frames w b e =
     let h = whole-length frames b e in
     record {
@@ -124,7 +125,7 @@ module _ {frames : List ℕ} {w : ℕ} {win : List ℤ} (o : Unrefused frames w 
   pub opened-fine : Fine frames w
   opened-fine = fine frames w win (o .bytes) (passed frames w win (o .answer))
 
-  pub both-opened : Both frames w atFirst (fresh frames w win)
+  pub both-opened : Both frames w (atFirst frames) (fresh frames w win)
   both-opened =
       let p = passed frames w win (o .answer) in
-      subst (λ (x : OpenResult). Both frames w atFirst (holding x)) (sym (p .result)) (both-fresh frames w (o .bytes) (p .accepted))
+      subst (λ (x : OpenResult). Both frames w (atFirst frames) (holding x)) (sym (p .result)) (both-fresh frames w (o .bytes) (p .accepted))

@@ -261,4 +261,4 @@ module _ (s : State) (win : List ℤ) where
 
 -- ---- a fresh one
 pub good-open : {frames : List ℕ} {w : ℕ} {win : List ℤ} → Unrefused frames w win → goodState (openDef frames w win .state) ≡ true
-good-open {frames} {w} {win} o = good frames w (opened-fine o) atFirst (fresh frames w win) (both-opened o)
+good-open {frames} {w} {win} o = good frames w (opened-fine o) (atFirst frames) (fresh frames w win) (both-opened o)

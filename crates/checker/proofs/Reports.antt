@@ -18,7 +18,7 @@ use Rattle.verdict.specs.declared.Meant.the-variants.{Void, At}
 use Rattle.verdict.specs.declared.Truth.{Truth}
 use Rattle.verdict.specs.declared.Truth.the-variants.{False, Unknown}
 use Rattle.verdict.proofs.Main.{lines-gain}
-use Rattle.checker.specs.Base.{firstInstance}
+use Rattle.checker.specs.Base.{firstFor}
 use Rattle.checker.specs.Feed.{FeedRead, turned, skipped, taken, feedAnswer}
 use Rattle.checker.specs.Report.{reportBytes, written}
 use Rattle.checker.specs.Pull.{PullRead, short, waits, gave, pullAnswer, pullReport}
@@ -114,9 +114,9 @@ module _ (frames : List ℕ) (w : ℕ) where
 
   more-before : (front rest cs : List Call) → front ++ rest ≡ cs
       → MoreLines (machineAfter frames w front .lists) (machineAfter frames w cs .lists)
-  more-before front rest cs q = rw (sym q) (more-front front rest atFirst)
+  more-before front rest cs q = rw (sym q) (more-front front rest (atFirst frames))
 
-  reported : (cs : List Call) (i : ℕ) (report : List ℕ) → Wrote atFirst cs i report → Reported frames w cs i report
+  reported : (cs : List Call) (i : ℕ) (report : List ℕ) → Wrote (atFirst frames) cs i report → Reported frames w cs i report
   reported cs i report h =
       let more = more-before (h .before) (pull (h .buffer) ∷ h .after) cs (h .split) in
       record {
@@ -131,10 +131,10 @@ module _ (frames : List ℕ) (w : ℕ) where
 
 module _ {frames : List ℕ} {w : ℕ} {win : List ℤ} (o : Unrefused frames w win) (cs : List Call) where
   pub report : (i : ℕ) → getD (handedOut frames w win cs) i Unknown ≡ False
-      → Reported frames w cs (firstInstance + i) (getD (reportsOut frames w win cs) i [])
+      → Reported frames w cs (firstFor frames + i) (getD (reportsOut frames w win cs) i [])
   report i q =
-      let h = all-wrote frames w cs atFirst i (rw (sym (lists.answers o cs)) q) in
-      rw (lists.answers o cs) (reported frames w cs (firstInstance + i) _ h)
+      let h = all-wrote frames w cs (atFirst frames) i (rw (sym (lists.answers o cs)) q) in
+      rw (lists.answers o cs) (reported frames w cs (firstFor frames + i) _ h)
 
 -- ---- two lists whose lines begin the same ones
 free-by : (x y : Found) (z : ℤ) (t : Bool) → Gains x (cond t (present z) pending) → Gains y (cond t (present z) pending) → FreeBetween x y
@@ -159,7 +159,7 @@ module _ {frames : List ℕ} {w w′ : ℕ} {win win′ : List ℤ}
     (o : Unrefused frames w win) (o′ : Unrefused frames w′ win′) (cs cs′ : List Call) where
   pub two-reports : MoreLines (machineAfter frames w cs .lists) (machineAfter frames w′ cs′ .lists) → (i : ℕ)
       → getD (handedOut frames w win cs) i Unknown ≡ False → getD (handedOut frames w′ win′ cs′) i Unknown ≡ False
-      → ReportedTwice frames w w′ cs cs′ (firstInstance + i)
+      → ReportedTwice frames w w′ cs cs′ (firstFor frames + i)
       (getD (reportsOut frames w win cs) i []) (getD (reportsOut frames w′ win′ cs′) i [])
   two-reports more i q q′ =
       let x = report o cs i q in
@@ -172,11 +172,11 @@ module _ {frames : List ℕ} {w w′ : ℕ} {win win′ : List ℤ}
       record {
         first = x;
         second = y;
-        marks = free-between a b c (more-trans a (machineAfter frames w cs .lists) c first more) second (firstInstance + i);
+        marks = free-between a b c (more-trans a (machineAfter frames w cs .lists) c first more) second (firstFor frames + i);
       }
 
-  pub order-reports : Reordered (acceptedIn frames w cs atFirst) (acceptedIn frames w′ cs′ atFirst) → (i : ℕ)
+  pub order-reports : Reordered (acceptedIn frames w cs (atFirst frames)) (acceptedIn frames w′ cs′ (atFirst frames)) → (i : ℕ)
       → getD (handedOut frames w win cs) i Unknown ≡ False → getD (handedOut frames w′ win′ cs′) i Unknown ≡ False
-      → ReportedTwice frames w w′ cs cs′ (firstInstance + i)
+      → ReportedTwice frames w w′ cs cs′ (firstFor frames + i)
       (getD (reportsOut frames w win cs) i []) (getD (reportsOut frames w′ win′ cs′) i [])
   order-reports r = two-reports (order-more frames w w′ cs cs′ r)

@@ -8,7 +8,7 @@ use lib.ListN.{length}
 use Rattle.rule.specs.Build.{treeOf}
 use Rattle.verdict.specs.declared.Truth.{Truth}
 use Rattle.verdict.specs.declared.Truth.the-variants.{True, False, Unknown}
-use Rattle.checker.specs.Base.{firstInstance}
+use Rattle.checker.specs.Base.{firstFor}
 use Rattle.checker.specs.State.{Tally}
 use Rattle.checker.specs.Feed.{FeedRead, turned, skipped, taken, feedAnswer}
 use Rattle.checker.specs.Pull.{PullRead, short, waits, gave, pullAnswer}
@@ -53,9 +53,9 @@ module _ (frames : List ℕ) (w : ℕ) where
       let x = machinePull (treeOf frames) w m buffer in
       counted-pulled m (end (machineFor frames w) cs (afterPull m x)) x (verdicts (outs (machineFor frames w) cs (afterPull m x))) (all-counted cs (afterPull m x))
 
--- from 0 on
-sums-are : (m : Machine) (vs : List Truth) → Counted atFirst m vs → (m .next ≡ firstInstance + length vs) × (m .totals ≡ totalsOf vs)
-sums-are m vs c =
+-- from the first instance on
+sums-are : (frames : List ℕ) (m : Machine) (vs : List Truth) → Counted (atFirst frames) m vs → (m .next ≡ firstFor frames + length vs) × (m .totals ≡ totalsOf vs)
+sums-are frames m vs c =
     let h : m .totals .held ≡ countIn vs True = c .held ∙ omega arith in
     let f : m .totals .failed ≡ countIn vs False = c .failed ∙ omega arith in
     let u : m .totals .unknown ≡ countIn vs Unknown = c .unknown ∙ omega arith in
@@ -69,10 +69,10 @@ sums-are m vs c =
 
 module _ {frames : List ℕ} {w : ℕ} {win : List ℤ} (o : Unrefused frames w win) (cs : List Call) where
   -- in the checker's state
-  pub sums : (end checker cs (fresh frames w win) .state .next .0 ≡ firstInstance + length (verdicts (outs checker cs (fresh frames w win))))
+  pub sums : (end checker cs (fresh frames w win) .state .next .0 ≡ firstFor frames + length (verdicts (outs checker cs (fresh frames w win))))
       × (end checker cs (fresh frames w win) .state .totals ≡ totalsOf (verdicts (outs checker cs (fresh frames w win))))
   sums =
       let t = lists.state o cs in
       let v = verdicts-same o cs in
-      let c = sums-are (end (machineFor frames w) cs atFirst) (verdicts (outs (machineFor frames w) cs atFirst)) (all-counted frames w cs atFirst) in
-      (ap (λ (x : Tally). x .next) t ∙ c .0 ∙ ap (λ (l : List Truth). firstInstance + length l) (sym v), ap (λ (x : Tally). x .totals) t ∙ c .1 ∙ ap totalsOf (sym v))
+      let c = sums-are frames (end (machineFor frames w) cs (atFirst frames)) (verdicts (outs (machineFor frames w) cs (atFirst frames))) (all-counted frames w cs (atFirst frames)) in
+      (ap (λ (x : Tally). x .next) t ∙ c .0 ∙ ap (λ (l : List Truth). firstFor frames + length l) (sym v), ap (λ (x : Tally). x .totals) t ∙ c .1 ∙ ap totalsOf (sym v))

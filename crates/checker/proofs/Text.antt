@@ -17,7 +17,7 @@ use Rattle.verdict.specs.Found.{foundIn}
 use Rattle.verdict.specs.Value.{value}
 use Rattle.verdict.specs.declared.Truth.the-variants.{Unknown}
 use Rattle.checker.specs.Answer.{opened}
-use Rattle.checker.specs.Base.{firstInstance}
+use Rattle.checker.specs.Base.{firstFor}
 use Rattle.checker.specs.Open.{openDef}
 use Rattle.checker.specs.Calls.{Call}
 use Rattle.checker.specs.Demand.{machineAfter, handedOut}
@@ -27,7 +27,7 @@ module _ (text buffer filled : List ℕ) (n : ℕ) (r : readOf text buffer ≡ (
   pub text-to-verdict : (w : ℕ) (win : List ℤ) → openDef (take (n * frameBytes) filled) w win .answer ≡ opened → (cs : List Call) (i : ℕ)
       → i < length (handedOut (take (n * frameBytes) filled) w win cs)
       → getD (handedOut (take (n * frameBytes) filled) w win cs) i Unknown
-      ≡ value (firstInstance + i) (foundIn (machineAfter (take (n * frameBytes) filled) w cs .lists) (firstInstance + i)) (meaning text x)
+      ≡ value (firstFor (take (n * frameBytes) filled) + i) (foundIn (machineAfter (take (n * frameBytes) filled) w cs .lists) (firstFor (take (n * frameBytes) filled) + i)) (meaning text x)
   text-to-verdict w win o cs i h =
       value-of (record { bytes = read-bytes text buffer n filled r; answer = o }) cs i h
-      ∙ ap (λ (t : Cond). value (firstInstance + i) (foundIn (machineAfter (take (n * frameBytes) filled) w cs .lists) (firstInstance + i)) t) (read-tree text buffer n filled r x spelled)
+      ∙ ap (λ (t : Cond). value (firstFor (take (n * frameBytes) filled) + i) (foundIn (machineAfter (take (n * frameBytes) filled) w cs .lists) (firstFor (take (n * frameBytes) filled) + i)) t) (read-tree text buffer n filled r x spelled)

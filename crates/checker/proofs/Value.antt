@@ -1,5 +1,5 @@
 -- Each verdict that a list of calls hands out is the value of the rule's tree at its instance. Assumes nothing.
-use mathlib.Core.Path.{_≡_, refl, sym, _∙_}
+use mathlib.Core.Path.{_≡_}
 use mathlib.Core.Bool.{Bool, true, false, cond}
 use mathlib.Core.List.{List}
 use Prim.Native.Nat.{ℕ, _+_, _<_}
@@ -12,9 +12,8 @@ use Rattle.verdict.specs.Settled as settling
 use Rattle.verdict.specs.Value.{value}
 use Rattle.verdict.specs.declared.Truth.{Truth}
 use Rattle.verdict.specs.declared.Truth.the-variants.{Unknown}
-use Rattle.verdict.specs.declared.Judgement.{Judgement}
 use Rattle.verdict.specs.declared.Judgement.the-variants.{Unsettled}
-use Rattle.checker.specs.Base.{firstInstance}
+use Rattle.checker.specs.Base.{firstFor}
 use Rattle.checker.specs.Calls.{Call}
 use Rattle.checker.specs.Demand.{Unrefused, machineAfter, handedOut}
 use Rattle.checker.proofs.Simulation.{verdict-settled}
@@ -27,9 +26,9 @@ from-said false v t q = absurd (verdict-settled v q)
 
 module _ {frames : List ℕ} {w : ℕ} {win : List ℤ} (o : Unrefused frames w win) (cs : List Call) where
   pub value-of : (i : ℕ) → i < length (handedOut frames w win cs)
-      → getD (handedOut frames w win cs) i Unknown ≡ value (firstInstance + i) (foundIn (machineAfter frames w cs .lists) (firstInstance + i)) (treeOf frames)
+      → getD (handedOut frames w win cs) i Unknown ≡ value (firstFor frames + i) (foundIn (machineAfter frames w cs .lists) (firstFor frames + i)) (treeOf frames)
   value-of i h =
       let m = machineAfter frames w cs in
-      let j = firstInstance + i in
+      let j = firstFor frames + i in
       from-said (settled j (foundIn (m .lists) j) (treeOf frames)) (getD (handedOut frames w win cs) i Unknown) (value j (foundIn (m .lists) j) (treeOf frames))
-      (span-at (handedOut frames w win cs) firstInstance (said frames m) i (final o cs) h)
+      (span-at (handedOut frames w win cs) (firstFor frames) (said frames m) i (final o cs) h)

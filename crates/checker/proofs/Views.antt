@@ -1,6 +1,6 @@
 -- A view is the instance and the verdict of its report: after one pull, and over every list of calls. Assumes nothing.
 use mathlib.Core.Path.{_≡_, refl, sym, _∙_, ap, ap₂}
-use mathlib.Core.List.{List, [], _∷_, _++_, map}
+use mathlib.Core.List.{List, [], _∷_, map}
 use mathlib.Core.Logic.{_↔_}
 use Prim.Native.Nat.{ℕ, _+_, _*_, _/_, _%_, _≤_}
 use native.Mathlib.Omega.{arith}
@@ -18,7 +18,7 @@ use Rattle.verdict.specs.declared.Judgement.{Judgement}
 use Rattle.verdict.specs.declared.Judgement.the-variants.{Unsettled, True, False, Unknown}
 use Rattle.checker.specs.Limits.{reportLeast}
 use Rattle.checker.specs.Answer.{Answer, opened, accepted, ignored, waiting, verdict, refused}
-use Rattle.checker.specs.Base.{firstInstance}
+use Rattle.checker.specs.Base.{firstFor}
 use Rattle.checker.specs.State.{ruleIn, refsIn}
 use Rattle.checker.specs.Report.{reportBytes, written}
 use Rattle.checker.specs.Feed.{FeedRead, turned, skipped, taken, feedAnswer}
@@ -149,7 +149,7 @@ module _ (frames : List ℕ) (w : ℕ) where
 
 module _ {frames : List ℕ} {w : ℕ} {win : List ℤ} (o : Unrefused frames w win) (cs : List Call) where
   pub views-seen : viewsOut frames w win cs ≡ map seen (reportedOut frames w win cs)
-  views-seen = rw (lists.answers o cs) (all-seen frames w cs atFirst)
+  views-seen = rw (lists.answers o cs) (all-seen frames w cs (atFirst frames))
 
 -- ---- a view fixes the instance and the verdict
 -- the number of a word's four bytes
@@ -183,9 +183,9 @@ module _ {frames : List ℕ} {w w′ : ℕ} {win win′ : List ℤ}
   same-reported : viewsOut frames w win cs ≡ viewsOut frames w′ win′ cs′
       → reportedOut frames w win cs ≡ reportedOut frames w′ win′ cs′
   same-reported e =
-      sym (reported-back firstInstance _)
+      sym (reported-back (firstFor frames) _)
       ∙ ap (map reported) (sym (views-seen o cs) ∙ e ∙ views-seen o′ cs′)
-      ∙ reported-back firstInstance _
+      ∙ reported-back (firstFor frames) _
 
   pub views-exactly : (viewsOut frames w win cs ≡ viewsOut frames w′ win′ cs′)
       ↔ (reportedOut frames w win cs ≡ reportedOut frames w′ win′ cs′)

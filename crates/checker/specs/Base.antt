@@ -4,7 +4,8 @@ use mathlib.Core.Bool.{Bool, true, false, cond}
 use mathlib.Core.List.{List, [], _∷_, map}
 use Prim.Native.Nat.{ℕ, min}
 use lib.Dec.{eqb}
-use Rattle.rule.specs.Tree.{Reference}
+use Rattle.rule.specs.Tree.{Reference, references}
+use Rattle.rule.specs.Build.{treeOf}
 use Rattle.verdict.specs.Found.{meant}
 use Rattle.verdict.specs.declared.Meant.{Meant}
 use Rattle.verdict.specs.declared.Meant.the-variants.{Void, At}
@@ -42,6 +43,10 @@ smallest (n ∷ (m ∷ ns)) = min n (smallest (m ∷ ns))
 unfoldable pub base : List Reference → ℕ → ℕ → ℕ
 base refs e p = smallest (map (startAt p) (ofEvent e refs))
 
--- "the number p of verdicts pulled .. 0 at first": verdicts are pulled from instance 0 on
-abbrev pub firstInstance : ℕ
-firstInstance = 0
+-- "the number p of verdicts pulled .. 0 at first": verdicts are pulled from instance 0 on, whatever a rule's references are
+unfoldable pub firstInstance : List Reference → ℕ
+firstInstance refs = 0
+
+-- so of "the rule .. that opening was given", as frames
+abbrev pub firstFor : List ℕ → ℕ
+firstFor frames = firstInstance (references (treeOf frames))

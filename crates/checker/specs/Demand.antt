@@ -16,7 +16,7 @@ use Rattle.verdict.specs.Later.{Gains}
 use Rattle.verdict.specs.declared.Truth.{Truth}
 use Rattle.verdict.specs.declared.Truth.the-variants.{True, False, Unknown}
 use Rattle.checker.specs.Answer.{Answer, opened, accepted, ignored, waiting, verdict, refused}
-use Rattle.checker.specs.Base.{firstInstance}
+use Rattle.checker.specs.Base.{firstFor}
 use Rattle.checker.specs.State.{tallyIn}
 use Rattle.checker.specs.Report.{reportBytes, written}
 use Rattle.checker.specs.Open.{openDef}
@@ -87,7 +87,7 @@ checkerAfter frames w win cs = end checker cs (fresh frames w win)
 
 -- "the machine's lists after the last call", with its p and totals
 abbrev pub machineAfter : List ℕ → ℕ → List Call → Machine
-machineAfter frames w cs = end (machineFor frames w) cs atFirst
+machineAfter frames w cs = end (machineFor frames w) cs (atFirst frames)
 
 -- "verdicts pulled" from the checker
 abbrev pub handedOut : List ℕ → ℕ → List ℤ → List Call → List Truth
@@ -96,15 +96,15 @@ handedOut frames w win cs = verdicts (outs checker cs (fresh frames w win))
 -- ---- "The third demand is a single claim about the whole list and not one for each call"
 pub record ThirdDemand (frames : List ℕ) (w : ℕ) (win : List ℤ) (cs : List Call) : Type 0 where
   -- "After every list, each answer with its number and place and each report buffer after its pull are as the machine gave them"
-  pub answers : outs checker cs (fresh frames w win) ≡ outs (machineFor frames w) cs atFirst
+  pub answers : outs checker cs (fresh frames w win) ≡ outs (machineFor frames w) cs (atFirst frames)
   -- "and the counts, p and totals in the state are the machine's"
   pub state : tallyIn (checkerAfter frames w win cs .state) ≡ tallyOf (machineAfter frames w cs)
   -- "The definition over all lines accepted in the list is the one over the machine's lists after the last call"
   pub final : map settling.verdict (handedOut frames w win cs)
-      ≡ span firstInstance (length (handedOut frames w win cs))
+      ≡ span (firstFor frames) (length (handedOut frames w win cs))
       (λ (i : ℕ). judgement i (foundIn (machineAfter frames w cs .lists) i) (treeOf frames))
   -- "the totals true, false, unknown, which sum to p"
-  pub totals : (checkerAfter frames w win cs .state .next .0 ≡ firstInstance + length (handedOut frames w win cs))
+  pub totals : (checkerAfter frames w win cs .state .next .0 ≡ firstFor frames + length (handedOut frames w win cs))
       × (checkerAfter frames w win cs .state .totals ≡ totalsOf (handedOut frames w win cs))
   -- "So 12 and 13 never come in such a list"
   pub never-12-13 : (x : Out) → List·Memᴰ x (outs checker cs (fresh frames w win)) → (place : ℕ)

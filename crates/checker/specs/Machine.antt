@@ -11,7 +11,7 @@ use Rattle.rule.specs.Build.{treeOf}
 use Rattle.log.specs.Line.{lineOf}
 use Rattle.verdict.specs.Found.{Found, foundIn}
 use Rattle.verdict.specs.declared.Truth.{Truth}
-use Rattle.checker.specs.Base.{firstInstance}
+use Rattle.checker.specs.Base.{firstFor}
 use Rattle.checker.specs.State.{noTotals, counted, Tally}
 use Rattle.checker.specs.Feed.{FeedRead, turned, skipped, taken, feedRead, feedAnswer}
 use Rattle.checker.specs.Pull.{PullRead, short, waits, gave, pullRead, pullAnswer, pullReport}
@@ -24,10 +24,6 @@ pub record Machine : Type 0 where
   pub lists : ℕ → List (List ℤ)
   pub next : ℕ
   pub totals : Totals
-
--- "empty at first .. 0 at first"
-abbrev pub atFirst : Machine
-atFirst = record { lists = λ e. []; next = firstInstance; totals = noTotals }
 
 -- f at 0, 1, .., n - 1, for what there is "per event"
 unfoldable pub tabulated : {A : Type 0} → ℕ → (ℕ → A) → List A
@@ -90,3 +86,7 @@ module _ (rule : Cond) (w : ℕ) where
 -- "the rule and W that opening was given", the rule as frames
 abbrev pub machineFor : List ℕ → ℕ → Machine → Call → Step Machine
 machineFor frames w = machine (treeOf frames) w
+
+-- "empty at first .. 0 at first", the rule as frames
+abbrev pub atFirst : List ℕ → Machine
+atFirst frames = record { lists = λ e. []; next = firstFor frames; totals = noTotals }

@@ -9,7 +9,7 @@ use Rattle.rule.specs.Tree.{Reference, Cond, references}
 use Rattle.rule.specs.Build.{treeOf}
 use Rattle.verdict.specs.declared.Truth.{Truth}
 use Rattle.verdict.specs.declared.Truth.the-variants.{True, False, Unknown}
-use Rattle.checker.specs.Base.{firstInstance}
+use Rattle.checker.specs.Base.{firstFor}
 use Rattle.checker.specs.declared.Totals.{Totals}
 use Rattle.checker.specs.declared.State.{State}
 
@@ -63,7 +63,7 @@ freshState frames w =
       len = length frames / frameBytes;
       width = w;
       counts = replicate eventLimit 0;
-      next = record { 0 = firstInstance };
+      next = record { 0 = firstFor frames };
       totals = noTotals;
     }
 

@@ -11,7 +11,7 @@ use Rattle.verdict.specs.declared.Truth.{Truth}
 use Rattle.verdict.specs.declared.Truth.the-variants.{True, False, Unknown}
 use Rattle.checker.specs.Limits.{reportLeast}
 use Rattle.checker.specs.Answer.{Answer, opened, accepted, ignored, waiting, verdict, refused}
-use Rattle.checker.specs.Base.{firstInstance}
+use Rattle.checker.specs.Base.{firstFor}
 use Rattle.checker.specs.Report.{falseByte}
 use Rattle.checker.specs.Calls.{Call, Out, fed, pulled, outs, checker}
 use Rattle.checker.specs.Demand.{fresh, handedOut}
@@ -73,7 +73,7 @@ reportedFrom i (v ∷ vs) =
 
 -- those of the verdicts that a list of calls on a fresh checker hands out
 abbrev pub reportedOut : List ℕ → ℕ → List ℤ → List Call → List InstanceVerdict
-reportedOut frames w win cs = reportedFrom firstInstance (handedOut frames w win cs)
+reportedOut frames w win cs = reportedFrom (firstFor frames) (handedOut frames w win cs)
 
 -- "Machine hands get i and the verdict", as document 01 has them in a report: "p before the pull (4 bytes), 00 for false", the only
 -- verdict that fills one

@@ -1,4 +1,5 @@
 -- `checker::opening::fresh` meets its contract. Assumes nothing.
+use Rattle.checker.specs.Base.{firstInstance}
 use Rattle.checker.specs.State.{freshState}
 use borrow.Author.Needs.{needs}
 use Rattle.checker.proofs.opening.fresh.Statement.{statement}
@@ -11,7 +12,7 @@ copied-requires : tie.Need-copied-requires
 copied-requires c κs = search needs
 
 returns : tie.Need-returns
-unfolding freshState
+unfolding firstInstance freshState
 returns c = rw (c .copied .ensures)
 
 pub fresh-spec : {M : Type 1} → statement M
