@@ -28,7 +28,7 @@ use Rattle.checker.specs.Open.{windowFits, OpenResult, openDef}
 use Rattle.checker.specs.Good.{allTo, goodCount, goodRule, goodTally, goodState}
 use Rattle.checker.specs.Demand.{Unrefused}
 use Rattle.checker.specs.Feed.{feedDef}
-use Rattle.checker.specs.Pull.{offered, pullRead, PullResult, foundHere, pulledBy, pullDef}
+use Rattle.checker.specs.Pull.{offered, pullRead, PullResult, givenHere, pulledBy, pullDef}
 use Rattle.checker.specs.declared.State.{State}
 use Rattle.checker.proofs.Laws.{both-opened, good-open, good-feed, good-pull, feed-rule, pull-rule, feed-long}
 use Rattle.bench.specs.Progress.{Progress, blank, pullOf, isVerdict, pulledOnce, UntilWaiting, last, more, pulls, pullLimit, fedLine, afterLine, afterLines}
@@ -72,7 +72,7 @@ module _ (x : Progress) (s : Sound x) where
   unfolding pullDef pullRead
   pulled =
       rw (s .good, s .fits)
-      (pulled-by (x .state) (x .words) (judgement (x .state .next .0) (foundHere (x .state) (x .words)) (ruleIn (x .state))))
+      (pulled-by (x .state) (x .words) (judgement (givenHere (x .state) (x .words)) (ruleIn (x .state))))
 
   sound-pulled : Sound (pulledOnce x)
   unfolding pulledOnce

@@ -27,7 +27,7 @@ use Rattle.checker.specs.State.{refsIn, ruleIn}
 use Rattle.checker.specs.Open.{windowFits, OpenResult, openDef}
 use Rattle.checker.specs.Good.{goodState}
 use Rattle.checker.specs.Report.{entries, reportBytes, written}
-use Rattle.checker.specs.Pull.{PullRead, short, waits, gave, pullRead, PullResult, notPulled, foundHere, pulledBy, pullDef}
+use Rattle.checker.specs.Pull.{PullRead, short, waits, gave, pullRead, PullResult, notPulled, givenHere, foundHere, pulledBy, pullDef}
 use Rattle.checker.specs.declared.State.{State}
 use Rattle.bench.specs.Print.{refusedLine, reportPart}
 use Rattle.bench.specs.Kept.{keptLimit, kept}
@@ -130,7 +130,7 @@ module _ (s : State) (win : List ℤ) where
   pub report-printed : pullDef s win blank .answer ≡ verdict False
       → reportPart (pullDef s win blank .report) ≡ reportBytes (s .next .0) (map (foundHere s win) (refsIn s))
   unfolding pullDef
-  report-printed = by-cases (goodState s) (windowFits (s .width) win) (pullRead (ruleIn s) (s .next .0) (foundHere s win) (length blank))
+  report-printed = by-cases (goodState s) (windowFits (s .width) win) (pullRead (ruleIn s) (givenHere s win) (length blank))
 
 -- ---- digits
 pub hex-back : (b : ℕ) → b < 256 → pairOf (hexDigit (b / 16)) (hexDigit (b % 16)) ≡ Byte b

@@ -21,7 +21,7 @@ use Rattle.rule.proofs.Main.{frames-exactly}
 use Rattle.log.specs.Line.{lineOf}
 use Rattle.log.specs.Line as log
 use Rattle.numbers.proofs.Bools.{and-true, true-and}
-use Rattle.verdict.specs.Found.{foundIn}
+use Rattle.verdict.specs.Found.{givenIn}
 use Rattle.verdict.specs.Value.{value}
 use Rattle.verdict.specs.Settled.{settled}
 use Rattle.verdict.specs.Settled as settling
@@ -97,7 +97,7 @@ module _ {frames : List ℕ} {w : ℕ} {win : List ℤ} (o : Unrefused frames w 
 
   -- the answer to one call more
   pull-answer : (buffer : List ℕ) → pullDef (end checker cs (fresh frames w win) .state) (end checker cs (fresh frames w win) .words) buffer .answer
-      ≡ pullAnswer (pullRead (treeOf frames) (machineEnd .next) (foundIn (machineEnd .lists) (machineEnd .next)) (length buffer))
+      ≡ pullAnswer (pullRead (treeOf frames) (givenIn (machineEnd .lists) (machineEnd .next)) (length buffer))
   pull-answer buffer = ap answerOf (out-step frames w (opened-fine o) machineEnd checkerEnd (in-step o cs) (pull buffer))
 
   feed-answer : (line : List ℕ) → feedDef (end checker cs (fresh frames w win) .state) (end checker cs (fresh frames w win) .words) line .answer
@@ -105,14 +105,14 @@ module _ {frames : List ℕ} {w : ℕ} {win : List ℤ} (o : Unrefused frames w 
   feed-answer line = ap answerOf (out-step frames w (opened-fine o) machineEnd checkerEnd (in-step o cs) (feed line))
 
   pub waiting-exactly : (buffer : List ℕ) → (pullDef (end checker cs (fresh frames w win) .state) (end checker cs (fresh frames w win) .words) buffer .answer ≡ waiting)
-      ↔ ((reportLeast ≤ length buffer) × (settled (end (machineFor frames w) cs (atFirst frames) .next) (foundIn (end (machineFor frames w) cs (atFirst frames) .lists) (end (machineFor frames w) cs (atFirst frames) .next)) (treeOf frames) ≡ false))
+      ↔ ((reportLeast ≤ length buffer) × (settled (givenIn (end (machineFor frames w) cs (atFirst frames) .lists) (end (machineFor frames w) cs (atFirst frames) .next)) (treeOf frames) ≡ false))
   unfolding pullRead
   waiting-exactly buffer =
       let a = pull-answer buffer in
       let t = ltb (length buffer) reportLeast in
-      let f = foundIn (machineEnd .lists) (machineEnd .next) in
-      let s = settled (machineEnd .next) f (treeOf frames) in
-      let v = value (machineEnd .next) f (treeOf frames) in (
+      let g = givenIn (machineEnd .lists) (machineEnd .next) in
+      let s = settled g (treeOf frames) in
+      let v = value g (treeOf frames) in (
         λ q. (let h = waits-by t s v (sym a ∙ q) in (ltb-false (length buffer) reportLeast (h .0), h .1)),
         λ h. a ∙ by-waits t s v (le-ltb (length buffer) reportLeast (h .0)) (h .1),
       )

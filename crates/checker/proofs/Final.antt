@@ -8,7 +8,7 @@ use lib.Dec.{eqb}
 use lib.IntN.{ℤ}
 use lib.ListN.{length, getD}
 use Rattle.rule.specs.Build.{treeOf}
-use Rattle.verdict.specs.Found.{foundIn}
+use Rattle.verdict.specs.Found.{givenIn}
 use Rattle.verdict.specs.Settled.{judgement}
 use Rattle.verdict.specs.Settled as settling
 use Rattle.verdict.specs.Later.{MoreLines}
@@ -69,7 +69,7 @@ module _ (frames : List ℕ) (w : ℕ) where
 
 -- what is said of instance i over a machine's lists
 abbrev pub said : List ℕ → Machine → ℕ → Judgement
-said frames m i = judgement i (foundIn (m .lists) i) (treeOf frames)
+said frames m i = judgement (givenIn (m .lists) i) (treeOf frames)
 
 -- a verdict stays when lines are added
 pub said-stays : (frames : List ℕ) (m m′ : Machine) (i : ℕ) (v : Truth) → MoreLines (m .lists) (m′ .lists) → said frames m i ≡ settling.verdict v → said frames m′ i ≡ settling.verdict v
@@ -87,7 +87,7 @@ module _ (frames : List ℕ) (w : ℕ) where
   handed-fed m m′ skipped vs h = h
   handed-fed m m′ (taken e notes) vs h = h
 
-  handed-pulled : (m m′ : Machine) (x : PullRead) (vs : List Truth) → MoreLines (m .lists) (m′ .lists) → Gave (treeOf frames) (m .next) (foundIn (m .lists) (m .next)) x
+  handed-pulled : (m m′ : Machine) (x : PullRead) (vs : List Truth) → MoreLines (m .lists) (m′ .lists) → Gave (treeOf frames) (givenIn (m .lists) (m .next)) x
       → Handed (afterPull m x) m′ vs → Handed m m′ (handed (pullAnswer x) vs)
   unfolding moved span
   handed-pulled m m′ short vs b g h = h
@@ -104,7 +104,7 @@ module _ (frames : List ℕ) (w : ℕ) where
       let x = machinePull (treeOf frames) w m buffer in
       handed-pulled m (end (machineFor frames w) cs (afterPull m x)) x (verdicts (outs (machineFor frames w) cs (afterPull m x)))
       (more-trans (m .lists) (afterPull m x .lists) (end (machineFor frames w) cs (afterPull m x) .lists) (more-pulled m x) (more-end frames w cs (afterPull m x)))
-      (gave-judged (treeOf frames) (m .next) (foundIn (m .lists) (m .next)) (length buffer))
+      (gave-judged (treeOf frames) (givenIn (m .lists) (m .next)) (length buffer))
       (all-handed cs (afterPull m x))
 
 module _ {frames : List ℕ} {w : ℕ} {win : List ℤ} (o : Unrefused frames w win) (cs : List Call) where

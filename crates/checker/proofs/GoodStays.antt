@@ -29,7 +29,7 @@ use Rattle.checker.specs.Found.{byWindow}
 use Rattle.checker.specs.Open.{windowFits, openDef}
 use Rattle.checker.specs.Good.{allTo, goodRule, goodCount, goodTally, goodState}
 use Rattle.checker.specs.Feed.{FeedRead, turned, skipped, taken, feedRead, FeedResult, fedBy, feedDef}
-use Rattle.checker.specs.Pull.{PullRead, short, waits, gave, pullRead, PullResult, foundHere, pulledBy, pullDef}
+use Rattle.checker.specs.Pull.{PullRead, short, waits, gave, pullRead, PullResult, givenHere, foundHere, pulledBy, pullDef}
 use Rattle.checker.specs.Machine.{atFirst}
 use Rattle.checker.specs.Demand.{Unrefused, fresh}
 use Rattle.checker.specs.declared.State.{State}
@@ -182,11 +182,11 @@ module _ (s : State) (g : goodState s ≡ true) where
         p .named (subst (λ (x : Cond). references x ≡ []) t e)
 
     -- an instance with a verdict is not the last
-    low-in : (win : List ℤ) (v : Truth) → judgement (s .next .0) (foundHere s win) (ruleIn s) ≡ settling.verdict v → s .next .0 < instanceLimit
+    low-in : (win : List ℤ) (v : Truth) → judgement (givenHere s win) (ruleIn s) ≡ settling.verdict v → s .next .0 < instanceLimit
     low-in win v q =
         ⊎-elim
         (λ l. l)
-        (λ (l : instanceLimit ≤ s .next .0). absurd (verdict-settled v (sym q ∙ all-pending (ruleIn s) (s .next .0) (foundHere s win) some-in (late l))))
+        (λ (l : instanceLimit ≤ s .next .0). absurd (verdict-settled v (sym q ∙ all-pending (ruleIn s) (givenHere s win) some-in (late l))))
         (less-or (s .next .0) instanceLimit)
       where
         late : instanceLimit ≤ s .next .0 → (r : Reference) → List·Memᴰ r (refsIn s) → foundHere s win r ≡ pending
@@ -194,7 +194,7 @@ module _ (s : State) (g : goodState s ≡ true) where
             let m = limits-in r h in
             late-pending (byWindow (s .width) (s .counts) win) r (s .next .0) (m .least) (m .offset) (sound-in .counts (r .event) (m .event) .few) l
 
-    pulled-good : (win : List ℤ) (buffer : List ℕ) (x : PullRead) → Gave (ruleIn s) (s .next .0) (foundHere s win) x → goodState (pulledBy s win buffer x .state) ≡ true
+    pulled-good : (win : List ℤ) (buffer : List ℕ) (x : PullRead) → Gave (ruleIn s) (givenHere s win) x → goodState (pulledBy s win buffer x .state) ≡ true
     pulled-good win buffer short t = g
     pulled-good win buffer waits t = g
     pulled-good win buffer (gave v) t = good-gave v (sound-moved (refsIn s) (s .width) (tallyIn s) v sound-in (low-in win v t))
@@ -205,7 +205,7 @@ module _ (s : State) (g : goodState s ≡ true) where
     good-pull win buffer =
         cond-case (λ (x : PullResult). goodState (x .state) ≡ true) (goodState s) _ _
         (λ _. cond-case (λ (x : PullResult). goodState (x .state) ≡ true) (windowFits (s .width) win) _ _
-        (λ _. pulled-good win buffer (pullRead (ruleIn s) (s .next .0) (foundHere s win) (length buffer)) (gave-judged (ruleIn s) (s .next .0) (foundHere s win) (length buffer)))
+        (λ _. pulled-good win buffer (pullRead (ruleIn s) (givenHere s win) (length buffer)) (gave-judged (ruleIn s) (givenHere s win) (length buffer)))
         (λ _. g))
         (λ _. g)
 
@@ -255,7 +255,7 @@ module _ (s : State) (win : List ℤ) where
   pull-rule buffer =
       cond-case (λ (x : PullResult). SameRule s (x .state)) (goodState s) _ _
       (λ _. cond-case (λ (x : PullResult). SameRule s (x .state)) (windowFits (s .width) win) _ _
-      (λ _. rule-pulled buffer (pullRead (ruleIn s) (s .next .0) (foundHere s win) (length buffer)))
+      (λ _. rule-pulled buffer (pullRead (ruleIn s) (givenHere s win) (length buffer)))
       (λ _. rule-same s))
       (λ _. rule-same s)
 

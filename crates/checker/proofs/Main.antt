@@ -19,7 +19,7 @@ use Rattle.rule.specs.declared.Reading.the-variants as reading
 use Rattle.log.specs.Line.{lineOf}
 use Rattle.log.specs.Line as log
 use Rattle.log.proofs.Main.{zeros-refused, empty-refused}
-use Rattle.verdict.specs.Found.{instanceLimit, foundIn}
+use Rattle.verdict.specs.Found.{instanceLimit, givenIn}
 use Rattle.verdict.specs.Value.{value}
 use Rattle.verdict.specs.Settled.{settled, judgement}
 use Rattle.verdict.specs.Settled as settling
@@ -74,7 +74,7 @@ module _ {frames : List ℕ} {w : ℕ} {win : List ℤ} (o : Unrefused frames w 
   -- the verdicts handed out are those of settled instances, from the first on, by the definition over the machine's lists after
   -- the last call
   pub third-final : map settling.verdict (handedOut frames w win cs)
-      ≡ span (firstFor frames) (length (handedOut frames w win cs)) (λ (i : ℕ). judgement i (foundIn (machineAfter frames w cs .lists) i) (treeOf frames))
+      ≡ span (firstFor frames) (length (handedOut frames w win cs)) (λ (i : ℕ). judgement (givenIn (machineAfter frames w cs .lists) i) (treeOf frames))
   third-final = Final.final o cs
 
   -- p and the totals in the state count them
@@ -95,7 +95,7 @@ module _ {frames : List ℕ} {w : ℕ} {win : List ℤ} (o : Unrefused frames w 
   pub waiting-exactly : (buffer : List ℕ)
       → (pullDef (checkerAfter frames w win cs .state) (checkerAfter frames w win cs .words) buffer .answer ≡ waiting)
       ↔ ((reportLeast ≤ length buffer)
-      × (settled (machineAfter frames w cs .next) (foundIn (machineAfter frames w cs .lists) (machineAfter frames w cs .next)) (treeOf frames) ≡ false))
+      × (settled (givenIn (machineAfter frames w cs .lists) (machineAfter frames w cs .next)) (treeOf frames) ≡ false))
   waiting-exactly = Exactly.waiting-exactly o cs
 
   -- accepted exactly where the event is referenced, has fewer than 1,000,000 lines and has not reached base plus W
@@ -125,7 +125,7 @@ module _ {frames : List ℕ} {w : ℕ} {win : List ℤ} (o : Unrefused frames w 
 pub text-to-verdict : (text buffer filled : List ℕ) (n : ℕ) → readOf text buffer ≡ (reading.Frames n, filled) → (x : Rule) → yield x ≡ words (tokens text)
     → (w : ℕ) (win : List ℤ) → openDef (take (n * frameBytes) filled) w win .answer ≡ opened → (cs : List Call) (i : ℕ) → i < length (handedOut (take (n * frameBytes) filled) w win cs)
     → getD (handedOut (take (n * frameBytes) filled) w win cs) i Unknown
-    ≡ value (firstFor (take (n * frameBytes) filled) + i) (foundIn (machineAfter (take (n * frameBytes) filled) w cs .lists) (firstFor (take (n * frameBytes) filled) + i)) (meaning text x)
+    ≡ value (givenIn (machineAfter (take (n * frameBytes) filled) w cs .lists) (firstFor (take (n * frameBytes) filled) + i)) (meaning text x)
 text-to-verdict = Text.text-to-verdict
 
 -- ---- two lists for one rule, with any two windows

@@ -12,7 +12,7 @@ use Rattle.rule.specs.Tree.{Reference, references}
 use Rattle.rule.specs.Build.{treeOf}
 use Rattle.rule.specs.References.{referenceCount}
 use Rattle.rule.proofs.Laws.{passed}
-use Rattle.verdict.specs.Found.{Found}
+use Rattle.verdict.specs.Found.{Found, Given}
 use Rattle.verdict.specs.Settled.{judgement}
 use Rattle.verdict.specs.Marks.{Judgeable}
 use Rattle.verdict.specs.Pass.{judgementOf}
@@ -23,7 +23,7 @@ use Rattle.checker.specs.State.{ruleIn}
 use Rattle.checker.specs.Good.{goodState}
 use Rattle.checker.specs.Report.{reportBytes}
 use Rattle.checker.specs.Answer.{refused}
-use Rattle.checker.specs.Pull.{pullRead, offered, foundHere, notPulled, pulledBy, pullDef}
+use Rattle.checker.specs.Pull.{pullRead, offered, givenHere, notPulled, pulledBy, pullDef}
 use Rattle.checker.specs.Sights.{Looked, Fillable, headerOf, reportTo}
 use Rattle.checker.specs.Offer.{Offerable}
 use Rattle.checker.specs.declared.State.{State}
@@ -54,9 +54,10 @@ module _ (fs : List ℕ) (p w n m : ℕ) (o : Offerable fs p w n m) where
         }
 
     -- where the pass says j, so does the definition
-    pub offer-judged : (r j : Judgement) → r ≡ judgementOf fs p marks notes → r ≡ j → j ≡ judgement p found (treeOf fs)
+    pub offer-judged : (r j : Judgement) → r ≡ judgementOf fs p marks notes → r ≡ j → j ≡ judgement (record { instance = p; found = found }) (treeOf fs)
     offer-judged r j e q =
-        let d : judgementOf fs p marks notes ≡ judgement p found (treeOf fs) = judge-accepted fs p found marks notes (o .accepted) (shown-told fs found marks notes (l .shown)) in
+        let g : Given = record { instance = p; found = found } in
+        let d : judgementOf fs p marks notes ≡ judgement g (treeOf fs) = judge-accepted fs g marks notes (o .accepted) (shown-told fs found marks notes (l .shown)) in
         cc (e, q, d)
 
     pub offer-report : Bytes fs
@@ -79,6 +80,6 @@ module _ (s : State) (win : List ℤ) (buffer : List ℕ) where
   pull-14 g l r = rw (g, l, r)
 
   pub pull-offers : goodState s ≡ true → eqb (length win) (windowWords (s .width)) ≡ true → ltb (length buffer) reportLeast ≡ false
-      → (j : Judgement) → j ≡ judgement (s .next .0) (foundHere s win) (ruleIn s) → pulledBy s win buffer (offered j) ≡ pullDef s win buffer
+      → (j : Judgement) → j ≡ judgement (givenHere s win) (ruleIn s) → pulledBy s win buffer (offered j) ≡ pullDef s win buffer
   unfolding pullDef pullRead
   pull-offers g l r j e = rw (g, l, r, sym e)

@@ -13,7 +13,7 @@ use Rattle.rule.specs.Meaning.{meaning}
 use Rattle.rule.specs.Reading.{readOf}
 use Rattle.rule.specs.declared.Reading.the-variants as reading
 use Rattle.rule.proofs.Main.{read-tree, read-bytes}
-use Rattle.verdict.specs.Found.{foundIn}
+use Rattle.verdict.specs.Found.{givenIn}
 use Rattle.verdict.specs.Value.{value}
 use Rattle.verdict.specs.declared.Truth.the-variants.{Unknown}
 use Rattle.checker.specs.Answer.{opened}
@@ -27,7 +27,7 @@ module _ (text buffer filled : List ℕ) (n : ℕ) (r : readOf text buffer ≡ (
   pub text-to-verdict : (w : ℕ) (win : List ℤ) → openDef (take (n * frameBytes) filled) w win .answer ≡ opened → (cs : List Call) (i : ℕ)
       → i < length (handedOut (take (n * frameBytes) filled) w win cs)
       → getD (handedOut (take (n * frameBytes) filled) w win cs) i Unknown
-      ≡ value (firstFor (take (n * frameBytes) filled) + i) (foundIn (machineAfter (take (n * frameBytes) filled) w cs .lists) (firstFor (take (n * frameBytes) filled) + i)) (meaning text x)
+      ≡ value (givenIn (machineAfter (take (n * frameBytes) filled) w cs .lists) (firstFor (take (n * frameBytes) filled) + i)) (meaning text x)
   text-to-verdict w win o cs i h =
       value-of (record { bytes = read-bytes text buffer n filled r; answer = o }) cs i h
-      ∙ ap (λ (t : Cond). value (firstFor (take (n * frameBytes) filled) + i) (foundIn (machineAfter (take (n * frameBytes) filled) w cs .lists) (firstFor (take (n * frameBytes) filled) + i)) t) (read-tree text buffer n filled r x spelled)
+      ∙ ap (λ (t : Cond). value (givenIn (machineAfter (take (n * frameBytes) filled) w cs .lists) (firstFor (take (n * frameBytes) filled) + i)) t) (read-tree text buffer n filled r x spelled)

@@ -16,7 +16,7 @@ use Rattle.checker.specs.State.{tallyIn, zeroState, ruleIn, refsIn}
 use Rattle.checker.specs.Open.{OpenResult, widthFits, windowFits, openedAs, notOpened, afterFrames, openDef}
 use Rattle.checker.specs.Good.{goodState}
 use Rattle.checker.specs.Feed.{FeedRead, turned, skipped, taken, feedRead, FeedResult, fedBy, feedDef}
-use Rattle.checker.specs.Pull.{PullRead, short, waits, gave, pullRead, PullResult, foundHere, pulledBy, pullDef}
+use Rattle.checker.specs.Pull.{PullRead, short, waits, gave, pullRead, PullResult, givenHere, pulledBy, pullDef}
 use Rattle.checker.specs.declared.State.{State}
 use Rattle.checker.proofs.Choices.{cond-case}
 
@@ -68,6 +68,6 @@ module _ (s : State) (win : List ℤ) (buffer : List ℕ) where
   pull-unchanged =
       cond-case KeptP (goodState s) _ _
       (λ _. cond-case KeptP (windowFits (s .width) win) _ _
-      (λ _. pulled-by (pullRead (ruleIn s) (s .next .0) (foundHere s win) (length buffer)))
+      (λ _. pulled-by (pullRead (ruleIn s) (givenHere s win) (length buffer)))
       (λ _ h. (refl, refl)))
       (λ _ h. (refl, refl))

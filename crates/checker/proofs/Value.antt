@@ -6,7 +6,7 @@ use Prim.Native.Nat.{ℕ, _+_, _<_}
 use lib.IntN.{ℤ}
 use lib.ListN.{length, getD}
 use Rattle.rule.specs.Build.{treeOf}
-use Rattle.verdict.specs.Found.{foundIn}
+use Rattle.verdict.specs.Found.{givenIn}
 use Rattle.verdict.specs.Settled.{settled}
 use Rattle.verdict.specs.Settled as settling
 use Rattle.verdict.specs.Value.{value}
@@ -26,9 +26,9 @@ from-said false v t q = absurd (verdict-settled v q)
 
 module _ {frames : List ℕ} {w : ℕ} {win : List ℤ} (o : Unrefused frames w win) (cs : List Call) where
   pub value-of : (i : ℕ) → i < length (handedOut frames w win cs)
-      → getD (handedOut frames w win cs) i Unknown ≡ value (firstFor frames + i) (foundIn (machineAfter frames w cs .lists) (firstFor frames + i)) (treeOf frames)
+      → getD (handedOut frames w win cs) i Unknown ≡ value (givenIn (machineAfter frames w cs .lists) (firstFor frames + i)) (treeOf frames)
   value-of i h =
       let m = machineAfter frames w cs in
-      let j = firstFor frames + i in
-      from-said (settled j (foundIn (m .lists) j) (treeOf frames)) (getD (handedOut frames w win cs) i Unknown) (value j (foundIn (m .lists) j) (treeOf frames))
+      let g = givenIn (m .lists) (firstFor frames + i) in
+      from-said (settled g (treeOf frames)) (getD (handedOut frames w win cs) i Unknown) (value g (treeOf frames))
       (span-at (handedOut frames w win cs) (firstFor frames) (said frames m) i (final o cs) h)

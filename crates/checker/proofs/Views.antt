@@ -10,7 +10,7 @@ use lib.IntN.{ℤ}
 use lib.ListN.{length, getD, drop, length-append, length-drop}
 use Rattle.rule.specs.Tree.{Reference, Cond, references}
 use Rattle.rule.specs.Build.{treeOf}
-use Rattle.verdict.specs.Found.{Found, foundIn}
+use Rattle.verdict.specs.Found.{Found, foundIn, Given, givenIn}
 use Rattle.verdict.specs.Settled.{judgement}
 use Rattle.verdict.specs.declared.Truth.{Truth}
 use Rattle.verdict.specs.declared.Truth.the-variants as truths
@@ -25,7 +25,7 @@ use Rattle.checker.specs.Feed.{FeedRead, turned, skipped, taken, feedAns
 use Rattle.checker.specs.Open.{windowFits}
 use Rattle.checker.specs.Good.{goodState}
 use Rattle.checker.specs.Pull.{PullRead, short, waits, gave, offered, pullRead, pullAnswer, pullReport}
-use Rattle.checker.specs.Pull.{PullResult, foundHere, pullDef}
+use Rattle.checker.specs.Pull.{PullResult, givenHere, foundHere, pullDef}
 use Rattle.checker.specs.Calls.{Call, feed, pull, outs}
 use Rattle.checker.specs.Machine.{Machine, atFirst, joined, moved, afterFeed, afterPull, machineFeed, machinePull, machineFor}
 use Rattle.checker.specs.Demand.{Unrefused, handed, verdicts}
@@ -63,11 +63,11 @@ enough-offered n h True = h
 enough-offered n h False = h
 enough-offered n h Unknown = h
 
-enough : (rule : Cond) (i : ℕ) (found : Reference → Found) (n : ℕ) → Enough n (pullRead rule i found n)
+enough : (rule : Cond) (g : Given) (n : ℕ) → Enough n (pullRead rule g n)
 unfolding pullRead
-enough rule i found n =
-    cond-case (Enough n) (ltb n reportLeast) short (offered (judgement i found rule))
-    (λ _. tt) (λ q. enough-offered n (ltb-false n reportLeast q) (judgement i found rule))
+enough rule g n =
+    cond-case (Enough n) (ltb n reportLeast) short (offered (judgement g rule))
+    (λ _. tt) (λ q. enough-offered n (ltb-false n reportLeast q) (judgement g rule))
 
 -- ---- after one pull
 -- 1 for the answer that fills a report
@@ -103,10 +103,10 @@ unfolding pullDef
 view-after s win buffer =
     let i = s .next .0 in
     let found = foundHere s win in
-    let x = pullRead (ruleIn s) i found (length buffer) in
+    let x = pullRead (ruleIn s) (givenHere s win) (length buffer) in
     cond-case (Viewed i) (goodState s) _ _
     (λ _. cond-case (Viewed i) (windowFits (s .width) win) _ _
-    (λ _. view-filled i (refsIn s) found buffer x (enough (ruleIn s) i found (length buffer)))
+    (λ _. view-filled i (refsIn s) found buffer x (enough (ruleIn s) (givenHere s win) (length buffer)))
     (λ _. no-report (refused 13 0) refl))
     (λ _. no-report (refused 12 0) refl)
 
@@ -144,7 +144,7 @@ module _ (frames : List ℕ) (w : ℕ) where
   all-seen (pull buffer ∷ cs) m =
       let x = machinePull (treeOf frames) w m buffer in
       let os = outs (machineFor frames w) cs (afterPull m x) in
-      let long = enough (treeOf frames) (m .next) (foundIn (m .lists) (m .next)) (length buffer) in
+      let long = enough (treeOf frames) (givenIn (m .lists) (m .next)) (length buffer) in
       seen-pulled m buffer x long (verdicts os) (views os) (all-seen cs (afterPull m x))
 
 module _ {frames : List ℕ} {w : ℕ} {win : List ℤ} (o : Unrefused frames w win) (cs : List Call) where

@@ -9,7 +9,7 @@ use lib.ListN.{length}
 use Rattle.rule.specs.Frames.{Bytes}
 use Rattle.rule.specs.Tree.{Reference, references}
 use Rattle.rule.specs.Build.{treeOf}
-use Rattle.verdict.specs.Found.{Found, present, pending, foundIn}
+use Rattle.verdict.specs.Found.{Found, present, pending, foundIn, givenIn}
 use Rattle.verdict.specs.Settled.{judgement}
 use Rattle.verdict.specs.Settled as settling
 use Rattle.verdict.specs.Later.{Gains}
@@ -102,7 +102,7 @@ pub record ThirdDemand (frames : List ℕ) (w : ℕ) (win : List ℤ) (cs : List
   -- "The definition over all lines accepted in the list is the one over the machine's lists after the last call"
   pub final : map settling.verdict (handedOut frames w win cs)
       ≡ span (firstFor frames) (length (handedOut frames w win cs))
-      (λ (i : ℕ). judgement i (foundIn (machineAfter frames w cs .lists) i) (treeOf frames))
+      (λ (i : ℕ). judgement (givenIn (machineAfter frames w cs .lists) i) (treeOf frames))
   -- "the totals true, false, unknown, which sum to p"
   pub totals : (checkerAfter frames w win cs .state .next .0 ≡ firstFor frames + length (handedOut frames w win cs))
       × (checkerAfter frames w win cs .state .totals ≡ totalsOf (handedOut frames w win cs))

@@ -65,7 +65,8 @@ pub record RaisedLog (frames : List ℕ) (w : ℕ) (win : List ℤ) (other : Lis
   pub answers : outs checker (map (raisedCall other) cs) (fresh frames w win)
       ≡ map outRaised (outs (oldMachineFor frames w) cs (atFirst frames))
   -- the verdicts handed out
-  pub verdicts-same : handedOut frames w win (map (raisedCall other) cs) ≡ verdicts (outs (oldMachineFor frames w) cs (atFirst frames))
+  pub verdicts-same : handedOut frames w win (map (raisedCall other) cs)
+      ≡ verdicts (outs (oldMachineFor frames w) cs (atFirst frames))
   -- the counts, p and totals
   pub state : tallyIn (checkerAfter frames w win (map (raisedCall other) cs) .state)
       ≡ tallyOf (end (oldMachineFor frames w) cs (atFirst frames))

@@ -6,10 +6,10 @@ use lib.Dec.{eqb}
 use lib.IntN.{ℤ}
 use lib.ListN.{length}
 use Rattle.rule.specs.Limits.{eventLimit}
-use Rattle.rule.specs.Tree.{Reference, Cond, references}
+use Rattle.rule.specs.Tree.{Cond, references}
 use Rattle.rule.specs.Build.{treeOf}
 use Rattle.log.specs.Line.{lineOf}
-use Rattle.verdict.specs.Found.{Found, foundIn}
+use Rattle.verdict.specs.Found.{Given, givenIn}
 use Rattle.verdict.specs.declared.Truth.{Truth}
 use Rattle.checker.specs.Base.{firstFor}
 use Rattle.checker.specs.State.{noTotals, counted, Tally}
@@ -65,13 +65,13 @@ module _ (rule : Cond) (w : ℕ) where
   abbrev pub machineFeed : Machine → List ℕ → FeedRead
   machineFeed m line = feedRead (references rule) w (tallyOf m) (lineOf line)
 
-  -- "instance p .. by the lists": what each of its references is
-  abbrev pub foundNow : Machine → Reference → Found
-  foundNow m = foundIn (m .lists) (m .next)
+  -- "instance p .. by the lists": what is given of it
+  abbrev pub givenNow : Machine → Given
+  givenNow m = givenIn (m .lists) (m .next)
 
   -- "Pulling: a buffer that 14 names is refused with 14. If instance p is settled by the lists, the answer is its verdict"
   abbrev pub machinePull : Machine → List ℕ → PullRead
-  machinePull m buffer = pullRead rule (m .next) (foundNow m) (length buffer)
+  machinePull m buffer = pullRead rule (givenNow m) (length buffer)
 
   -- "The plain machine runs beside a list of feeding and pulling calls": one call
   abbrev pub machine : Machine → Call → Step Machine
@@ -79,7 +79,7 @@ module _ (rule : Cond) (w : ℕ) where
   machine m (pull buffer) =
       record {
         out = pulled (pullAnswer (machinePull m buffer))
-            (pullReport (m .next) (references rule) (foundNow m) buffer (machinePull m buffer));
+            (pullReport (m .next) (references rule) (givenNow m .found) buffer (machinePull m buffer));
         next = afterPull m (machinePull m buffer);
       }
 

@@ -7,7 +7,7 @@ use lib.Dec.{ltb}
 use lib.IntN.{ℤ}
 use lib.ListN.{length}
 use Rattle.rule.specs.Tree.{Reference, Cond}
-use Rattle.verdict.specs.Found.{Found}
+use Rattle.verdict.specs.Found.{Found, Given}
 use Rattle.verdict.specs.Settled.{judgement}
 use Rattle.verdict.specs.declared.Truth.{Truth}
 use Rattle.verdict.specs.declared.Truth.the-variants as truths
@@ -16,7 +16,7 @@ use Rattle.verdict.specs.declared.Judgement.the-variants.{Unsettled, True, Fals
 use Rattle.checker.specs.Limits.{reportLeast}
 use Rattle.checker.specs.Answer.{Answer, waiting, verdict, refused}
 use Rattle.checker.specs.State.{ruleIn, refsIn, withPulled}
-use Rattle.checker.specs.Found.{foundInWindow}
+use Rattle.checker.specs.Found.{givenInWindow}
 use Rattle.checker.specs.Open.{windowFits}
 use Rattle.checker.specs.Good.{goodState}
 use Rattle.checker.specs.Report.{reportAfter}
@@ -35,9 +35,9 @@ offered True = gave truths.True
 offered False = gave truths.False
 offered Unknown = gave truths.Unknown
 
--- "a buffer that 14 names is refused with 14": n is the buffer's length; found says what each reference of instance i is
-unfoldable pub pullRead : Cond → ℕ → (Reference → Found) → ℕ → PullRead
-pullRead rule i found n = cond (ltb n reportLeast) short (offered (judgement i found rule))
+-- "a buffer that 14 names is refused with 14": n is the buffer's length; by what is given of the instance
+unfoldable pub pullRead : Cond → Given → ℕ → PullRead
+pullRead rule g n = cond (ltb n reportLeast) short (offered (judgement g rule))
 
 -- "is refused with 14 .. the answer is its verdict .. Else the answer is 'waiting'"
 abbrev pub pullAnswer : PullRead → Answer
@@ -62,9 +62,13 @@ pub record PullResult : Type 0 where
 abbrev pub notPulled : State → List ℕ → Answer → PullResult
 notPulled s buffer a = record { answer = a; state = s; report = buffer }
 
+-- "A reference of instance i", where i is p: what is given by the counts and the window
+abbrev pub givenHere : State → List ℤ → Given
+givenHere s win = givenInWindow (s .width) (s .counts) win (s .next .0)
+
 -- "A reference of instance i", where i is p: what it is by the counts and the window
 abbrev pub foundHere : State → List ℤ → Reference → Found
-foundHere s win = foundInWindow (s .width) (s .counts) win (s .next .0)
+foundHere s win = givenHere s win .found
 
 -- "A refused .. pull .. and 'waiting' change nothing"
 abbrev pub stateAfter : State → PullRead → State
@@ -86,6 +90,6 @@ unfoldable pub pullDef : State → List ℤ → List ℕ → PullResult
 pullDef s win buffer =
     cond (goodState s)
     (cond (windowFits (s .width) win)
-    (pulledBy s win buffer (pullRead (ruleIn s) (s .next .0) (foundHere s win) (length buffer)))
+    (pulledBy s win buffer (pullRead (ruleIn s) (givenHere s win) (length buffer)))
     (notPulled s buffer (refused 13 0)))
     (notPulled s buffer (refused 12 0))

@@ -27,7 +27,7 @@ ghost use Rattle.checker.specs.Answer.{pullTold};
 ghost use Rattle.checker.specs.State.{counted};
 ghost use Rattle.checker.specs.Parts.{stateOf, withTurn};
 ghost use Rattle.checker.specs.Pull.{offered, pullAnswer, pullReport, stateAfter, pullDef};
-ghost use Rattle.checker.specs.Found.{foundInWindow};
+ghost use Rattle.checker.specs.Found.{foundInWindow, givenInWindow};
 ghost use Rattle.checker.specs.Offer.{Countable, Offerable};
 ghost use Rattle.checker.specs.Ready.{Ready};
 
@@ -123,7 +123,7 @@ fn offer(
     report: &mut [u8],
 ) -> Judgement
     requires { ⌜ Offerable (now frames) (p .0) width (length (now window)) (length (now report)) ⌝ }
-    ensures { λ r. ⌜ (r ≡ judgement (p .0) (foundInWindow width counts (now (window .entry)) (p .0)) (treeOf (now (frames .entry)))) × (now (report .exit) ≡ pullReport (p .0) (references (treeOf (now (frames .entry)))) (foundInWindow width counts (now (window .entry)) (p .0)) (now (report .entry)) (offered r)) ⌝ }
+    ensures { λ r. ⌜ (r ≡ judgement (givenInWindow width counts (now (window .entry)) (p .0)) (treeOf (now (frames .entry)))) × (now (report .exit) ≡ pullReport (p .0) (references (treeOf (now (frames .entry)))) (foundInWindow width counts (now (window .entry)) (p .0)) (now (report .entry)) (offered r)) ⌝ }
 {
     let mut marks = [0u8; 64];
     let mut notes = [0i32; 64];

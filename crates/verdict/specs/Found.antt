@@ -61,6 +61,19 @@ byLists lines = record { count = λ e. length (lines e); noteAt = λ e n k. getD
 abbrev pub foundIn : (ℕ → List (List ℤ)) → ℕ → Reference → Found
 foundIn lines i r = resolve (byLists lines) i r
 
+-- "A reference of instance i": what a rule's value is given beside its tree, the instance number and what each reference is
+pub record Given : Type 0 where
+  pub instance : ℕ
+  pub found : Reference → Found
+
+-- "A reference of instance i": what is given of instance i by a lookup
+abbrev pub givenBy : Lookup → ℕ → Given
+givenBy l i = record { instance = i; found = resolve l i }
+
+-- "A reference of instance i": what is given of it, over the accepted lines of every event
+abbrev pub givenIn : (ℕ → List (List ℤ)) → ℕ → Given
+givenIn lines i = givenBy (byLists lines) i
+
 -- ---- tests
 -- "present"
 abbrev pub isPresent : Found → Bool

@@ -1,8 +1,7 @@
 -- Settled instances and their verdicts. From document 01, "Verdicts". Assumes nothing: definitions.
 use mathlib.Core.Bool.{Bool, cond, not, _&&_, _||_}
-use Prim.Native.Nat.{ℕ}
-use Rattle.rule.specs.Tree.{Reference, Cond, references}
-use Rattle.verdict.specs.Found.{Found, isPresent, isPending, someOf}
+use Rattle.rule.specs.Tree.{Cond, references}
+use Rattle.verdict.specs.Found.{Given, isPresent, isPending, someOf}
 use Rattle.verdict.specs.Kleene.{isKnown}
 use Rattle.verdict.specs.Value.{value}
 use Rattle.verdict.specs.declared.Truth.{Truth}
@@ -20,11 +19,11 @@ verdict truths.True = True
 verdict truths.False = False
 verdict truths.Unknown = Unknown
 
-module _ (i : ℕ) (found : Reference → Found) (t : Cond) where
-  -- "An instance is settled": of a rule, where found says what each reference is
+module _ (g : Given) (t : Cond) where
+  -- "An instance is settled": of a rule, by what is given
   abbrev pub settled : Bool
-  settled = settledBy (someOf isPending found (references t)) (someOf isPresent found (references t)) (value i found t)
+  settled = settledBy (someOf isPending (g .found) (references t)) (someOf isPresent (g .found) (references t)) (value g t)
 
   -- "The verdict of a settled instance is the rule's value": of another that it is not settled
   abbrev pub judgement : Judgement
-  judgement = cond settled (verdict (value i found t)) Unsettled
+  judgement = cond settled (verdict (value g t)) Unsettled
