@@ -17,8 +17,7 @@ use Rattle.rule.specs.declared.Reading.the-variants.{Frames}
 use Rattle.rule.proofs.Main.{read-bytes}
 use Rattle.verdict.specs.Found.{instanceLimit}
 use Rattle.verdict.specs.Settled.{judgement}
-use Rattle.verdict.specs.declared.Truth.{Truth}
-use Rattle.verdict.specs.declared.Truth.the-variants as truths
+use Rattle.verdict.specs.declared.Verdict.{Verdict}
 use Rattle.verdict.specs.declared.Judgement.{Judgement}
 use Rattle.verdict.specs.declared.Judgement.the-variants.{Unsettled, True, False, Unknown}
 use Rattle.checker.specs.Limits.{windowWords}
@@ -54,14 +53,14 @@ same-frames s t r = rw (r .frames, r .len)
 -- ---- one pull: 'waiting', or a verdict that raises p by 1
 data Pulled (p : ℕ) (r : PullResult) : Type 0 where
   waited : r .answer ≡ waiting → Pulled p r
-  given : (v : Truth) → r .answer ≡ verdict v → r .state .next .0 ≡ p + 1 → Pulled p r
+  given : (v : Verdict) → r .answer ≡ verdict v → r .state .next .0 ≡ p + 1 → Pulled p r
 
 pulled-by : (s : State) (win : List ℤ) (j : Judgement) → Pulled (s .next .0) (pulledBy s win blank (offered j))
 unfolding withPulled
 pulled-by s win Unsettled = waited refl
-pulled-by s win True = given truths.True refl refl
-pulled-by s win False = given truths.False refl refl
-pulled-by s win Unknown = given truths.Unknown refl refl
+pulled-by s win True = given Verdict.True refl refl
+pulled-by s win False = given Verdict.False refl refl
+pulled-by s win Unknown = given Verdict.Unknown refl refl
 
 next-once : (x : Progress) → pulledOnce x .state .next .0 ≡ pullOf x .state .next .0
 unfolding pulledOnce

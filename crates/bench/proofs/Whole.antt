@@ -21,7 +21,7 @@ use Rattle.log.specs.Walk.{onto, linesOf}
 use Rattle.log.specs.declared.digit.Pair.the-variants.{Byte}
 use Rattle.log.proofs.Main.{digit-back}
 use Rattle.verdict.specs.Found.{Found}
-use Rattle.verdict.specs.declared.Truth.the-variants.{True, False, Unknown}
+use Rattle.verdict.specs.declared.Verdict.the-variants.{True, False, Unknown}
 use Rattle.checker.specs.Answer.{opened, verdict, refused}
 use Rattle.checker.specs.State.{refsIn, ruleIn}
 use Rattle.checker.specs.Open.{windowFits, OpenResult, openDef}

@@ -6,7 +6,7 @@ use Prim.Native.Nat.{ℕ, _+_, _<_}
 use lib.IntN.{ℤ}
 use lib.ListN.{length, getD}
 use Rattle.verdict.specs.Later.{MoreLines}
-use Rattle.verdict.specs.declared.Truth.the-variants.{Unknown}
+use Rattle.verdict.specs.declared.Verdict.the-variants.{Unknown}
 use Rattle.checker.specs.Base.{firstFor}
 use Rattle.checker.specs.Calls.{Call, outs, end, checker}
 use Rattle.checker.specs.Machine.{atFirst, machineFor}

@@ -12,7 +12,7 @@ use Rattle.log.specs.Line as line
 use Rattle.log.specs.Earlier.{oldLineOf, raisedDef}
 use Rattle.log.specs.Earlier as log
 use Rattle.log.proofs.Main.{raised-or-refused}
-use Rattle.verdict.specs.declared.Truth.{Truth}
+use Rattle.verdict.specs.declared.Verdict.{Verdict}
 use Rattle.checker.specs.Limits.{lineLimit}
 use Rattle.checker.specs.Answer.{Answer, opened, accepted, ignored, waiting, verdict, refused}
 use Rattle.checker.specs.Base.{referenced, base}
@@ -102,7 +102,7 @@ module _ (frames : List ℕ) (w : ℕ) (other : List ℕ) (named : lineOf other 
       ap (end (machineFor frames w) (map (raisedCall other) cs)) (next-step frames w other named m c) ∙ all-end cs _
 
 -- a refusal hands out no verdict, whatever its number
-handed-same : (a : Answer) (vs : List Truth) → handed (inRaised a) vs ≡ handed a vs
+handed-same : (a : Answer) (vs : List Verdict) → handed (inRaised a) vs ≡ handed a vs
 handed-same opened vs = refl
 handed-same accepted vs = refl
 handed-same ignored vs = refl

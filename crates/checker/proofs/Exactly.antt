@@ -25,8 +25,8 @@ use Rattle.verdict.specs.Found.{givenIn}
 use Rattle.verdict.specs.Value.{value}
 use Rattle.verdict.specs.Settled.{settled}
 use Rattle.verdict.specs.Settled as settling
-use Rattle.verdict.specs.declared.Truth.{Truth}
-use Rattle.verdict.specs.declared.Truth.the-variants.{True, False, Unknown}
+use Rattle.verdict.specs.declared.Verdict.{Verdict}
+use Rattle.verdict.specs.declared.Verdict.the-variants.{True, False, Unknown}
 use Rattle.verdict.specs.declared.Judgement.the-variants.{Unsettled}
 use Rattle.checker.specs.Limits.{widthLimit, windowWords, lineLimit, reportLeast}
 use Rattle.checker.specs.Answer.{Answer, opened, accepted, ignored, waiting, verdict, refused}
@@ -55,14 +55,14 @@ codeOf (verdict v) = 4
 codeOf (refused number place) = 5 + number
 
 -- ---- when a pull waits
-waits-by : (t s : Bool) (v : Truth) → pullAnswer (cond t short (offered (cond s (settling.verdict v) Unsettled))) ≡ waiting → (t ≡ false) × (s ≡ false)
+waits-by : (t s : Bool) (v : Verdict) → pullAnswer (cond t short (offered (cond s (settling.verdict v) Unsettled))) ≡ waiting → (t ≡ false) × (s ≡ false)
 waits-by true s v q = absurd (let z : 19 ≡ 3 = ap codeOf q in omega arith)
 waits-by false true True q = absurd (let z : 4 ≡ 3 = ap codeOf q in omega arith)
 waits-by false true False q = absurd (let z : 4 ≡ 3 = ap codeOf q in omega arith)
 waits-by false true Unknown q = absurd (let z : 4 ≡ 3 = ap codeOf q in omega arith)
 waits-by false false v q = (refl, refl)
 
-by-waits : (t s : Bool) (v : Truth) → t ≡ false → s ≡ false → pullAnswer (cond t short (offered (cond s (settling.verdict v) Unsettled))) ≡ waiting
+by-waits : (t s : Bool) (v : Verdict) → t ≡ false → s ≡ false → pullAnswer (cond t short (offered (cond s (settling.verdict v) Unsettled))) ≡ waiting
 by-waits t s v p q = rw (p, q)
 
 -- ---- when a line is accepted, and when the window is full
@@ -112,7 +112,7 @@ module _ {frames : List ℕ} {w : ℕ} {win : List ℤ} (o : Unrefused frames w 
       let t = ltb (length buffer) reportLeast in
       let g = givenIn (machineEnd .lists) (machineEnd .next) in
       let s = settled g (treeOf frames) in
-      let v = value g (treeOf frames) in (
+      let v = settling.verdictOf (value g (treeOf frames)) in (
         λ q. (let h = waits-by t s v (sym a ∙ q) in (ltb-false (length buffer) reportLeast (h .0), h .1)),
         λ h. a ∙ by-waits t s v (le-ltb (length buffer) reportLeast (h .0)) (h .1),
       )

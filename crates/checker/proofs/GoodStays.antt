@@ -21,7 +21,7 @@ use Rattle.log.specs.Line.{lineOf}
 use Rattle.verdict.specs.Found.{instanceLimit, pending}
 use Rattle.verdict.specs.Settled.{judgement}
 use Rattle.verdict.specs.Settled as settling
-use Rattle.verdict.specs.declared.Truth.{Truth}
+use Rattle.verdict.specs.declared.Verdict.{Verdict}
 use Rattle.checker.specs.Limits.{lineLimit}
 use Rattle.checker.specs.Base.{referenced, base}
 use Rattle.checker.specs.State.{counted, sumOf, Tally, countOf, tallyIn, stateFrames, ruleIn, refsIn, SameRule, withCount, withPulled}
@@ -123,10 +123,10 @@ module _ (refs : List Reference) (w : ℕ) (t : Tally) (x : Sound refs w t) wher
   sound-grown e r h₁ h₂ = record { counts = λ f l. grown-count e f l r h₁ h₂; low = x .low; sum = x .sum }
 
 -- ---- a verdict is given
-abbrev movedOn : Tally → Truth → Tally
+abbrev movedOn : Tally → Verdict → Tally
 movedOn t v = record { counts = t .counts; next = t .next + 1; totals = counted (t .totals) v }
 
-sound-moved : (refs : List Reference) (w : ℕ) (t : Tally) (v : Truth) → Sound refs w t → t .next < instanceLimit → Sound refs w (movedOn t v)
+sound-moved : (refs : List Reference) (w : ℕ) (t : Tally) (v : Verdict) → Sound refs w t → t .next < instanceLimit → Sound refs w (movedOn t v)
 sound-moved refs w t v x l =
     record {
       counts = λ e h. let c = x .counts e h in record {
@@ -152,7 +152,7 @@ module _ (s : State) (g : goodState s ≡ true) where
   unfolding goodState goodRule withCount
   good-taken e x = true-and _ _ rule-in (tally-good (refsIn s) (s .width) (grown (tallyIn s) e) x)
 
-  good-gave : (v : Truth) → Sound (refsIn s) (s .width) (movedOn (tallyIn s) v) → goodState (withPulled s v) ≡ true
+  good-gave : (v : Verdict) → Sound (refsIn s) (s .width) (movedOn (tallyIn s) v) → goodState (withPulled s v) ≡ true
   unfolding goodState goodRule withPulled
   good-gave v x = true-and _ _ rule-in (tally-good (refsIn s) (s .width) (movedOn (tallyIn s) v) x)
 
@@ -182,7 +182,7 @@ module _ (s : State) (g : goodState s ≡ true) where
         p .named (subst (λ (x : Cond). references x ≡ []) t e)
 
     -- an instance with a verdict is not the last
-    low-in : (win : List ℤ) (v : Truth) → judgement (givenHere s win) (ruleIn s) ≡ settling.verdict v → s .next .0 < instanceLimit
+    low-in : (win : List ℤ) (v : Verdict) → judgement (givenHere s win) (ruleIn s) ≡ settling.verdict v → s .next .0 < instanceLimit
     low-in win v q =
         ⊎-elim
         (λ l. l)

@@ -21,11 +21,11 @@ use Rattle.log.specs.Line as log
 use Rattle.log.proofs.Main.{zeros-refused, empty-refused}
 use Rattle.verdict.specs.Found.{instanceLimit, givenIn}
 use Rattle.verdict.specs.Value.{value}
-use Rattle.verdict.specs.Settled.{settled, judgement}
+use Rattle.verdict.specs.Settled.{settled, verdictOf, judgement}
 use Rattle.verdict.specs.Settled as settling
 use Rattle.verdict.specs.Later.{MoreLines}
-use Rattle.verdict.specs.declared.Truth.{Truth}
-use Rattle.verdict.specs.declared.Truth.the-variants.{False, Unknown}
+use Rattle.verdict.specs.declared.Verdict.{Verdict}
+use Rattle.verdict.specs.declared.Verdict.the-variants.{False, Unknown}
 use Rattle.checker.specs.Limits.{widthLimit, windowWords, lineLimit, reportLeast}
 use Rattle.checker.specs.Answer.{opened, accepted, waiting, verdict, refused}
 use Rattle.checker.specs.Base.{referenced, base, firstFor}
@@ -120,12 +120,12 @@ module _ {frames : List ℕ} {w : ℕ} {win : List ℤ} (o : Unrefused frames w 
   window-holds = Exactly.window-holds o cs
 
 -- ---- from a rule's text to its verdicts: for every text that `read` accepts, the tree that spells it, every W and unrefused opening
--- with the frames that were filled, and every list of calls: each verdict handed out is the value, at its instance over the lines
+-- with the frames that were filled, and every list of calls: each verdict handed out is that of the value, at its instance over the lines
 -- accepted in the list, of the rule that the text means
 pub text-to-verdict : (text buffer filled : List ℕ) (n : ℕ) → readOf text buffer ≡ (reading.Frames n, filled) → (x : Rule) → yield x ≡ words (tokens text)
     → (w : ℕ) (win : List ℤ) → openDef (take (n * frameBytes) filled) w win .answer ≡ opened → (cs : List Call) (i : ℕ) → i < length (handedOut (take (n * frameBytes) filled) w win cs)
     → getD (handedOut (take (n * frameBytes) filled) w win cs) i Unknown
-    ≡ value (givenIn (machineAfter (take (n * frameBytes) filled) w cs .lists) (firstFor (take (n * frameBytes) filled) + i)) (meaning text x)
+    ≡ verdictOf (value (givenIn (machineAfter (take (n * frameBytes) filled) w cs .lists) (firstFor (take (n * frameBytes) filled) + i)) (meaning text x))
 text-to-verdict = Text.text-to-verdict
 
 -- ---- two lists for one rule, with any two windows
@@ -259,7 +259,7 @@ pub refused-unchanged-feed : (s : State) (win : List ℤ) (line : List ℕ) → 
     → (feedDef s win line .state ≡ s) × (feedDef s win line .words ≡ win)
 refused-unchanged-feed = Unchanged.feed-unchanged
 
-pub refused-unchanged-pull : (s : State) (win : List ℤ) (buffer : List ℕ) → ((v : Truth) → pullDef s win buffer .answer ≢ verdict v)
+pub refused-unchanged-pull : (s : State) (win : List ℤ) (buffer : List ℕ) → ((v : Verdict) → pullDef s win buffer .answer ≢ verdict v)
     → (pullDef s win buffer .state ≡ s) × (pullDef s win buffer .report ≡ buffer)
 refused-unchanged-pull = Unchanged.pull-unchanged
 

@@ -31,7 +31,7 @@ use Rattle.rule.specs.declared.Reading.{Reading}
 use Rattle.rule.specs.declared.Reading.the-variants as reading
 use Rattle.log.specs.Digit.{digitValue}
 use Rattle.log.specs.Line.{digitsAtFront, badPlace, lineOf}
-use Rattle.verdict.specs.declared.Truth.the-variants.{True, False, Unknown}
+use Rattle.verdict.specs.declared.Verdict.the-variants.{True, False, Unknown}
 use Rattle.checker.specs.Limits.{windowWords, reportLeast}
 use Rattle.checker.specs.Answer.{Answer, opened, accepted, waiting, verdict, refused}
 use Rattle.checker.specs.Base.{ofEvent, referenced, smallest, base, firstInstance}

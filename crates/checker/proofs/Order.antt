@@ -11,7 +11,7 @@ use lib.IntN.{ℤ}
 use lib.ListN.{length, getD}
 use Rattle.rule.specs.Build.{treeOf}
 use Rattle.verdict.specs.Later.{MoreLines}
-use Rattle.verdict.specs.declared.Truth.the-variants.{Unknown}
+use Rattle.verdict.specs.declared.Verdict.the-variants.{Unknown}
 use Rattle.checker.specs.Feed.{FeedRead, turned, skipped, taken}
 use Rattle.checker.specs.Pull.{PullRead, short, waits, gave}
 use Rattle.checker.specs.Calls.{Call, feed, pull, outs, end, checker}

@@ -15,8 +15,8 @@ use Rattle.verdict.specs.Found.{meant, Found, present, pending, void, Lookup, f
 use Rattle.verdict.specs.Later.{Gains, MoreLines}
 use Rattle.verdict.specs.declared.Meant.{Meant}
 use Rattle.verdict.specs.declared.Meant.the-variants.{Void, At}
-use Rattle.verdict.specs.declared.Truth.{Truth}
-use Rattle.verdict.specs.declared.Truth.the-variants.{False, Unknown}
+use Rattle.verdict.specs.declared.Verdict.{Verdict}
+use Rattle.verdict.specs.declared.Verdict.the-variants.{False, Unknown}
 use Rattle.verdict.proofs.Main.{lines-gain}
 use Rattle.checker.specs.Base.{firstFor}
 use Rattle.checker.specs.Feed.{FeedRead, turned, skipped, taken, feedAnswer}
@@ -66,10 +66,10 @@ module _ (frames : List ℕ) (w : ℕ) where
   wrote-here m buffer cs = record { before = []; buffer = buffer; after = cs; split = refl; turn = refl; bytes = refl }
 
   -- each false verdict among vs, the first of instance p, has such a pull; rs are the buffers beside vs
-  abbrev AllWrote : Machine → List Call → ℕ → List Truth → List (List ℕ) → Type 0
+  abbrev AllWrote : Machine → List Call → ℕ → List Verdict → List (List ℕ) → Type 0
   AllWrote m cs p vs rs = (k : ℕ) → getD vs k Unknown ≡ False → Wrote m cs (p + k) (getD rs k [])
 
-  wrote-fed : (m : Machine) (cs : List Call) (f : FeedRead) (vs : List Truth) (rs : List (List ℕ))
+  wrote-fed : (m : Machine) (cs : List Call) (f : FeedRead) (vs : List Verdict) (rs : List (List ℕ))
       → AllWrote m cs (afterFeed m f .next) vs rs → AllWrote m cs (m .next) (handed (feedAnswer f) vs) rs
   unfolding joined
   wrote-fed m cs (turned number place) vs rs h = h
@@ -80,7 +80,7 @@ module _ (frames : List ℕ) (w : ℕ) where
   abbrev pub bufferBy : Machine → List ℕ → PullRead → List ℕ
   bufferBy m buffer x = pullReport (m .next) (references (treeOf frames)) (foundIn (m .lists) (m .next)) buffer x
 
-  wrote-pulled : (m : Machine) (buffer : List ℕ) (cs : List Call) (x : PullRead) (vs : List Truth) (rs : List (List ℕ))
+  wrote-pulled : (m : Machine) (buffer : List ℕ) (cs : List Call) (x : PullRead) (vs : List Verdict) (rs : List (List ℕ))
       → AllWrote m (pull buffer ∷ cs) (afterPull m x .next) vs rs
       → AllWrote m (pull buffer ∷ cs) (m .next) (handed (pullAnswer x) vs) (reporting (pullAnswer x) (bufferBy m buffer x) rs)
   unfolding moved

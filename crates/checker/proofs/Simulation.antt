@@ -23,8 +23,7 @@ use Rattle.verdict.specs.Value.{value}
 use Rattle.verdict.specs.Settled.{settledBy, judgement}
 use Rattle.verdict.specs.Later.{withFound}
 use Rattle.verdict.specs.Settled as settling
-use Rattle.verdict.specs.declared.Truth.{Truth}
-use Rattle.verdict.specs.declared.Truth.the-variants as truths
+use Rattle.verdict.specs.declared.Verdict.{Verdict}
 use Rattle.verdict.specs.declared.Judgement.{Judgement}
 use Rattle.verdict.specs.declared.Judgement.the-variants.{Unsettled, True, False, Unknown}
 use Rattle.verdict.proofs.Main.{own-references}
@@ -208,7 +207,7 @@ one-pending (x ∷ xs) found l h = rw (h x (List·Memᴰ·head refl))
 pub all-pending : (rule : Cond) (g : Given) → (references rule ≡ [] → ⊥) → ((r : Reference) → List·Memᴰ r (references rule) → g .found r ≡ pending)
     → judgement g rule ≡ Unsettled
 all-pending rule g l h =
-    ap₂ (λ (a b : Bool). cond (settledBy a b (value g rule)) (settling.verdict (value g rule)) Unsettled)
+    ap₂ (λ (a b : Bool). cond (settledBy a b (value g rule)) (settling.verdict (settling.verdictOf (value g rule))) Unsettled)
     (one-pending (references rule) (g .found) l h) (no-present (references rule) (g .found) h)
 
 abbrev isUnsettled : Judgement → Bool
@@ -217,10 +216,10 @@ isUnsettled True = false
 isUnsettled False = false
 isUnsettled Unknown = false
 
-pub verdict-settled : (v : Truth) → settling.verdict v ≡ Unsettled → ⊥
-verdict-settled truths.True q = true-false (sym (ap isUnsettled q))
-verdict-settled truths.False q = true-false (sym (ap isUnsettled q))
-verdict-settled truths.Unknown q = true-false (sym (ap isUnsettled q))
+pub verdict-settled : (v : Verdict) → settling.verdict v ≡ Unsettled → ⊥
+verdict-settled Verdict.True q = true-false (sym (ap isUnsettled q))
+verdict-settled Verdict.False q = true-false (sym (ap isUnsettled q))
+verdict-settled Verdict.Unknown q = true-false (sym (ap isUnsettled q))
 
 -- what is known of a verdict that is given
 abbrev pub Gave : Cond → Given → PullRead → Type 0
@@ -239,12 +238,12 @@ unfolding pullRead
 gave-judged rule g n =
     cond-case (Gave rule g) (ltb n reportLeast) short (offered (judgement g rule)) (λ _. tt) (λ _. gave-by rule g (judgement g rule) refl)
 
-pub sum-counted : (t : Totals) (v : Truth) → sumOf (counted t v) ≡ sumOf t + 1
-sum-counted t truths.True = omega arith
-sum-counted t truths.False = omega arith
-sum-counted t truths.Unknown = omega arith
+pub sum-counted : (t : Totals) (v : Verdict) → sumOf (counted t v) ≡ sumOf t + 1
+sum-counted t Verdict.True = omega arith
+sum-counted t Verdict.False = omega arith
+sum-counted t Verdict.Unknown = omega arith
 
-inv-moved : (refs : List Reference) (w : ℕ) (m : Machine) (v : Truth) → Inv refs w m → m .next < instanceLimit → Inv refs w (moved m v)
+inv-moved : (refs : List Reference) (w : ℕ) (m : Machine) (v : Verdict) → Inv refs w m → m .next < instanceLimit → Inv refs w (moved m v)
 unfolding moved
 inv-moved refs w m v i l =
     record {
@@ -263,7 +262,7 @@ module _ (frames : List ℕ) (w : ℕ) (ok : Fine frames w) where
   wide = leb-true 1 w (and-true (leb 1 w) _ (ok .width) .0)
 
   -- an instance with a verdict is not the last
-  gave-low : (m : Machine) (v : Truth) → Inv (references (treeOf frames)) w m → judgement (givenIn (m .lists) (m .next)) (treeOf frames) ≡ settling.verdict v → m .next < instanceLimit
+  gave-low : (m : Machine) (v : Verdict) → Inv (references (treeOf frames)) w m → judgement (givenIn (m .lists) (m .next)) (treeOf frames) ≡ settling.verdict v → m .next < instanceLimit
   gave-low m v i q =
       ⊎-elim
       (λ l. l)
@@ -346,9 +345,9 @@ module _ (frames : List ℕ) (w : ℕ) (ok : Fine frames w) where
         → pullReport p (references t) found buffer x ≡ pullReport p (references t) found′ buffer x
     report-own p t found found′ buffer s short = refl
     report-own p t found found′ buffer s waits = refl
-    report-own p t found found′ buffer s (gave truths.True) = refl
-    report-own p t found found′ buffer s (gave truths.False) = rw (map-own found found′ (references t) s)
-    report-own p t found found′ buffer s (gave truths.Unknown) = refl
+    report-own p t found found′ buffer s (gave Verdict.True) = refl
+    report-own p t found found′ buffer s (gave Verdict.False) = rw (map-own found found′ (references t) s)
+    report-own p t found found′ buffer s (gave Verdict.Unknown) = refl
 
     read-own : (t : Cond) (g : Given) (found : Reference → Found) (n : ℕ) → SameOn (references t) (g .found) found → pullRead t g n ≡ pullRead t (withFound g found) n
     unfolding pullRead

@@ -6,8 +6,8 @@ use native.Mathlib.Omega.{arith}
 use lib.IntN.{ℤ}
 use lib.ListN.{length}
 use Rattle.rule.specs.Build.{treeOf}
-use Rattle.verdict.specs.declared.Truth.{Truth}
-use Rattle.verdict.specs.declared.Truth.the-variants.{True, False, Unknown}
+use Rattle.verdict.specs.declared.Verdict.{Verdict}
+use Rattle.verdict.specs.declared.Verdict.the-variants.{True, False, Unknown}
 use Rattle.checker.specs.Base.{firstFor}
 use Rattle.checker.specs.State.{Tally}
 use Rattle.checker.specs.Feed.{FeedRead, turned, skipped, taken, feedAnswer}
@@ -19,19 +19,19 @@ use Rattle.checker.specs.declared.Totals.{Totals}
 use Rattle.checker.proofs.Lists as lists
 use Rattle.checker.proofs.Final.{verdicts-same}
 
-record Counted (m m′ : Machine) (vs : List Truth) : Type 0 where
+record Counted (m m′ : Machine) (vs : List Verdict) : Type 0 where
   pub next : m′ .next ≡ m .next + length vs
   pub held : m′ .totals .held ≡ m .totals .held + countIn vs True
   pub failed : m′ .totals .failed ≡ m .totals .failed + countIn vs False
   pub unknown : m′ .totals .unknown ≡ m .totals .unknown + countIn vs Unknown
 
-counted-fed : (m m′ : Machine) (f : FeedRead) (vs : List Truth) → Counted (afterFeed m f) m′ vs → Counted m m′ (handed (feedAnswer f) vs)
+counted-fed : (m m′ : Machine) (f : FeedRead) (vs : List Verdict) → Counted (afterFeed m f) m′ vs → Counted m m′ (handed (feedAnswer f) vs)
 unfolding joined
 counted-fed m m′ (turned number place) vs h = h
 counted-fed m m′ skipped vs h = h
 counted-fed m m′ (taken e notes) vs h = record { next = h .next; held = h .held; failed = h .failed; unknown = h .unknown }
 
-counted-pulled : (m m′ : Machine) (x : PullRead) (vs : List Truth) → Counted (afterPull m x) m′ vs → Counted m m′ (handed (pullAnswer x) vs)
+counted-pulled : (m m′ : Machine) (x : PullRead) (vs : List Verdict) → Counted (afterPull m x) m′ vs → Counted m m′ (handed (pullAnswer x) vs)
 unfolding moved countIn
 counted-pulled m m′ short vs h = h
 counted-pulled m m′ waits vs h = h
@@ -54,7 +54,7 @@ module _ (frames : List ℕ) (w : ℕ) where
       counted-pulled m (end (machineFor frames w) cs (afterPull m x)) x (verdicts (outs (machineFor frames w) cs (afterPull m x))) (all-counted cs (afterPull m x))
 
 -- from the first instance on
-sums-are : (frames : List ℕ) (m : Machine) (vs : List Truth) → Counted (atFirst frames) m vs → (m .next ≡ firstFor frames + length vs) × (m .totals ≡ totalsOf vs)
+sums-are : (frames : List ℕ) (m : Machine) (vs : List Verdict) → Counted (atFirst frames) m vs → (m .next ≡ firstFor frames + length vs) × (m .totals ≡ totalsOf vs)
 sums-are frames m vs c =
     let h : m .totals .held ≡ countIn vs True = c .held ∙ omega arith in
     let f : m .totals .failed ≡ countIn vs False = c .failed ∙ omega arith in
@@ -75,4 +75,4 @@ module _ {frames : List ℕ} {w : ℕ} {win : List ℤ} (o : Unrefused frames w 
       let t = lists.state o cs in
       let v = verdicts-same o cs in
       let c = sums-are frames (end (machineFor frames w) cs (atFirst frames)) (verdicts (outs (machineFor frames w) cs (atFirst frames))) (all-counted frames w cs (atFirst frames)) in
-      (ap (λ (x : Tally). x .next) t ∙ c .0 ∙ ap (λ (l : List Truth). firstFor frames + length l) (sym v), ap (λ (x : Tally). x .totals) t ∙ c .1 ∙ ap totalsOf (sym v))
+      (ap (λ (x : Tally). x .next) t ∙ c .0 ∙ ap (λ (l : List Verdict). firstFor frames + length l) (sym v), ap (λ (x : Tally). x .totals) t ∙ c .1 ∙ ap totalsOf (sym v))

@@ -14,7 +14,7 @@ use Rattle.rule.specs.Build.{treeOf}
 use Rattle.rule.specs.Check.{checkedOf}
 use Rattle.log.specs.Digit.{digitValue}
 use Rattle.log.specs.Line.{digitsAtFront, badPlace, lineOf}
-use Rattle.verdict.specs.declared.Truth.the-variants.{True, False, Unknown}
+use Rattle.verdict.specs.declared.Verdict.the-variants.{True, False, Unknown}
 use Rattle.checker.specs.Limits.{windowWords}
 use Rattle.checker.specs.Base.{ofEvent, referenced, smallest, base, firstInstance}
 use Rattle.checker.specs.State.{freshState, withCount, withPulled}

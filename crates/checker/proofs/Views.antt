@@ -12,8 +12,7 @@ use Rattle.rule.specs.Tree.{Reference, Cond, references}
 use Rattle.rule.specs.Build.{treeOf}
 use Rattle.verdict.specs.Found.{Found, foundIn, Given, givenIn}
 use Rattle.verdict.specs.Settled.{judgement}
-use Rattle.verdict.specs.declared.Truth.{Truth}
-use Rattle.verdict.specs.declared.Truth.the-variants as truths
+use Rattle.verdict.specs.declared.Verdict.{Verdict}
 use Rattle.verdict.specs.declared.Judgement.{Judgement}
 use Rattle.verdict.specs.declared.Judgement.the-variants.{Unsettled, True, False, Unknown}
 use Rattle.checker.specs.Limits.{reportLeast}
@@ -44,7 +43,7 @@ written-long n bytes buffer h =
 
 -- a reported instance; the verdict is false
 abbrev reportOf : ℕ → InstanceVerdict
-reportOf i = record { instance = i; verdict = truths.False }
+reportOf i = record { instance = i; verdict = Verdict.False }
 
 view-report : (i : ℕ) (xs : List Found) (buffer : List ℕ) → reportLeast ≤ length buffer
     → viewDef (written (reportBytes i xs) buffer) ≡ record { number = 0; bytes = seen (reportOf i) }
@@ -76,27 +75,27 @@ filling opened = 0
 filling accepted = 0
 filling ignored = 0
 filling waiting = 0
-filling (verdict truths.True) = 0
-filling (verdict truths.False) = 1
-filling (verdict truths.Unknown) = 0
+filling (verdict Verdict.True) = 0
+filling (verdict Verdict.False) = 1
+filling (verdict Verdict.Unknown) = 0
 filling (refused number place) = 0
 
 -- what is said of an answer that fills no report
-no-report : {A : Type 0} (a : Answer) → filling a ≡ 0 → a ≡ verdict truths.False → A
+no-report : {A : Type 0} (a : Answer) → filling a ≡ 0 → a ≡ verdict Verdict.False → A
 no-report a z q = absurd (let one : filling a ≡ 1 = ap filling q in omega arith)
 
 module _ (i : ℕ) (refs : List Reference) (found : Reference → Found) (buffer : List ℕ) where
-  view-filled : (x : PullRead) → Enough (length buffer) x → pullAnswer x ≡ verdict truths.False
+  view-filled : (x : PullRead) → Enough (length buffer) x → pullAnswer x ≡ verdict Verdict.False
       → viewDef (pullReport i refs found buffer x) ≡ record { number = 0; bytes = seen (reportOf i) }
   view-filled short long q = no-report _ refl q
   view-filled waits long q = no-report _ refl q
-  view-filled (gave truths.True) long q = no-report _ refl q
-  view-filled (gave truths.False) long q = view-report i (map found refs) buffer long
-  view-filled (gave truths.Unknown) long q = no-report _ refl q
+  view-filled (gave Verdict.True) long q = no-report _ refl q
+  view-filled (gave Verdict.False) long q = view-report i (map found refs) buffer long
+  view-filled (gave Verdict.Unknown) long q = no-report _ refl q
 
 -- of what a pull at instance i gives: a report that was filled has this view
 abbrev Viewed : ℕ → PullResult → Type 0
-Viewed i r = r .answer ≡ verdict truths.False → viewDef (r .report) ≡ record { number = 0; bytes = seen (reportOf i) }
+Viewed i r = r .answer ≡ verdict Verdict.False → viewDef (r .report) ≡ record { number = 0; bytes = seen (reportOf i) }
 
 pub view-after : (s : State) (win : List ℤ) (buffer : List ℕ) → Viewed (s .next .0) (pullDef s win buffer)
 unfolding pullDef
@@ -113,7 +112,7 @@ view-after s win buffer =
 -- ---- the views of a list from m on, os being what it gives: those of its verdicts, the first of instance m's p
 module _ (frames : List ℕ) (w : ℕ) where
   -- beside what a feed adds
-  seen-fed : (m : Machine) (f : FeedRead) (vs : List Truth) (ws : List (List ℕ))
+  seen-fed : (m : Machine) (f : FeedRead) (vs : List Verdict) (ws : List (List ℕ))
       → ws ≡ map seen (reportedFrom (afterFeed m f .next) vs) → ws ≡ map seen (reportedFrom (m .next) (handed (feedAnswer f) vs))
   unfolding joined
   seen-fed m (turned number place) vs ws h = h
@@ -121,17 +120,17 @@ module _ (frames : List ℕ) (w : ℕ) where
   seen-fed m (taken e notes) vs ws h = h
 
   -- beside what a pull adds
-  seen-pulled : (m : Machine) (buffer : List ℕ) (x : PullRead) → Enough (length buffer) x → (vs : List Truth) (ws : List (List ℕ))
+  seen-pulled : (m : Machine) (buffer : List ℕ) (x : PullRead) → Enough (length buffer) x → (vs : List Verdict) (ws : List (List ℕ))
       → ws ≡ map seen (reportedFrom (afterPull m x .next) vs)
       → viewing (pullAnswer x) (bufferBy frames w m buffer x) ws ≡ map seen (reportedFrom (m .next) (handed (pullAnswer x) vs))
   unfolding moved reportedFrom
   seen-pulled m buffer short long vs ws h = h
   seen-pulled m buffer waits long vs ws h = h
-  seen-pulled m buffer (gave truths.True) long vs ws h = h
-  seen-pulled m buffer (gave truths.False) long vs ws h =
+  seen-pulled m buffer (gave Verdict.True) long vs ws h = h
+  seen-pulled m buffer (gave Verdict.False) long vs ws h =
       let found = map (foundIn (m .lists) (m .next)) (references (treeOf frames)) in
       ap₂ _∷_ (ap (λ (r : ViewResult). r .bytes) (view-report (m .next) found buffer long)) h
-  seen-pulled m buffer (gave truths.Unknown) long vs ws h = h
+  seen-pulled m buffer (gave Verdict.Unknown) long vs ws h = h
 
   all-seen : (cs : List Call) (m : Machine)
       → views (outs (machineFor frames w) cs m) ≡ map seen (reportedFrom (m .next) (verdicts (outs (machineFor frames w) cs m)))
@@ -166,12 +165,12 @@ reported bytes = reportOf (wordOf (getD bytes 0 0) (getD bytes 1 0) (getD bytes 
 reported-seen : (i : ℕ) → reported (seen (reportOf i)) ≡ reportOf i
 reported-seen i = ap reportOf (word-back i)
 
-reported-back : (i : ℕ) (vs : List Truth) → map reported (map seen (reportedFrom i vs)) ≡ reportedFrom i vs
+reported-back : (i : ℕ) (vs : List Verdict) → map reported (map seen (reportedFrom i vs)) ≡ reportedFrom i vs
 unfolding reportedFrom
 reported-back i [] = refl
-reported-back i (truths.True ∷ vs) = reported-back (i + 1) vs
-reported-back i (truths.False ∷ vs) = ap₂ _∷_ (reported-seen i) (reported-back (i + 1) vs)
-reported-back i (truths.Unknown ∷ vs) = reported-back (i + 1) vs
+reported-back i (Verdict.True ∷ vs) = reported-back (i + 1) vs
+reported-back i (Verdict.False ∷ vs) = ap₂ _∷_ (reported-seen i) (reported-back (i + 1) vs)
+reported-back i (Verdict.Unknown ∷ vs) = reported-back (i + 1) vs
 
 -- ---- two lists
 module _ {frames : List ℕ} {w w′ : ℕ} {win win′ : List ℤ}

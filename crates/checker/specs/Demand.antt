@@ -13,8 +13,8 @@ use Rattle.verdict.specs.Found.{Found, present, pending, foundIn, givenIn}
 use Rattle.verdict.specs.Settled.{judgement}
 use Rattle.verdict.specs.Settled as settling
 use Rattle.verdict.specs.Later.{Gains}
-use Rattle.verdict.specs.declared.Truth.{Truth}
-use Rattle.verdict.specs.declared.Truth.the-variants.{True, False, Unknown}
+use Rattle.verdict.specs.declared.Verdict.{Verdict}
+use Rattle.verdict.specs.declared.Verdict.the-variants.{True, False, Unknown}
 use Rattle.checker.specs.Answer.{Answer, opened, accepted, ignored, waiting, verdict, refused}
 use Rattle.checker.specs.Base.{firstFor}
 use Rattle.checker.specs.State.{tallyIn}
@@ -41,7 +41,7 @@ answerOf (pulled a report) = a
 
 -- ---- verdicts
 -- "the answer is its verdict": one such answer before others
-abbrev pub handed : Answer → List Truth → List Truth
+abbrev pub handed : Answer → List Verdict → List Verdict
 handed opened vs = vs
 handed accepted vs = vs
 handed ignored vs = vs
@@ -50,7 +50,7 @@ handed (verdict v) vs = v ∷ vs
 handed (refused number place) vs = vs
 
 -- the "verdicts pulled" in a list of calls, the first instance's first
-unfoldable pub verdicts : List Out → List Truth
+unfoldable pub verdicts : List Out → List Verdict
 verdicts [] = []
 verdicts (o ∷ os) = handed (answerOf o) (verdicts os)
 
@@ -60,7 +60,7 @@ span i zero f = []
 span i (suc n) f = f i ∷ span (i + 1) n f
 
 -- 1 where a verdict is the one that is counted, for "a total for each of the verdicts"
-abbrev pub isIt : Truth → Truth → ℕ
+abbrev pub isIt : Verdict → Verdict → ℕ
 isIt True True = 1
 isIt True False = 0
 isIt True Unknown = 0
@@ -72,12 +72,12 @@ isIt Unknown False = 0
 isIt Unknown Unknown = 1
 
 -- "a total for each of the verdicts": how often one is among others
-unfoldable pub countIn : List Truth → Truth → ℕ
+unfoldable pub countIn : List Verdict → Verdict → ℕ
 countIn [] v = 0
 countIn (x ∷ xs) v = isIt v x + countIn xs v
 
 -- "the totals true, false, unknown"
-abbrev pub totalsOf : List Truth → Totals
+abbrev pub totalsOf : List Verdict → Totals
 totalsOf vs = record { held = countIn vs True; failed = countIn vs False; unknown = countIn vs Unknown }
 
 -- ---- after a list of calls, from an opening with these frames, this W and this window
@@ -90,7 +90,7 @@ abbrev pub machineAfter : List ℕ → ℕ → List Call → Machine
 machineAfter frames w cs = end (machineFor frames w) cs (atFirst frames)
 
 -- "verdicts pulled" from the checker
-abbrev pub handedOut : List ℕ → ℕ → List ℤ → List Call → List Truth
+abbrev pub handedOut : List ℕ → ℕ → List ℤ → List Call → List Verdict
 handedOut frames w win cs = verdicts (outs checker cs (fresh frames w win))
 
 -- ---- "The third demand is a single claim about the whole list and not one for each call"

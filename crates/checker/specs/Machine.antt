@@ -10,7 +10,7 @@ use Rattle.rule.specs.Tree.{Cond, references}
 use Rattle.rule.specs.Build.{treeOf}
 use Rattle.log.specs.Line.{lineOf}
 use Rattle.verdict.specs.Found.{Given, givenIn}
-use Rattle.verdict.specs.declared.Truth.{Truth}
+use Rattle.verdict.specs.declared.Verdict.{Verdict}
 use Rattle.checker.specs.Base.{firstFor}
 use Rattle.checker.specs.State.{noTotals, counted, Tally}
 use Rattle.checker.specs.Feed.{FeedRead, turned, skipped, taken, feedRead, feedAnswer}
@@ -44,7 +44,7 @@ joined m e notes =
     }
 
 -- "p and that verdict's total go up by 1"
-unfoldable pub moved : Machine → Truth → Machine
+unfoldable pub moved : Machine → Verdict → Machine
 moved m v = record { lists = m .lists; next = m .next + 1; totals = counted (m .totals) v }
 
 -- "A refused line or pull, an ignored line and 'waiting' change nothing"

@@ -9,8 +9,7 @@ use lib.ListN.{length}
 use Rattle.rule.specs.Tree.{Reference, Cond}
 use Rattle.verdict.specs.Found.{Found, Given}
 use Rattle.verdict.specs.Settled.{judgement}
-use Rattle.verdict.specs.declared.Truth.{Truth}
-use Rattle.verdict.specs.declared.Truth.the-variants as truths
+use Rattle.verdict.specs.declared.Verdict.{Verdict}
 use Rattle.verdict.specs.declared.Judgement.{Judgement}
 use Rattle.verdict.specs.declared.Judgement.the-variants.{Unsettled, True, False, Unknown}
 use Rattle.checker.specs.Limits.{reportLeast}
@@ -26,14 +25,14 @@ use Rattle.checker.specs.declared.State.{State}
 -- "a buffer that 14 names", 'waiting', or "its verdict"
 pub data PullRead : Type 0 where
   short waits : PullRead
-  gave : Truth → PullRead
+  gave : Verdict → PullRead
 
 -- "If instance p is settled by the lists, the answer is its verdict .. Else the answer is 'waiting'"
 abbrev pub offered : Judgement → PullRead
 offered Unsettled = waits
-offered True = gave truths.True
-offered False = gave truths.False
-offered Unknown = gave truths.Unknown
+offered True = gave Verdict.True
+offered False = gave Verdict.False
+offered Unknown = gave Verdict.Unknown
 
 -- "a buffer that 14 names is refused with 14": n is the buffer's length; by what is given of the instance
 unfoldable pub pullRead : Cond → Given → ℕ → PullRead

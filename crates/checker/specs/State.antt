@@ -7,8 +7,8 @@ use lib.ListN.{length, getD, set, take, replicate}
 use Rattle.rule.specs.Limits.{eventLimit, frameLimit, frameBytes}
 use Rattle.rule.specs.Tree.{Reference, Cond, references}
 use Rattle.rule.specs.Build.{treeOf}
-use Rattle.verdict.specs.declared.Truth.{Truth}
-use Rattle.verdict.specs.declared.Truth.the-variants.{True, False, Unknown}
+use Rattle.verdict.specs.declared.Verdict.{Verdict}
+use Rattle.verdict.specs.declared.Verdict.the-variants.{True, False, Unknown}
 use Rattle.checker.specs.Base.{firstFor}
 use Rattle.checker.specs.declared.Totals.{Totals}
 use Rattle.checker.specs.declared.State.{State}
@@ -19,7 +19,7 @@ abbrev pub noTotals : Totals
 noTotals = record { held = 0; failed = 0; unknown = 0 }
 
 -- "that verdict's total go up by 1"
-abbrev pub counted : Totals → Truth → Totals
+abbrev pub counted : Totals → Verdict → Totals
 counted t True = record { held = t .held + 1; failed = t .failed; unknown = t .unknown }
 counted t False = record { held = t .held; failed = t .failed + 1; unknown = t .unknown }
 counted t Unknown = record { held = t .held; failed = t .failed; unknown = t .unknown + 1 }
@@ -99,7 +99,7 @@ withCount s e =
     }
 
 -- "p and that verdict's total go up by 1"
-unfoldable pub withPulled : State → Truth → State
+unfoldable pub withPulled : State → Verdict → State
 withPulled s v =
     record {
       frames = s .frames;

@@ -7,8 +7,8 @@ use lib.Dec.{ltb}
 use lib.IntN.{ℤ}
 use lib.ListN.{length, take}
 use Rattle.rule.specs.Tree.{wordBytes}
-use Rattle.verdict.specs.declared.Truth.{Truth}
-use Rattle.verdict.specs.declared.Truth.the-variants.{True, False, Unknown}
+use Rattle.verdict.specs.declared.Verdict.{Verdict}
+use Rattle.verdict.specs.declared.Verdict.the-variants.{True, False, Unknown}
 use Rattle.checker.specs.Limits.{reportLeast}
 use Rattle.checker.specs.Answer.{Answer, opened, accepted, ignored, waiting, verdict, refused}
 use Rattle.checker.specs.Base.{firstFor}
@@ -35,7 +35,7 @@ viewDef buffer =
 
 -- ---- views in a list of calls
 -- document 01: "A false verdict fills a report in a lent buffer; other verdicts leave it"
-abbrev pub fills : Truth → Bool
+abbrev pub fills : Verdict → Bool
 fills True = false
 fills False = true
 fills Unknown = false
@@ -63,10 +63,10 @@ viewsOut frames w win cs = views (outs checker cs (fresh frames w win))
 -- one of them
 pub record InstanceVerdict : Type 0 where
   pub instance : ℕ
-  pub verdict : Truth
+  pub verdict : Verdict
 
 -- those that fill a report, of verdicts of which the first is instance i's
-unfoldable pub reportedFrom : ℕ → List Truth → List InstanceVerdict
+unfoldable pub reportedFrom : ℕ → List Verdict → List InstanceVerdict
 reportedFrom i [] = []
 reportedFrom i (v ∷ vs) =
     cond (fills v) (record { instance = i; verdict = v } ∷ reportedFrom (i + 1) vs) (reportedFrom (i + 1) vs)

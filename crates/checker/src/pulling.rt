@@ -13,7 +13,7 @@ use rule::FRAME_BYTES;
 use rule::Refusal;
 use verdict::Instance;
 use verdict::Judgement;
-use verdict::Truth;
+use verdict::Verdict;
 ghost use mathlib.Core.Path.{_≡_};
 ghost use mathlib.Core.List.{List};
 ghost use Prim.Native.Nat.{ℕ, _+_, _*_, _≤_};
@@ -62,22 +62,22 @@ fn refuse(s: Rest, number: u8) -> Turn
 }
 
 // A verdict's total goes up by 1.
-fn count_verdict(t: Totals, p: Instance, v: Truth) -> Totals
+fn count_verdict(t: Totals, p: Instance, v: Verdict) -> Totals
     requires { ⌜ Countable t (p .0) ⌝ }
     ensures { λ r. ⌜ r ≡ counted t v ⌝ }
 {
     match v {
-        Truth::True => Totals {
+        Verdict::True => Totals {
             held: t.held + 1,
             failed: t.failed,
             unknown: t.unknown,
         },
-        Truth::False => Totals {
+        Verdict::False => Totals {
             held: t.held,
             failed: t.failed + 1,
             unknown: t.unknown,
         },
-        Truth::Unknown => Totals {
+        Verdict::Unknown => Totals {
             held: t.held,
             failed: t.failed,
             unknown: t.unknown + 1,
@@ -86,7 +86,7 @@ fn count_verdict(t: Totals, p: Instance, v: Truth) -> Totals
 }
 
 // p and that verdict's total go up by 1.
-fn move_on(s: Rest, answer: PullAnswer, v: Truth) -> Turn
+fn move_on(s: Rest, answer: PullAnswer, v: Verdict) -> Turn
     requires { ⌜ Countable (s .totals) (s .next .0) ⌝ }
     ensures { λ r. ⌜ r ≡ record { answer = answer; next = record { 0 = s .next .0 + 1 }; totals = counted (s .totals) v } ⌝ }
 {
@@ -107,9 +107,9 @@ fn give(s: Rest, judged: Judgement) -> Turn
 {
     match judged {
         Judgement::Unsettled => stay(s, PullAnswer::Waiting),
-        Judgement::True => move_on(s, PullAnswer::True, Truth::True),
-        Judgement::False => move_on(s, PullAnswer::False, Truth::False),
-        Judgement::Unknown => move_on(s, PullAnswer::Unknown, Truth::Unknown),
+        Judgement::True => move_on(s, PullAnswer::True, Verdict::True),
+        Judgement::False => move_on(s, PullAnswer::False, Verdict::False),
+        Judgement::Unknown => move_on(s, PullAnswer::Unknown, Verdict::Unknown),
     }
 }
 

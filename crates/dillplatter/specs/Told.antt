@@ -4,8 +4,7 @@ use Prim.Native.Nat.{ℕ}
 use Rattle.rule.specs.declared.Reading.{Reading}
 use Rattle.rule.specs.declared.Reading.the-variants.{Frames, Refused}
 use Rattle.log.specs.Earlier as log
-use Rattle.verdict.specs.declared.Truth.{Truth}
-use Rattle.verdict.specs.declared.Truth.the-variants.{True, False, Unknown}
+use Rattle.verdict.specs.declared.Verdict.the-variants.{True, False, Unknown}
 use Rattle.checker.specs.Answer.{Answer, opened, accepted, ignored, waiting, verdict, refused}
 use Rattle.checker.specs.Tariff.{Charge, cents, turned}
 

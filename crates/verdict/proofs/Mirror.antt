@@ -20,9 +20,9 @@ use Rattle.rule.proofs.Laws.{byte-kind, Live, sumsOf, live, one-left, found, li
 use Rattle.verdict.specs.Found.{Found, present, pending, void, Given, isPresent, isPending, isMissing, someOf}
 use Rattle.verdict.specs.Kleene.{notK, joined, truth}
 use Rattle.verdict.specs.Value.{computed, sizeOf, noteOf, holds, valueS, value}
-use Rattle.verdict.specs.Settled.{judgement}
+use Rattle.verdict.specs.Settled.{judgedBy, judgement}
 use Rattle.verdict.specs.Marks.{presentMark, pendingMark, Tells, Told}
-use Rattle.verdict.specs.Pass.{Pass, related, operandBy, passBy, passAt, firstT, judgedBy, judgementOf}
+use Rattle.verdict.specs.Pass.{Pass, related, operandBy, passBy, passAt, firstT, judgementOf}
 use Rattle.verdict.specs.declared.Truth.{Truth}
 use Rattle.verdict.specs.declared.Truth.the-variants.{Unknown}
 use Rattle.verdict.proofs.Built.{AsMany, as-many}

@@ -8,7 +8,7 @@ use Rattle.numbers.proofs.Bools.{true-false}
 use Rattle.verdict.specs.Found.{Found, Given, isMissing, isPending, isPresent, someOf}
 use Rattle.verdict.specs.Kleene.{notK, joined, truth}
 use Rattle.verdict.specs.Value.{computed, sizeOf, noteOf, holds, valueS, value}
-use Rattle.verdict.specs.Settled.{settledBy, verdict, settled, judgement}
+use Rattle.verdict.specs.Settled.{settledBy, verdictOf, verdict, settled, judgement}
 use Rattle.verdict.specs.Later.{withFound}
 use Rattle.verdict.specs.declared.Truth.{Truth}
 use Rattle.verdict.specs.declared.Truth.the-variants.{Unknown}
@@ -53,7 +53,7 @@ module _ (g : Given) (found : Reference → Found) where
 
   pub judgement-own : (t : Cond) → SameOn (references t) (g .found) found → judgement g t ≡ judgement (withFound g found) t
   judgement-own t h =
-      ap₂ (λ (b : Bool) (v : Truth). cond b (verdict v) Unsettled) (settled-own t h) (value-own t h)
+      ap₂ (λ (b : Bool) (v : Truth). cond b (verdict (verdictOf v)) Unsettled) (settled-own t h) (value-own t h)
 
 -- where none is so, each is not
 or-left : (a b : Bool) → (a || b) ≡ false → a ≡ false

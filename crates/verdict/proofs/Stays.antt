@@ -13,7 +13,7 @@ use Rattle.numbers.proofs.Bools.{true-false}
 use Rattle.verdict.specs.Found.{meant, Found, pending, byLists, foundIn, Given, givenIn, isMissing, isPending, isPresent, someOf}
 use Rattle.verdict.specs.Kleene.{truth, isKnown}
 use Rattle.verdict.specs.Value.{holds, valueS, value}
-use Rattle.verdict.specs.Settled.{settledBy, verdict, settled, judgement}
+use Rattle.verdict.specs.Settled.{settledBy, verdictOf, verdict, settled, judgement}
 use Rattle.verdict.specs.Later.{Gains, withFound, GainsIn, Sharpens, MoreLines}
 use Rattle.verdict.specs.declared.Truth.{Truth}
 use Rattle.verdict.specs.declared.Truth.the-variants.{Unknown}
@@ -88,9 +88,9 @@ module _ (g : Given) (found′ : Reference → Found) where
     pub settled-stays : settled g t ≡ true → (settled (withFound g found′) t ≡ true) × (value (withFound g found′) t ≡ value g t)
     settled-stays h = both-stay (someOf isPending (g .found) (references t)) (someOf isPresent (g .found) (references t)) refl refl h
 
-    judged : (b : Bool) → settled g t ≡ b → (cond b (verdict (value g t)) judgements.Unsettled ≡ judgements.Unsettled → ⊥)
-        → judgement (withFound g found′) t ≡ cond b (verdict (value g t)) judgements.Unsettled
-    judged true e h = let q = settled-stays e in ap₂ (λ (b : Bool) (v : Truth). cond b (verdict v) judgements.Unsettled) (q .0) (q .1)
+    judged : (b : Bool) → settled g t ≡ b → (cond b (verdict (verdictOf (value g t))) judgements.Unsettled ≡ judgements.Unsettled → ⊥)
+        → judgement (withFound g found′) t ≡ cond b (verdict (verdictOf (value g t))) judgements.Unsettled
+    judged true e h = let q = settled-stays e in ap₂ (λ (b : Bool) (v : Truth). cond b (verdict (verdictOf v)) judgements.Unsettled) (q .0) (q .1)
     judged false e h = absurd (h refl)
 
     pub judgement-stays : (judgement g t ≡ judgements.Unsettled → ⊥) → judgement (withFound g found′) t ≡ judgement g t
