@@ -3,7 +3,6 @@ mod Own
 mod Resolve
 mod Stays
 mod Numbers
-mod Meanings
 mod ByKind
 mod Built
 mod Bounds

@@ -25,51 +25,31 @@ use Rattle.verdict.specs.Marks.{presentMark, pendingMark, Tells, Told}
 use Rattle.verdict.specs.Pass.{Pass, related, operandBy, passBy, passAt, firstT, judgementOf}
 use Rattle.verdict.specs.declared.Truth.{Truth}
 use Rattle.verdict.specs.declared.Truth.the-variants.{Unknown}
+use Rattle.verdict.proofs.Own.{or-left, or-right}
 use Rattle.verdict.proofs.Built.{AsMany, as-many}
 
 -- ---- what a mark says
-module _ (f : Found) (mark : ℕ) (note : ℤ) (h : Tells f mark note) where
-  tells-missing : not (eqb mark presentMark) ≡ isMissing f
-  tells-missing = go f h
-    where
-      go : (g : Found) → Tells g mark note → not (eqb mark presentMark) ≡ isMissing g
-      go (present z) t = rw (t .0)
-      go pending t = rw t
-      go void t = rw t
+tells-missing : (f : Found) (mark : ℕ) (note : ℤ) → Tells f mark note → not (eqb mark presentMark) ≡ isMissing f
+tells-missing (present z) mark note t = rw (t .0)
+tells-missing pending mark note t = rw t
+tells-missing void mark note t = rw t
 
-  tells-pending : eqb mark pendingMark ≡ isPending f
-  tells-pending = go f h
-    where
-      go : (g : Found) → Tells g mark note → eqb mark pendingMark ≡ isPending g
-      go (present z) t = rw (t .0)
-      go pending t = rw t
-      go void t = rw t
+tells-pending : (f : Found) (mark : ℕ) (note : ℤ) → Tells f mark note → eqb mark pendingMark ≡ isPending f
+tells-pending (present z) mark note t = rw (t .0)
+tells-pending pending mark note t = rw t
+tells-pending void mark note t = rw t
 
-  tells-present : eqb mark presentMark ≡ isPresent f
-  tells-present = go f h
-    where
-      go : (g : Found) → Tells g mark note → eqb mark presentMark ≡ isPresent g
-      go (present z) t = rw (t .0)
-      go pending t = rw t
-      go void t = rw t
+tells-present : (f : Found) (mark : ℕ) (note : ℤ) → Tells f mark note → eqb mark presentMark ≡ isPresent f
+tells-present (present z) mark note t = rw (t .0)
+tells-present pending mark note t = rw t
+tells-present void mark note t = rw t
 
-  tells-note : isMissing f ≡ false → note ≡ noteOf f
-  tells-note = go f h
-    where
-      go : (g : Found) → Tells g mark note → isMissing g ≡ false → note ≡ noteOf g
-      go (present z) t e = t .1
-      go pending t e = absurd (true-false e)
-      go void t e = absurd (true-false e)
+tells-note : (f : Found) (mark : ℕ) (note : ℤ) → Tells f mark note → isMissing f ≡ false → note ≡ noteOf f
+tells-note (present z) mark note t e = t .1
+tells-note pending mark note t e = absurd (true-false e)
+tells-note void mark note t e = absurd (true-false e)
 
 -- ---- alternatives
-or-left : (a b : Bool) → (a || b) ≡ false → a ≡ false
-or-left true b e = e
-or-left false b e = refl
-
-or-right : (a b : Bool) → (a || b) ≡ false → b ≡ false
-or-right true b e = absurd (true-false e)
-or-right false b e = e
-
 or-last : (a b : Bool) → (a || b) ≡ ((b || false) || a)
 or-last true true = refl
 or-last true false = refl

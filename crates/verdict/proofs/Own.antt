@@ -56,11 +56,11 @@ module _ (g : Given) (found : Reference → Found) where
       ap₂ (λ (b : Bool) (v : Truth). cond b (verdict (verdictOf v)) Unsettled) (settled-own t h) (value-own t h)
 
 -- where none is so, each is not
-or-left : (a b : Bool) → (a || b) ≡ false → a ≡ false
+pub or-left : (a b : Bool) → (a || b) ≡ false → a ≡ false
 or-left true b e = e
 or-left false b e = refl
 
-or-right : (a b : Bool) → (a || b) ≡ false → b ≡ false
+pub or-right : (a b : Bool) → (a || b) ≡ false → b ≡ false
 or-right true b e = absurd (true-false e)
 or-right false b e = e
 

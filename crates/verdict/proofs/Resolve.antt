@@ -1,4 +1,4 @@
--- Laws of what a reference is found to be, over any lookup. Assumes nothing.
+-- Laws of the occurrence that a reference means, and of what it is found to be, over any lookup. Assumes nothing.
 use mathlib.Core.Path.{_≡_, refl, ap}
 use mathlib.Core.Bool.{Bool, true, false, cond}
 use mathlib.Core.Logic.{inl, inr}
@@ -6,13 +6,24 @@ use Prim.Native.Nat.{ℕ, suc, _+_, _*_, _-_, _≤_, _<_}
 use native.Mathlib.Omega.{arith}
 use lib.Dec.{ltb}
 use lib.IntN.{ℤ, pos, negsuc, natAbs, _+ℤ_}
+use lib.Signed.{ltZ}
 use borrow.Author.Tests.{ltb-true, lt-ltb, le-ltb}
+use Rattle.numbers.proofs.Bools.{true-false}
 use Rattle.rule.specs.Tree.{Reference}
 use Rattle.verdict.specs.Found.{meantBy, present, pending, Lookup, foundAt, foundBy, resolve}
 use Rattle.verdict.specs.Later.{Gains}
 use Rattle.verdict.specs.declared.Meant.{Meant}
 use Rattle.verdict.specs.declared.Meant.the-variants.{Void, At}
 use Rattle.verdict.specs.declared.Occurrence.{Occurrence}
+
+-- ---- the occurrence that a number means
+pub meant-void : (z : ℤ) → ltZ z (pos 0) ≡ true → Void ≡ meantBy z
+meant-void (pos n) e = absurd (let h : n < 0 = ltb-true n 0 e in omega arith)
+meant-void (negsuc n) e = refl
+
+pub meant-at : (z : ℤ) → ltZ z (pos 0) ≡ false → At (record { 0 = natAbs z }) ≡ meantBy z
+meant-at (pos n) e = refl
+meant-at (negsuc n) e = absurd (true-false e)
 
 -- ---- an occurrence in two lookups, with the counts c and d and the values y and z
 at-same : (c d : ℕ) (y z : ℤ) (k : ℕ) → c ≡ d → (k < d → y ≡ z) → foundAt c y k ≡ foundAt d z k
