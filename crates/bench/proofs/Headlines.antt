@@ -14,7 +14,7 @@ use Rattle.log.specs.Digit.{hexDigit}
 use Rattle.log.specs.Pair.{pairOf}
 use Rattle.log.specs.Walk.{linesOf}
 use Rattle.log.specs.declared.digit.Pair.the-variants.{Byte}
-use Rattle.verdict.specs.declared.Truth.the-variants.{False}
+use Rattle.verdict.specs.declared.Verdict.the-variants.{False}
 use Rattle.checker.specs.Answer.{verdict}
 use Rattle.checker.specs.State.{stateFrames, refsIn}
 use Rattle.checker.specs.Open.{windowFits, OpenResult}

@@ -17,8 +17,7 @@ use Rattle.rule.specs.declared.Reading.the-variants.{Frames}
 use Rattle.rule.proofs.Main.{read-bytes}
 use Rattle.verdict.specs.Found.{instanceLimit}
 use Rattle.verdict.specs.Settled.{judgement}
-use Rattle.verdict.specs.declared.Truth.{Truth}
-use Rattle.verdict.specs.declared.Truth.the-variants as truths
+use Rattle.verdict.specs.declared.Verdict.{Verdict}
 use Rattle.verdict.specs.declared.Judgement.{Judgement}
 use Rattle.verdict.specs.declared.Judgement.the-variants.{Unsettled, True, False, Unknown}
 use Rattle.checker.specs.Answer.{waiting, verdict}
@@ -28,7 +27,7 @@ use Rattle.checker.specs.Admission.{admitted, admission}
 use Rattle.checker.specs.Good.{allTo, goodCount, goodRule, goodTally, goodState}
 use Rattle.checker.specs.Demand.{Unrefused}
 use Rattle.checker.specs.Feed.{feedDef}
-use Rattle.checker.specs.Pull.{offered, pullRead, PullResult, foundHere, pulledBy, pullDef}
+use Rattle.checker.specs.Pull.{offered, pullRead, PullResult, givenHere, pulledBy, pullDef}
 use Rattle.checker.specs.declared.State.{State}
 use Rattle.checker.proofs.Laws.{both-opened, in-good, open-admitted, feed-admitted, pull-admitted, feed-rule, pull-rule}
 use Rattle.bench.specs.Progress.{Progress, blank, pullOf, isVerdict, pulledOnce, UntilWaiting, last, more, pulls, pullLimit, fedLine, afterLine, afterLines}
@@ -53,14 +52,14 @@ same-frames s t r = rw (r .frames, r .len)
 -- ---- one pull: 'waiting', or a verdict that raises p by 1
 data Pulled (p : ℕ) (r : PullResult) : Type 0 where
   waited : r .answer ≡ waiting → Pulled p r
-  given : (v : Truth) → r .answer ≡ verdict v → r .state .next .0 ≡ p + 1 → Pulled p r
+  given : (v : Verdict) → r .answer ≡ verdict v → r .state .next .0 ≡ p + 1 → Pulled p r
 
 pulled-by : (s : State) (win : List ℤ) (j : Judgement) → Pulled (s .next .0) (pulledBy s win blank (offered j))
 unfolding withTally
 pulled-by s win Unsettled = waited refl
-pulled-by s win True = given truths.True refl refl
-pulled-by s win False = given truths.False refl refl
-pulled-by s win Unknown = given truths.Unknown refl refl
+pulled-by s win True = given Verdict.True refl refl
+pulled-by s win False = given Verdict.False refl refl
+pulled-by s win Unknown = given Verdict.Unknown refl refl
 
 next-once : (x : Progress) → pulledOnce x .state .next .0 ≡ pullOf x .state .next .0
 unfolding pulledOnce
@@ -71,7 +70,7 @@ module _ (x : Progress) (s : LetIn x) where
   unfolding pullDef pullRead
   pulled =
       rw (s .admits)
-      (pulled-by (x .state) (x .words) (judgement (x .state .next .0) (foundHere (x .state) (x .words)) (ruleIn (x .state))))
+      (pulled-by (x .state) (x .words) (judgement (givenHere (x .state) (x .words)) (ruleIn (x .state))))
 
   in-pulled : LetIn (pulledOnce x)
   unfolding pulledOnce

@@ -24,7 +24,7 @@ use Rattle.log.specs.Walk.{onto, linesOf}
 use Rattle.log.specs.declared.digit.Pair.the-variants.{Byte}
 use Rattle.log.proofs.Main.{digit-back}
 use Rattle.verdict.specs.Found.{Found}
-use Rattle.verdict.specs.declared.Truth.the-variants.{True, False, Unknown}
+use Rattle.verdict.specs.declared.Verdict.the-variants.{True, False, Unknown}
 use Rattle.checker.specs.Answer.{opened, verdict}
 use Rattle.checker.specs.State.{refsIn}
 use Rattle.checker.specs.Open.{OpenResult, openDef}

@@ -6,8 +6,8 @@ use Prim.Native.Nat.{ℕ, zero, suc, _+_, _%_, _^_}
 use lib.Dec.{eqb}
 use lib.IntN.{ℤ}
 use lib.ListN.{replicate}
-use Rattle.verdict.specs.declared.Truth.{Truth}
-use Rattle.verdict.specs.declared.Truth.the-variants.{True, False, Unknown}
+use Rattle.verdict.specs.declared.Verdict.{Verdict}
+use Rattle.verdict.specs.declared.Verdict.the-variants.{True, False, Unknown}
 use Rattle.checker.specs.Limits.{reportLeast}
 use Rattle.checker.specs.Answer.{Answer, opened, accepted, ignored, waiting, verdict, refused}
 use Rattle.checker.specs.Feed.{FeedResult, feedDef}
@@ -66,7 +66,7 @@ pulledOnce x =
 -- "pulls until waiting": each pull gives a verdict, but the last, which answers 'waiting'
 pub data UntilWaiting : Progress → Progress → Type 0 where
   last : (x : Progress) → pullOf x .answer ≡ waiting → UntilWaiting x (pulledOnce x)
-  more : (x y : Progress) (v : Truth) → pullOf x .answer ≡ verdict v → UntilWaiting (pulledOnce x) y → UntilWaiting x y
+  more : (x y : Progress) (v : Verdict) → pullOf x .answer ≡ verdict v → UntilWaiting (pulledOnce x) y → UntilWaiting x y
 
 -- the same, in at most so many pulls; `pulls-wait` (proofs/Headlines) says that pullLimit of them are enough
 unfoldable pub pulls : ℕ → Progress → Progress

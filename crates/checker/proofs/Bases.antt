@@ -7,13 +7,13 @@ use mathlib.Core.Logic.{⊎-elim}
 use Prim.Native.Nat.{ℕ, suc, _+_, _*_, _-_, _<_, _≤_}
 use native.Mathlib.Nat.{mul-le-mul-left, mul-le-mul-right}
 use native.Mathlib.Omega.{arith}
-use borrow.Author.Tests.{eq-eqb, le-ltb, eqb-true, ltb-true}
+use borrow.Author.Tests.{eq-eqb, eqb-true, ltb-true}
 use lib.Dec.{ltb, eqb}
 use lib.IntN.{ℤ, pos, negsuc, natAbs, subℕ, _+ℤ_}
-use lib.ListN.{length}
 use Rattle.rule.specs.Tree.{Reference}
 use Rattle.numbers.proofs.Bools.{true-false}
-use Rattle.verdict.specs.Found.{occurrence, pending, foundAt}
+use Rattle.verdict.specs.Found.{meantBy, pending, Lookup, resolve}
+use Rattle.verdict.proofs.Laws.{resolve-late}
 use Rattle.checker.specs.Base.{ofEvent, isSome, referenced, orZero, startAt, smallest, base}
 use Rattle.checker.proofs.Choices.{cond-case}
 
@@ -45,13 +45,13 @@ referenced-below n (x ∷ xs) e h q = go (eqb (x .event) e) refl q (referenced-b
     go false d q ih = ih q
 
 -- ---- where a reference starts
-orZero-sub : (a b : ℕ) → orZero (subℕ a b) ≡ a - b
+orZero-sub : (a b : ℕ) → orZero (meantBy (subℕ a b)) ≡ a - b
 orZero-sub a b =
-    cond-case (λ z. orZero z ≡ a - b) (ltb a b) (negsuc (b - suc a)) (pos (a - b))
+    cond-case (λ z. orZero (meantBy z) ≡ a - b) (ltb a b) (negsuc (b - suc a)) (pos (a - b))
     (λ e. omega (arith, ltb-true a b e))
     (λ e. refl)
 
-orZero-mono : (z : ℤ) (a b : ℕ) → a ≤ b → orZero (pos a +ℤ z) ≤ orZero (pos b +ℤ z)
+orZero-mono : (z : ℤ) (a b : ℕ) → a ≤ b → orZero (meantBy (pos a +ℤ z)) ≤ orZero (meantBy (pos b +ℤ z))
 orZero-mono (pos k) a b h = omega arith
 orZero-mono (negsuc k) a b h = rw (orZero-sub a (suc k), orZero-sub b (suc k)) (omega arith)
 
@@ -85,13 +85,6 @@ unfolding base
 base-mono refs e p q h = smallest-mono (startAt p) (startAt q) (λ r. start-mono r p q h) (ofEvent e refs)
 
 -- ---- an instance so late that 1,000,000 lines do not reach its references
-late-at : (lines : List (List ℤ)) (n : ℕ) (z : ℤ) (a : ℕ) → length lines + 9999 ≤ a → natAbs z ≤ 9999 → foundAt lines n (pos a +ℤ z) ≡ pending
-late-at lines n (pos k) a h l = rw (le-ltb (a + k) (length lines) (omega arith))
-late-at lines n (negsuc k) a h l =
-    let s : suc k ≤ 9999 = l in
-    rw (le-ltb a (suc k) (omega arith)) (rw (le-ltb (a - suc k) (length lines) (omega arith)))
-
-pub late-pending : (lines : List (List ℤ)) (r : Reference) (p : ℕ) → 1 ≤ r .factor → natAbs (r .offset) ≤ 9999 → length lines ≤ 1000000 → 1009999 ≤ p
-    → foundAt lines (r .note) (occurrence (r .factor) (r .offset) p) ≡ pending
-late-pending lines r p h₁ h₂ h₃ h₄ =
-    late-at lines (r .note) (r .offset) (r .factor * p) (omega (arith, mul-le-mul-right p h₁)) h₂
+pub late-pending : (l : Lookup) (r : Reference) (p : ℕ) → 1 ≤ r .factor → natAbs (r .offset) ≤ 9999 → l .count (r .event) ≤ 1000000 → 1009999 ≤ p
+    → resolve l p r ≡ pending
+late-pending l r p h₁ h₂ h₃ h₄ = resolve-late l p r (omega (arith, mul-le-mul-right p h₁))

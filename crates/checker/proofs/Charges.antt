@@ -11,7 +11,7 @@ use borrow.Author.Tests.{le-leb, lt-ltb}
 use lib.IntN.{ℤ}
 use Rattle.numbers.proofs.Bools.{true-false, true-and}
 use Rattle.verdict.specs.Found.{instanceLimit}
-use Rattle.verdict.specs.declared.Truth.the-variants.{False}
+use Rattle.verdict.specs.declared.Verdict.the-variants.{False}
 use Rattle.rule.specs.Check.{checkedOf}
 use Rattle.checker.specs.State.{zeroState}
 use Rattle.checker.specs.Good.{goodRule, goodState}

@@ -21,8 +21,6 @@ use Rattle.rule.specs.declared.Frame.{Frame}
 use Rattle.rule.proofs.Main.{tree-of, frames-exactly}
 use Rattle.rule.proofs.Laws.{AllWithin, references-within, reference-at, passed, over-references, overReferences, bytes-by}
 use Rattle.verdict.specs.Found.{instanceLimit, meantBy}
-use Rattle.verdict.specs.declared.Occurrence.{Occurrence}
-use Rattle.verdict.specs.declared.Meant.the-variants.{Void, At}
 use Rattle.verdict.proofs.Laws.{natAbs-add}
 use Rattle.checker.specs.Limits.{lineLimit}
 use Rattle.checker.specs.Base.{ofEvent, isSome, referenced, orZero, startAt, smallest, base}
@@ -50,14 +48,6 @@ within-in {s} b e =
     subst (λ (t : Cond). AllWithin (references t)) (sym (tree-of r)) (references-within (r .tree) (r .limits))
 
 -- ---- the steps of the pass
-pub void-zero : (z : ℤ) → meantBy z ≡ Void → orZero z ≡ 0
-void-zero (pos k) e = absurd (let q : _≡_ {A = ℕ} 0 1 = cc in omega arith)
-void-zero (negsuc k) e = refl
-
-pub at-zero : (z : ℤ) (k : Occurrence) → meantBy z ≡ At k → orZero z ≡ k .0
-at-zero (pos n) k e = let q : record { 0 = n } ≡ k = cc in ap (λ (x : Occurrence). x .0) q
-at-zero (negsuc n) k e = absurd (let q : _≡_ {A = ℕ} 0 1 = cc in omega arith)
-
 pub startable : (s : List ℕ) (p k : ℕ) → Passable s p → k < frameCount s → (x : Frame) → x ≡ frameAt s k → Startable p x
 startable s p k h l x e =
     subst (λ (y : Frame). Startable p y) (sym e)
@@ -122,7 +112,7 @@ low-over p e (r ∷ rs) ls h =
         (getD-set-other ls (r .event) e (min (getD ls (r .event) 0) (startAt p r)) 0 (λ z. eqb-false (r .event) e d (sym z)))
 
 -- ---- where a reference starts
-orZero-size : (z : ℤ) → orZero z ≤ natAbs z
+orZero-size : (z : ℤ) → orZero (meantBy z) ≤ natAbs z
 orZero-size (pos k) = omega arith
 orZero-size (negsuc k) = omega arith
 

@@ -12,7 +12,7 @@ use Rattle.log.specs.Line as line
 use Rattle.log.specs.Earlier.{oldLineOf, raisedDef}
 use Rattle.log.specs.Earlier as log
 use Rattle.log.proofs.Main.{raised-or-refused}
-use Rattle.verdict.specs.declared.Truth.{Truth}
+use Rattle.verdict.specs.declared.Verdict.{Verdict}
 use Rattle.checker.specs.Limits.{lineLimit}
 use Rattle.checker.specs.Answer.{Answer, opened, accepted, ignored, waiting, verdict, refused}
 use Rattle.checker.specs.Base.{referenced, base}
@@ -102,7 +102,7 @@ module _ (frames : List ℕ) (w : ℕ) (other : List ℕ) (named : lineOf other 
       ap (end (machineFor frames w) (map (raisedCall other) cs)) (next-step frames w other named m c) ∙ all-end cs _
 
 -- a refusal hands out no verdict, whatever its number
-handed-same : (a : Answer) (vs : List Truth) → handed (inRaised a) vs ≡ handed a vs
+handed-same : (a : Answer) (vs : List Verdict) → handed (inRaised a) vs ≡ handed a vs
 handed-same opened vs = refl
 handed-same accepted vs = refl
 handed-same ignored vs = refl
@@ -120,9 +120,9 @@ verdicts-kept (pulled a report ∷ os) = ap (handed a) (verdicts-kept os)
 pub raised-log : {frames : List ℕ} {w : ℕ} {win : List ℤ} → Unrefused frames w win
     → (other : List ℕ) → lineOf other ≡ line.refused 15 0 → (cs : List Call) → RaisedLog frames w win other cs
 raised-log {frames} {w} o other named cs =
-    let same = Lists.answers o (map (raisedCall other) cs) ∙ all-outs frames w other named cs atFirst in
+    let same = Lists.answers o (map (raisedCall other) cs) ∙ all-outs frames w other named cs (atFirst frames) in
     record {
       answers = same;
-      verdicts-same = ap verdicts same ∙ verdicts-kept (outs (oldMachineFor frames w) cs atFirst);
-      state = Lists.state o (map (raisedCall other) cs) ∙ ap tallyOf (all-end frames w other named cs atFirst);
+      verdicts-same = ap verdicts same ∙ verdicts-kept (outs (oldMachineFor frames w) cs (atFirst frames));
+      state = Lists.state o (map (raisedCall other) cs) ∙ ap tallyOf (all-end frames w other named cs (atFirst frames));
     }

@@ -21,12 +21,12 @@ use Rattle.rule.proofs.Main.{frames-exactly}
 use Rattle.log.specs.Line.{lineOf}
 use Rattle.log.specs.Line as log
 use Rattle.numbers.proofs.Bools.{and-true, true-and}
-use Rattle.verdict.specs.Found.{foundIn}
+use Rattle.verdict.specs.Found.{givenIn}
 use Rattle.verdict.specs.Value.{value}
 use Rattle.verdict.specs.Settled.{settled}
 use Rattle.verdict.specs.Settled as settling
-use Rattle.verdict.specs.declared.Truth.{Truth}
-use Rattle.verdict.specs.declared.Truth.the-variants.{True, False, Unknown}
+use Rattle.verdict.specs.declared.Verdict.{Verdict}
+use Rattle.verdict.specs.declared.Verdict.the-variants.{True, False, Unknown}
 use Rattle.verdict.specs.declared.Judgement.the-variants.{Unsettled}
 use Rattle.checker.specs.Limits.{widthLimit, windowWords, lineLimit, reportLeast}
 use Rattle.checker.specs.Answer.{Answer, opened, accepted, ignored, waiting, verdict, refused}
@@ -56,14 +56,14 @@ codeOf (verdict v) = 4
 codeOf (refused number place) = 5 + number
 
 -- ---- when a pull waits
-waits-by : (t s : Bool) (v : Truth) → pullAnswer (cond t short (offered (cond s (settling.verdict v) Unsettled))) ≡ waiting → (t ≡ false) × (s ≡ false)
+waits-by : (t s : Bool) (v : Verdict) → pullAnswer (cond t short (offered (cond s (settling.verdict v) Unsettled))) ≡ waiting → (t ≡ false) × (s ≡ false)
 waits-by true s v q = absurd (let z : 19 ≡ 3 = ap codeOf q in omega arith)
 waits-by false true True q = absurd (let z : 4 ≡ 3 = ap codeOf q in omega arith)
 waits-by false true False q = absurd (let z : 4 ≡ 3 = ap codeOf q in omega arith)
 waits-by false true Unknown q = absurd (let z : 4 ≡ 3 = ap codeOf q in omega arith)
 waits-by false false v q = (refl, refl)
 
-by-waits : (t s : Bool) (v : Truth) → t ≡ false → s ≡ false → pullAnswer (cond t short (offered (cond s (settling.verdict v) Unsettled))) ≡ waiting
+by-waits : (t s : Bool) (v : Verdict) → t ≡ false → s ≡ false → pullAnswer (cond t short (offered (cond s (settling.verdict v) Unsettled))) ≡ waiting
 by-waits t s v p q = rw (p, q)
 
 -- ---- when a line is accepted, and when the window is full
@@ -91,14 +91,14 @@ module _ (e : ℕ) (notes : List ℤ) where
 
 module _ {frames : List ℕ} {w : ℕ} {win : List ℤ} (o : Unrefused frames w win) (cs : List Call) where
   abbrev machineEnd : Machine
-  machineEnd = end (machineFor frames w) cs atFirst
+  machineEnd = end (machineFor frames w) cs (atFirst frames)
 
   abbrev checkerEnd : Checker
   checkerEnd = end checker cs (fresh frames w win)
 
   -- the answer to one call more
   pull-answer : (buffer : List ℕ) → pullDef (end checker cs (fresh frames w win) .state) (end checker cs (fresh frames w win) .words) buffer .answer
-      ≡ pullAnswer (pullRead (treeOf frames) (machineEnd .next) (foundIn (machineEnd .lists) (machineEnd .next)) (length buffer))
+      ≡ pullAnswer (pullRead (treeOf frames) (givenIn (machineEnd .lists) (machineEnd .next)) (length buffer))
   pull-answer buffer = ap answerOf (out-step frames w (opened-fine o) machineEnd checkerEnd (in-step o cs) (pull buffer))
 
   feed-answer : (line : List ℕ) → feedDef (end checker cs (fresh frames w win) .state) (end checker cs (fresh frames w win) .words) line .answer
@@ -106,14 +106,14 @@ module _ {frames : List ℕ} {w : ℕ} {win : List ℤ} (o : Unrefused frames w 
   feed-answer line = ap answerOf (out-step frames w (opened-fine o) machineEnd checkerEnd (in-step o cs) (feed line))
 
   pub waiting-exactly : (buffer : List ℕ) → (pullDef (end checker cs (fresh frames w win) .state) (end checker cs (fresh frames w win) .words) buffer .answer ≡ waiting)
-      ↔ ((reportLeast ≤ length buffer) × (settled (end (machineFor frames w) cs atFirst .next) (foundIn (end (machineFor frames w) cs atFirst .lists) (end (machineFor frames w) cs atFirst .next)) (treeOf frames) ≡ false))
+      ↔ ((reportLeast ≤ length buffer) × (settled (givenIn (end (machineFor frames w) cs (atFirst frames) .lists) (end (machineFor frames w) cs (atFirst frames) .next)) (treeOf frames) ≡ false))
   unfolding pullRead
   waiting-exactly buffer =
       let a = pull-answer buffer in
       let t = ltb (length buffer) reportLeast in
-      let f = foundIn (machineEnd .lists) (machineEnd .next) in
-      let s = settled (machineEnd .next) f (treeOf frames) in
-      let v = value (machineEnd .next) f (treeOf frames) in (
+      let g = givenIn (machineEnd .lists) (machineEnd .next) in
+      let s = settled g (treeOf frames) in
+      let v = settling.verdictOf (value g (treeOf frames)) in (
         λ q. (let h = waits-by t s v (sym a ∙ q) in (ltb-false (length buffer) reportLeast (h .0), h .1)),
         λ h. a ∙ by-waits t s v (le-ltb (length buffer) reportLeast (h .0)) (h .1),
       )
@@ -128,8 +128,8 @@ module _ {frames : List ℕ} {w : ℕ} {win : List ℤ} (o : Unrefused frames w 
     count-e r = count-of machineEnd e (referenced-below 8 (references (treeOf frames)) e (λ x h. opened-fine o .limits x h .event) r)
 
     pub accepted-exactly : (feedDef (end checker cs (fresh frames w win) .state) (end checker cs (fresh frames w win) .words) line .answer ≡ accepted)
-        ↔ ((referenced (references (treeOf frames)) e ≡ true) × (length (end (machineFor frames w) cs atFirst .lists e) < lineLimit)
-        × (length (end (machineFor frames w) cs atFirst .lists e) < base (references (treeOf frames)) e (end (machineFor frames w) cs atFirst .next) + w))
+        ↔ ((referenced (references (treeOf frames)) e ≡ true) × (length (end (machineFor frames w) cs (atFirst frames) .lists e) < lineLimit)
+        × (length (end (machineFor frames w) cs (atFirst frames) .lists e) < base (references (treeOf frames)) e (end (machineFor frames w) cs (atFirst frames) .next) + w))
     accepted-exactly =
         let n = countOf (tallyOf machineEnd) e in
         let B = base (references (treeOf frames)) e (machineEnd .next) + w in (
@@ -140,8 +140,8 @@ module _ {frames : List ℕ} {w : ℕ} {win : List ℤ} (o : Unrefused frames w 
         )
 
     pub full-exactly : (feedDef (end checker cs (fresh frames w win) .state) (end checker cs (fresh frames w win) .words) line .answer ≡ refused 17 0)
-        ↔ ((referenced (references (treeOf frames)) e ≡ true) × (length (end (machineFor frames w) cs atFirst .lists e) < lineLimit)
-        × (base (references (treeOf frames)) e (end (machineFor frames w) cs atFirst .next) + w ≤ length (end (machineFor frames w) cs atFirst .lists e)))
+        ↔ ((referenced (references (treeOf frames)) e ≡ true) × (length (end (machineFor frames w) cs (atFirst frames) .lists e) < lineLimit)
+        × (base (references (treeOf frames)) e (end (machineFor frames w) cs (atFirst frames) .next) + w ≤ length (end (machineFor frames w) cs (atFirst frames) .lists e)))
     full-exactly =
         let n = countOf (tallyOf machineEnd) e in
         let B = base (references (treeOf frames)) e (machineEnd .next) + w in (
@@ -151,8 +151,8 @@ module _ {frames : List ℕ} {w : ℕ} {win : List ℤ} (o : Unrefused frames w 
               (lt-leb lineLimit n (subst (λ (x : ℕ). x < lineLimit) (sym (count-e (h .0))) (h .1))) (le-leb B n (subst (λ (x : ℕ). B ≤ x) (sym (count-e (h .0))) (h .2))),
         )
 
-  pub window-holds : (e k n : ℕ) → e < 8 → base (references (treeOf frames)) e (end (machineFor frames w) cs atFirst .next) ≤ k → k < length (end (machineFor frames w) cs atFirst .lists e) → n < 4
-      → getD (end checker cs (fresh frames w win) .words) (wordAt w e k n) (pos 0) ≡ getD (getD (end (machineFor frames w) cs atFirst .lists e) k []) n (pos 0)
+  pub window-holds : (e k n : ℕ) → e < 8 → base (references (treeOf frames)) e (end (machineFor frames w) cs (atFirst frames) .next) ≤ k → k < length (end (machineFor frames w) cs (atFirst frames) .lists e) → n < 4
+      → getD (end checker cs (fresh frames w win) .words) (wordAt w e k n) (pos 0) ≡ getD (getD (end (machineFor frames w) cs (atFirst frames) .lists e) k []) n (pos 0)
   window-holds = in-step o cs .sim .live
 
 -- ---- opening

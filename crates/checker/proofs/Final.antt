@@ -8,16 +8,15 @@ use lib.Dec.{eqb}
 use lib.IntN.{ℤ}
 use lib.ListN.{length, getD}
 use Rattle.rule.specs.Build.{treeOf}
-use Rattle.verdict.specs.Found.{foundIn}
+use Rattle.verdict.specs.Found.{givenIn}
 use Rattle.verdict.specs.Settled.{judgement}
 use Rattle.verdict.specs.Settled as settling
 use Rattle.verdict.specs.Later.{MoreLines}
-use Rattle.verdict.specs.declared.Truth.{Truth}
-use Rattle.verdict.specs.declared.Truth.the-variants as truths
+use Rattle.verdict.specs.declared.Verdict.{Verdict}
 use Rattle.verdict.specs.declared.Judgement.{Judgement}
 use Rattle.verdict.specs.declared.Judgement.the-variants.{Unsettled}
 use Rattle.verdict.proofs.Main.{lines-stay}
-use Rattle.checker.specs.Base.{firstInstance}
+use Rattle.checker.specs.Base.{firstFor}
 use Rattle.checker.specs.Feed.{FeedRead, turned, skipped, taken, feedAnswer}
 use Rattle.checker.specs.Pull.{PullRead, short, waits, gave, pullAnswer}
 use Rattle.checker.specs.Calls.{Call, feed, pull, outs, end, checker}
@@ -69,25 +68,25 @@ module _ (frames : List ℕ) (w : ℕ) where
 
 -- what is said of instance i over a machine's lists
 abbrev pub said : List ℕ → Machine → ℕ → Judgement
-said frames m i = judgement i (foundIn (m .lists) i) (treeOf frames)
+said frames m i = judgement (givenIn (m .lists) i) (treeOf frames)
 
 -- a verdict stays when lines are added
-pub said-stays : (frames : List ℕ) (m m′ : Machine) (i : ℕ) (v : Truth) → MoreLines (m .lists) (m′ .lists) → said frames m i ≡ settling.verdict v → said frames m′ i ≡ settling.verdict v
+pub said-stays : (frames : List ℕ) (m m′ : Machine) (i : ℕ) (v : Verdict) → MoreLines (m .lists) (m′ .lists) → said frames m i ≡ settling.verdict v → said frames m′ i ≡ settling.verdict v
 said-stays frames m m′ i v more q =
     lines-stay i (m .lists) (m′ .lists) (treeOf frames) more (λ u. verdict-settled v (sym q ∙ u)) ∙ q
 
 module _ (frames : List ℕ) (w : ℕ) where
   -- the verdicts of a list from m on, in the sense of the machine m′ that it ends in
-  abbrev Handed : Machine → Machine → List Truth → Type 0
+  abbrev Handed : Machine → Machine → List Verdict → Type 0
   Handed m m′ vs = (map settling.verdict vs ≡ span (m .next) (length vs) (said frames m′)) × (m′ .next ≡ m .next + length vs)
 
-  handed-fed : (m m′ : Machine) (f : FeedRead) (vs : List Truth) → Handed (afterFeed m f) m′ vs → Handed m m′ (handed (feedAnswer f) vs)
+  handed-fed : (m m′ : Machine) (f : FeedRead) (vs : List Verdict) → Handed (afterFeed m f) m′ vs → Handed m m′ (handed (feedAnswer f) vs)
   unfolding joined
   handed-fed m m′ (turned number place) vs h = h
   handed-fed m m′ skipped vs h = h
   handed-fed m m′ (taken e notes) vs h = h
 
-  handed-pulled : (m m′ : Machine) (x : PullRead) (vs : List Truth) → MoreLines (m .lists) (m′ .lists) → Gave (treeOf frames) (m .next) (foundIn (m .lists) (m .next)) x
+  handed-pulled : (m m′ : Machine) (x : PullRead) (vs : List Verdict) → MoreLines (m .lists) (m′ .lists) → Gave (treeOf frames) (givenIn (m .lists) (m .next)) x
       → Handed (afterPull m x) m′ vs → Handed m m′ (handed (pullAnswer x) vs)
   unfolding moved span
   handed-pulled m m′ short vs b g h = h
@@ -104,35 +103,35 @@ module _ (frames : List ℕ) (w : ℕ) where
       let x = machinePull (treeOf frames) w m buffer in
       handed-pulled m (end (machineFor frames w) cs (afterPull m x)) x (verdicts (outs (machineFor frames w) cs (afterPull m x)))
       (more-trans (m .lists) (afterPull m x .lists) (end (machineFor frames w) cs (afterPull m x) .lists) (more-pulled m x) (more-end frames w cs (afterPull m x)))
-      (gave-judged (treeOf frames) (m .next) (foundIn (m .lists) (m .next)) (length buffer))
+      (gave-judged (treeOf frames) (givenIn (m .lists) (m .next)) (length buffer))
       (all-handed cs (afterPull m x))
 
 module _ {frames : List ℕ} {w : ℕ} {win : List ℤ} (o : Unrefused frames w win) (cs : List Call) where
-  pub verdicts-same : verdicts (outs checker cs (fresh frames w win)) ≡ verdicts (outs (machineFor frames w) cs atFirst)
+  pub verdicts-same : verdicts (outs checker cs (fresh frames w win)) ≡ verdicts (outs (machineFor frames w) cs (atFirst frames))
   verdicts-same = ap verdicts (lists.answers o cs)
 
   -- instance by instance from the first on, over the machine's lists after the last call
   pub final : map settling.verdict (verdicts (outs checker cs (fresh frames w win)))
-      ≡ span firstInstance (length (verdicts (outs checker cs (fresh frames w win)))) (said frames (end (machineFor frames w) cs atFirst))
-  final = rw verdicts-same (all-handed frames w cs atFirst .0)
+      ≡ span (firstFor frames) (length (verdicts (outs checker cs (fresh frames w win)))) (said frames (end (machineFor frames w) cs (atFirst frames)))
+  final = rw verdicts-same (all-handed frames w cs (atFirst frames) .0)
 
 -- ---- one verdict
-truthIn : Judgement → Truth
-truthIn Unsettled = truths.Unknown
-truthIn Judgement.True = truths.True
-truthIn Judgement.False = truths.False
-truthIn Judgement.Unknown = truths.Unknown
+verdictIn : Judgement → Verdict
+verdictIn Unsettled = Verdict.Unknown
+verdictIn Judgement.True = Verdict.True
+verdictIn Judgement.False = Verdict.False
+verdictIn Judgement.Unknown = Verdict.Unknown
 
-truth-of : (v : Truth) → truthIn (settling.verdict v) ≡ v
-unfolding truthIn
-truth-of truths.True = refl
-truth-of truths.False = refl
-truth-of truths.Unknown = refl
+verdict-in : (v : Verdict) → verdictIn (settling.verdict v) ≡ v
+unfolding verdictIn
+verdict-in Verdict.True = refl
+verdict-in Verdict.False = refl
+verdict-in Verdict.Unknown = refl
 
-pub verdict-one : (v v′ : Truth) → settling.verdict v ≡ settling.verdict v′ → v ≡ v′
-verdict-one v v′ q = sym (truth-of v) ∙ ap truthIn q ∙ truth-of v′
+pub verdict-one : (v v′ : Verdict) → settling.verdict v ≡ settling.verdict v′ → v ≡ v′
+verdict-one v v′ q = sym (verdict-in v) ∙ ap verdictIn q ∙ verdict-in v′
 
-getD-map : (l : List Truth) (i : ℕ) → i < length l → getD (map settling.verdict l) i Unsettled ≡ settling.verdict (getD l i truths.Unknown)
+getD-map : (l : List Verdict) (i : ℕ) → i < length l → getD (map settling.verdict l) i Unsettled ≡ settling.verdict (getD l i Verdict.Unknown)
 getD-map [] i h = absurd (omega arith)
 getD-map (x ∷ xs) zero h = refl
 getD-map (x ∷ xs) (suc i) h = getD-map xs i (le-of-suc-le-suc h)
@@ -144,5 +143,5 @@ getD-span f p (suc n) zero h = rw add-zero
 getD-span f p (suc n) (suc i) h = getD-span f (p + 1) n i (le-of-suc-le-suc h) ∙ ap f (omega arith)
 
 -- the verdict at a place of a list that is a span
-pub span-at : (vs : List Truth) (p : ℕ) (f : ℕ → Judgement) (i : ℕ) → map settling.verdict vs ≡ span p (length vs) f → i < length vs → settling.verdict (getD vs i truths.Unknown) ≡ f (p + i)
+pub span-at : (vs : List Verdict) (p : ℕ) (f : ℕ → Judgement) (i : ℕ) → map settling.verdict vs ≡ span p (length vs) f → i < length vs → settling.verdict (getD vs i Verdict.Unknown) ≡ f (p + i)
 span-at vs p f i q h = sym (getD-map vs i h) ∙ ap (λ (l : List Judgement). getD l i Unsettled) q ∙ getD-span f p (length vs) i h

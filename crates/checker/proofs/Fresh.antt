@@ -22,6 +22,7 @@ use Rattle.rule.proofs.Laws.{rule-length, AllWithin, references-within}
 use Rattle.numbers.proofs.Bools.{true-false, and-true}
 use Rattle.checker.specs.Limits.{windowWords}
 use Rattle.checker.specs.Answer.{Answer, opened, accepted, ignored, waiting, verdict, refused}
+use Rattle.checker.specs.Base.{firstInstance}
 use Rattle.checker.specs.State.{countOf, freshState}
 use Rattle.checker.specs.Open.{OpenResult, widthFits, windowFits, openedAs, notOpened, afterFrames, openDef}
 use Rattle.checker.specs.Calls.{Checker}
@@ -96,14 +97,14 @@ whole-length frames b e =
 abbrev holding : OpenResult → Checker
 holding x = record { state = x .state; words = x .words }
 
-both-fresh : (frames : List ℕ) (w : ℕ) → Bytes frames → checkedOf frames ≡ Accepted → Both frames w atFirst (holding (openedAs frames w))
-unfolding freshState tabulated
+both-fresh : (frames : List ℕ) (w : ℕ) → Bytes frames → checkedOf frames ≡ Accepted → Both frames w (atFirst frames) (holding (openedAs frames w))
+unfolding firstInstance freshState tabulated
 both-fresh frames w b e =
     let h = whole-length frames b e in
     record {
       sound =
           record {
-            counts = λ e h. let z : countOf (tallyOf atFirst) e ≡ 0 = count-of atFirst e h in record { few = omega (arith, z); room = λ _. omega (arith, z); none = λ _. z };
+            counts = λ e h. let z : countOf (tallyOf (atFirst frames)) e ≡ 0 = count-of (atFirst frames) e h in record { few = omega (arith, z); room = λ _. omega (arith, z); none = λ _. z };
             low = omega arith;
             sum = refl;
           };
@@ -122,7 +123,7 @@ module _ {frames : List ℕ} {w : ℕ} {win : List ℤ} (o : Unrefused frames w 
   pub opened-fine : Fine frames w
   opened-fine = fine frames w win (o .bytes) (passed frames w win (o .answer))
 
-  pub both-opened : Both frames w atFirst (fresh frames w win)
+  pub both-opened : Both frames w (atFirst frames) (fresh frames w win)
   both-opened =
       let p = passed frames w win (o .answer) in
-      subst (λ (x : OpenResult). Both frames w atFirst (holding x)) (sym (p .result)) (both-fresh frames w (o .bytes) (p .accepted))
+      subst (λ (x : OpenResult). Both frames w (atFirst frames) (holding x)) (sym (p .result)) (both-fresh frames w (o .bytes) (p .accepted))

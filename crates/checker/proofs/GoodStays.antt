@@ -4,11 +4,9 @@ use mathlib.Core.Path.{_≡_, refl, sym, ap, _∙_, subst}
 use mathlib.Core.Bool.{true}
 use mathlib.Core.List.{List, [], List·Memᴰ}
 use mathlib.Core.Logic.{⊎-elim}
-use Prim.Native.Nat.{ℕ, suc, _+_, _*_, _-_, _<_, _≤_}
-use native.Mathlib.Nat.{mul-le-mul-right}
-use native.Mathlib.Omega.{arith}
-use borrow.Author.Tests.{le-ltb, eq-eqb}
-use lib.IntN.{ℤ, pos, negsuc, natAbs, _+ℤ_}
+use Prim.Native.Nat.{ℕ, _<_, _≤_}
+use borrow.Author.Tests.{eq-eqb}
+use lib.IntN.{ℤ}
 use lib.ListN.{length}
 use Rattle.numbers.proofs.Bools.{and-true, true-and}
 use Rattle.rule.specs.Frames.{Bytes}
@@ -17,38 +15,31 @@ use Rattle.rule.specs.Build.{treeOf}
 use Rattle.rule.specs.Opening.{Proper}
 use Rattle.rule.proofs.Main.{frames-exactly, tree-of}
 use Rattle.log.specs.Line.{lineOf}
-use Rattle.verdict.specs.Found.{instanceLimit, pending, occurrence}
+use Rattle.verdict.specs.Found.{instanceLimit, pending}
 use Rattle.verdict.specs.Settled.{judgement}
 use Rattle.verdict.specs.Settled as settling
-use Rattle.verdict.specs.declared.Truth.{Truth}
+use Rattle.verdict.specs.declared.Verdict.{Verdict}
 use Rattle.checker.specs.Limits.{windowWords}
 use Rattle.checker.specs.Base.{base}
 use Rattle.checker.specs.State.{Tally, countOf, tallyIn, stateFrames, ruleIn, refsIn, SameRule, withLine, withVerdict, withTally}
-use Rattle.checker.specs.Found.{windowAt}
+use Rattle.checker.specs.Found.{byWindow}
 use Rattle.checker.specs.Open.{openDef}
 use Rattle.checker.specs.Admission.{Admission, admitted, barred, admission}
 use Rattle.checker.specs.Good.{goodRule, goodTally, goodState}
 use Rattle.checker.specs.Feed.{FeedRead, turned, skipped, taken, fedBy, lineIn, fedIf, feedDef}
-use Rattle.checker.specs.Pull.{PullRead, short, waits, gave, foundHere, pulledBy, nextIn, pulledIf, pullDef}
+use Rattle.checker.specs.Pull.{PullRead, short, waits, gave, givenHere, foundHere, pulledBy, nextIn, pulledIf, pullDef}
 use Rattle.checker.specs.Machine.{atFirst}
 use Rattle.checker.specs.Demand.{Unrefused, fresh}
 use Rattle.checker.specs.declared.State.{State}
 use Rattle.checker.proofs.Choices.{less-or}
 use Rattle.checker.proofs.Ring.{length-kept}
+use Rattle.checker.proofs.Bases.{late-pending}
 use Rattle.checker.proofs.Admissions.{let-in, in-good, in-long}
 use Rattle.checker.proofs.Tallies.{Sound, tally-facts, tally-good, sound-line, sound-verdict}
 use Rattle.checker.proofs.Simulation.{in-step-admitted, Took, took, all-pending, verdict-settled, Gave, gave-judged}
 use Rattle.checker.proofs.Fresh.{opened-fine, both-opened, within-member}
 use Rattle.checker.proofs.CodeBase.{within-in}
 use Rattle.checker.proofs.CodeGood.{good-facts}
-
--- ---- the last instance
--- at p = 1,009,999 each reference means an occurrence from 1,000,000 on
-late-at : (w : ℕ) (win : List ℤ) (c e n : ℕ) (z : ℤ) (a : ℕ) → c + 9999 ≤ a → natAbs z ≤ 9999 → windowAt w win c e n (pos a +ℤ z) ≡ pending
-late-at w win c e n (pos k) a h l = rw (le-ltb (a + k) c (omega arith))
-late-at w win c e n (negsuc k) a h l =
-    let s : suc k ≤ 9999 = l in
-    rw (le-ltb a (suc k) (omega arith)) (rw (le-ltb (a - suc k) c (omega arith)))
 
 -- ---- the state
 module _ (s : State) (g : goodState s ≡ true) where
@@ -89,20 +80,19 @@ module _ (s : State) (g : goodState s ≡ true) where
         p .named (subst (λ (x : Cond). references x ≡ []) t e)
 
     -- an instance with a verdict is not the last
-    low-in : (win : List ℤ) (v : Truth) → judgement (s .next .0) (foundHere s win) (ruleIn s) ≡ settling.verdict v → s .next .0 < instanceLimit
+    low-in : (win : List ℤ) (v : Verdict) → judgement (givenHere s win) (ruleIn s) ≡ settling.verdict v → s .next .0 < instanceLimit
     low-in win v q =
         ⊎-elim
         (λ l. l)
-        (λ (l : instanceLimit ≤ s .next .0). absurd (verdict-settled v (sym q ∙ all-pending (ruleIn s) (s .next .0) (foundHere s win) some-in (late l))))
+        (λ (l : instanceLimit ≤ s .next .0). absurd (verdict-settled v (sym q ∙ all-pending (ruleIn s) (givenHere s win) some-in (late l))))
         (less-or (s .next .0) instanceLimit)
       where
         late : instanceLimit ≤ s .next .0 → (r : Reference) → List·Memᴰ r (refsIn s) → foundHere s win r ≡ pending
         late l r h =
             let m = limits-in r h in
-            late-at (s .width) win (countOf (tallyIn s) (r .event)) (r .event) (r .note) (r .offset) (r .factor * s .next .0)
-            (omega (arith, mul-le-mul-right (s .next .0) (m .least), sound-in .counts (r .event) (m .event) .few)) (m .offset)
+            late-pending (byWindow (s .width) (s .counts) win) r (s .next .0) (m .least) (m .offset) (sound-in .counts (r .event) (m .event) .few) l
 
-    pulled-good : (win : List ℤ) (buffer : List ℕ) (x : PullRead) → Gave (ruleIn s) (s .next .0) (foundHere s win) x → goodState (pulledBy s win buffer x .state) ≡ true
+    pulled-good : (win : List ℤ) (buffer : List ℕ) (x : PullRead) → Gave (ruleIn s) (givenHere s win) x → goodState (pulledBy s win buffer x .state) ≡ true
     pulled-good win buffer short t = g
     pulled-good win buffer waits t = g
     pulled-good win buffer (gave v) t = good-with (withVerdict (tallyIn s) v) (sound-verdict (refsIn s) (s .width) (tallyIn s) v sound-in (low-in win v t))
@@ -113,7 +103,7 @@ module _ (s : State) (g : goodState s ≡ true) where
     good-pull win buffer = go (admission s win)
       where
         go : (a : Admission) → goodState (pulledIf s win buffer a .state) ≡ true
-        go admitted = pulled-good win buffer (nextIn s win (length buffer)) (gave-judged (ruleIn s) (s .next .0) (foundHere s win) (length buffer))
+        go admitted = pulled-good win buffer (nextIn s win (length buffer)) (gave-judged (ruleIn s) (givenHere s win) (length buffer))
         go (barred number) = g
 
   -- ---- the window keeps its length
@@ -180,7 +170,7 @@ module _ (s : State) (win : List ℤ) (a : admission s win ≡ admitted) where
 
 -- so is what an unrefused opening gives
 pub open-admitted : {frames : List ℕ} {w : ℕ} {win : List ℤ} → Unrefused frames w win → admission (openDef frames w win .state) (openDef frames w win .words) ≡ admitted
-open-admitted {frames} {w} {win} o = in-step-admitted frames w (opened-fine o) atFirst (fresh frames w win) (both-opened o)
+open-admitted {frames} {w} {win} o = in-step-admitted frames w (opened-fine o) (atFirst frames) (fresh frames w win) (both-opened o)
 
 pub good-open : {frames : List ℕ} {w : ℕ} {win : List ℤ} → Unrefused frames w win → goodState (openDef frames w win .state) ≡ true
 good-open {frames} {w} {win} o = in-good (openDef frames w win .state) (openDef frames w win .words) (open-admitted o)

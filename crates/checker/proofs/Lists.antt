@@ -22,12 +22,12 @@ module _ (frames : List ℕ) (w : ℕ) (ok : Fine frames w) where
   all-end (c ∷ cs) m k b = all-end cs _ _ (next-step frames w ok m k b c)
 
 module _ {frames : List ℕ} {w : ℕ} {win : List ℤ} (o : Unrefused frames w win) (cs : List Call) where
-  pub answers : outs checker cs (fresh frames w win) ≡ outs (machineFor frames w) cs atFirst
-  answers = all-outs frames w (opened-fine o) cs atFirst (fresh frames w win) (both-opened o)
+  pub answers : outs checker cs (fresh frames w win) ≡ outs (machineFor frames w) cs (atFirst frames)
+  answers = all-outs frames w (opened-fine o) cs (atFirst frames) (fresh frames w win) (both-opened o)
 
   -- checker and machine are in step after the list
-  pub in-step : Both frames w (end (machineFor frames w) cs atFirst) (end checker cs (fresh frames w win))
-  in-step = all-end frames w (opened-fine o) cs atFirst (fresh frames w win) (both-opened o)
+  pub in-step : Both frames w (end (machineFor frames w) cs (atFirst frames)) (end checker cs (fresh frames w win))
+  in-step = all-end frames w (opened-fine o) cs (atFirst frames) (fresh frames w win) (both-opened o)
 
-  pub state : tallyIn (end checker cs (fresh frames w win) .state) ≡ tallyOf (end (machineFor frames w) cs atFirst)
+  pub state : tallyIn (end checker cs (fresh frames w win) .state) ≡ tallyOf (end (machineFor frames w) cs (atFirst frames))
   state = in-step .sim .tally

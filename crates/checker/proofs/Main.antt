@@ -19,16 +19,16 @@ use Rattle.rule.specs.declared.Reading.the-variants as reading
 use Rattle.log.specs.Line.{lineOf}
 use Rattle.log.specs.Line as log
 use Rattle.log.proofs.Main.{zeros-refused, empty-refused}
-use Rattle.verdict.specs.Found.{instanceLimit, foundIn}
+use Rattle.verdict.specs.Found.{instanceLimit, givenIn}
 use Rattle.verdict.specs.Value.{value}
-use Rattle.verdict.specs.Settled.{settled, judgement}
+use Rattle.verdict.specs.Settled.{settled, verdictOf, judgement}
 use Rattle.verdict.specs.Settled as settling
 use Rattle.verdict.specs.Later.{MoreLines}
-use Rattle.verdict.specs.declared.Truth.{Truth}
-use Rattle.verdict.specs.declared.Truth.the-variants.{False, Unknown}
+use Rattle.verdict.specs.declared.Verdict.{Verdict}
+use Rattle.verdict.specs.declared.Verdict.the-variants.{False, Unknown}
 use Rattle.checker.specs.Limits.{widthLimit, windowWords, lineLimit, reportLeast}
 use Rattle.checker.specs.Answer.{opened, accepted, waiting, verdict, refused}
-use Rattle.checker.specs.Base.{referenced, base, firstInstance}
+use Rattle.checker.specs.Base.{referenced, base, firstFor}
 use Rattle.checker.specs.State.{tallyIn, stateFrames, zeroState, SameRule}
 use Rattle.checker.specs.Ring.{wordAt}
 use Rattle.checker.specs.Open.{openDef}
@@ -64,7 +64,7 @@ use Rattle.checker.proofs.GoodStays
 -- ---- a list of calls, whatever its lines and report buffers, from an unrefused opening, whatever W
 module _ {frames : List ℕ} {w : ℕ} {win : List ℤ} (o : Unrefused frames w win) (cs : List Call) where
   -- each answer with its number and place, and each report buffer after its pull, is the plain machine's
-  pub third-answers : outs checker cs (fresh frames w win) ≡ outs (machineFor frames w) cs atFirst
+  pub third-answers : outs checker cs (fresh frames w win) ≡ outs (machineFor frames w) cs (atFirst frames)
   third-answers = Lists.answers o cs
 
   -- the counts, p and totals in the state are the machine's
@@ -74,11 +74,11 @@ module _ {frames : List ℕ} {w : ℕ} {win : List ℤ} (o : Unrefused frames w 
   -- the verdicts handed out are those of settled instances, from the first on, by the definition over the machine's lists after
   -- the last call
   pub third-final : map settling.verdict (handedOut frames w win cs)
-      ≡ span firstInstance (length (handedOut frames w win cs)) (λ (i : ℕ). judgement i (foundIn (machineAfter frames w cs .lists) i) (treeOf frames))
+      ≡ span (firstFor frames) (length (handedOut frames w win cs)) (λ (i : ℕ). judgement (givenIn (machineAfter frames w cs .lists) i) (treeOf frames))
   third-final = Final.final o cs
 
   -- p and the totals in the state count them
-  pub third-totals : (checkerAfter frames w win cs .state .next .0 ≡ firstInstance + length (handedOut frames w win cs))
+  pub third-totals : (checkerAfter frames w win cs .state .next .0 ≡ firstFor frames + length (handedOut frames w win cs))
       × (checkerAfter frames w win cs .state .totals ≡ totalsOf (handedOut frames w win cs))
   third-totals = Sums.sums o cs
 
@@ -95,7 +95,7 @@ module _ {frames : List ℕ} {w : ℕ} {win : List ℤ} (o : Unrefused frames w 
   pub waiting-exactly : (buffer : List ℕ)
       → (pullDef (checkerAfter frames w win cs .state) (checkerAfter frames w win cs .words) buffer .answer ≡ waiting)
       ↔ ((reportLeast ≤ length buffer)
-      × (settled (machineAfter frames w cs .next) (foundIn (machineAfter frames w cs .lists) (machineAfter frames w cs .next)) (treeOf frames) ≡ false))
+      × (settled (givenIn (machineAfter frames w cs .lists) (machineAfter frames w cs .next)) (treeOf frames) ≡ false))
   waiting-exactly = Exactly.waiting-exactly o cs
 
   -- accepted exactly where the event is referenced, has fewer than 1,000,000 lines and has not reached base plus W
@@ -120,12 +120,12 @@ module _ {frames : List ℕ} {w : ℕ} {win : List ℤ} (o : Unrefused frames w 
   window-holds = Exactly.window-holds o cs
 
 -- ---- from a rule's text to its verdicts: for every text that `read` accepts, the tree that spells it, every W and unrefused opening
--- with the frames that were filled, and every list of calls: each verdict handed out is the value, at its instance over the lines
+-- with the frames that were filled, and every list of calls: each verdict handed out is that of the value, at its instance over the lines
 -- accepted in the list, of the rule that the text means
 pub text-to-verdict : (text buffer filled : List ℕ) (n : ℕ) → readOf text buffer ≡ (reading.Frames n, filled) → (x : Rule) → yield x ≡ words (tokens text)
     → (w : ℕ) (win : List ℤ) → openDef (take (n * frameBytes) filled) w win .answer ≡ opened → (cs : List Call) (i : ℕ) → i < length (handedOut (take (n * frameBytes) filled) w win cs)
     → getD (handedOut (take (n * frameBytes) filled) w win cs) i Unknown
-    ≡ value (firstInstance + i) (foundIn (machineAfter (take (n * frameBytes) filled) w cs .lists) (firstInstance + i)) (meaning text x)
+    ≡ verdictOf (value (givenIn (machineAfter (take (n * frameBytes) filled) w cs .lists) (firstFor (take (n * frameBytes) filled) + i)) (meaning text x))
 text-to-verdict = Text.text-to-verdict
 
 -- ---- two lists for one rule, with any two windows
@@ -137,7 +137,7 @@ module _ {frames : List ℕ} {w w′ : ℕ} {win win′ : List ℤ} (o : Unrefus
   third-agree = Agree.agree o o′ cs cs′
 
   -- so it is after another order of lines between events and with later lines, whenever verdicts are pulled
-  pub third-order : Reordered (acceptedIn frames w cs atFirst) (acceptedIn frames w′ cs′ atFirst) → (i : ℕ)
+  pub third-order : Reordered (acceptedIn frames w cs (atFirst frames)) (acceptedIn frames w′ cs′ (atFirst frames)) → (i : ℕ)
       → i < length (handedOut frames w win cs) → i < length (handedOut frames w′ win′ cs′)
       → getD (handedOut frames w win cs) i Unknown ≡ getD (handedOut frames w′ win′ cs′) i Unknown
   third-order = Order.order o o′ cs cs′
@@ -146,14 +146,14 @@ module _ {frames : List ℕ} {w w′ : ℕ} {win win′ : List ℤ} (o : Unrefus
   -- references that are present in one and pending in the other
   pub third-reports : MoreLines (machineAfter frames w cs .lists) (machineAfter frames w′ cs′ .lists) → (i : ℕ)
       → getD (handedOut frames w win cs) i Unknown ≡ False → getD (handedOut frames w′ win′ cs′) i Unknown ≡ False
-      → ReportedTwice frames w w′ cs cs′ (firstInstance + i)
+      → ReportedTwice frames w w′ cs cs′ (firstFor frames + i)
       (getD (reportsOut frames w win cs) i []) (getD (reportsOut frames w′ win′ cs′) i [])
   third-reports = Reports.two-reports o o′ cs cs′
 
   -- so it is after another order of lines between events and with later lines
-  pub third-order-reports : Reordered (acceptedIn frames w cs atFirst) (acceptedIn frames w′ cs′ atFirst) → (i : ℕ)
+  pub third-order-reports : Reordered (acceptedIn frames w cs (atFirst frames)) (acceptedIn frames w′ cs′ (atFirst frames)) → (i : ℕ)
       → getD (handedOut frames w win cs) i Unknown ≡ False → getD (handedOut frames w′ win′ cs′) i Unknown ≡ False
-      → ReportedTwice frames w w′ cs cs′ (firstInstance + i)
+      → ReportedTwice frames w w′ cs cs′ (firstFor frames + i)
       (getD (reportsOut frames w win cs) i []) (getD (reportsOut frames w′ win′ cs′) i [])
   third-order-reports = Reports.order-reports o o′ cs cs′
 
@@ -171,7 +171,7 @@ module _ {frames : List ℕ} {w w′ : ℕ} {win win′ : List ℤ} (o : Unrefus
 -- ---- within one list: each false verdict handed out comes with the report of its instance at the moment of the pull
 pub third-report : {frames : List ℕ} {w : ℕ} {win : List ℤ} → Unrefused frames w win → (cs : List Call) (i : ℕ)
     → getD (handedOut frames w win cs) i Unknown ≡ False
-    → Reported frames w cs (firstInstance + i) (getD (reportsOut frames w win cs) i [])
+    → Reported frames w cs (firstFor frames + i) (getD (reportsOut frames w win cs) i [])
 third-report = Reports.report
 
 -- the views of a list are its reported instances and verdicts, in their order, and show no note
@@ -259,7 +259,7 @@ pub refused-unchanged-feed : (s : State) (win : List ℤ) (line : List ℕ) → 
     → (feedDef s win line .state ≡ s) × (feedDef s win line .words ≡ win)
 refused-unchanged-feed = Unchanged.feed-unchanged
 
-pub refused-unchanged-pull : (s : State) (win : List ℤ) (buffer : List ℕ) → ((v : Truth) → pullDef s win buffer .answer ≢ verdict v)
+pub refused-unchanged-pull : (s : State) (win : List ℤ) (buffer : List ℕ) → ((v : Verdict) → pullDef s win buffer .answer ≢ verdict v)
     → (pullDef s win buffer .state ≡ s) × (pullDef s win buffer .report ≡ buffer)
 refused-unchanged-pull = Unchanged.pull-unchanged
 

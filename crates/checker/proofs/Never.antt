@@ -69,5 +69,5 @@ module _ (frames : List ℕ) (w : ℕ) where
 module _ {frames : List ℕ} {w : ℕ} {win : List ℤ} (o : Unrefused frames w win) (cs : List Call) where
   pub never : (x : Out) → List·Memᴰ x (outs checker cs (fresh frames w win)) → (place : ℕ) → (answerOf x ≢ refused 12 place) × (answerOf x ≢ refused 13 place)
   never x h place =
-      let l = late-all frames w cs atFirst x (subst (λ (os : List Out). List·Memᴰ x os) (lists.answers o cs) h) in
+      let l = late-all frames w cs (atFirst frames) x (subst (λ (os : List Out). List·Memᴰ x os) (lists.answers o cs) h) in
       (λ q. l .0 (ap numberIn q), λ q. l .1 (ap numberIn q))

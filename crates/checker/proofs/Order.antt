@@ -11,7 +11,7 @@ use lib.IntN.{ℤ}
 use lib.ListN.{length, getD}
 use Rattle.rule.specs.Build.{treeOf}
 use Rattle.verdict.specs.Later.{MoreLines}
-use Rattle.verdict.specs.declared.Truth.the-variants.{Unknown}
+use Rattle.verdict.specs.declared.Verdict.the-variants.{Unknown}
 use Rattle.checker.specs.Feed.{FeedRead, turned, skipped, taken}
 use Rattle.checker.specs.Pull.{PullRead, short, waits, gave}
 use Rattle.checker.specs.Calls.{Call, feed, pull, outs, end, checker}
@@ -89,16 +89,16 @@ more-same a a′ b b′ p q more e = let x = more e in (x .0, ap (λ (l : List (
 
 -- where accepted lines are another list's in another order, and perhaps later ones, each event has its lines and perhaps more
 pub order-more : (frames : List ℕ) (w w′ : ℕ) (cs cs′ : List Call)
-    → Reordered (acceptedIn frames w cs atFirst) (acceptedIn frames w′ cs′ atFirst)
-    → MoreLines (end (machineFor frames w) cs atFirst .lists) (end (machineFor frames w′) cs′ atFirst .lists)
+    → Reordered (acceptedIn frames w cs (atFirst frames)) (acceptedIn frames w′ cs′ (atFirst frames))
+    → MoreLines (end (machineFor frames w) cs (atFirst frames) .lists) (end (machineFor frames w′) cs′ (atFirst frames) .lists)
 order-more frames w w′ cs cs′ r =
-    let es = acceptedIn frames w cs atFirst in
-    let es′ = acceptedIn frames w′ cs′ atFirst in
-    more-same (end (machineFor frames w) cs atFirst .lists) (linesIn es) (end (machineFor frames w′) cs′ atFirst .lists) (linesIn es′)
-    (end-lines frames w cs atFirst) (end-lines frames w′ cs′ atFirst) (reordered-more es es′ r)
+    let es = acceptedIn frames w cs (atFirst frames) in
+    let es′ = acceptedIn frames w′ cs′ (atFirst frames) in
+    more-same (end (machineFor frames w) cs (atFirst frames) .lists) (linesIn es) (end (machineFor frames w′) cs′ (atFirst frames) .lists) (linesIn es′)
+    (end-lines frames w cs (atFirst frames)) (end-lines frames w′ cs′ (atFirst frames)) (reordered-more es es′ r)
 
 module _ {frames : List ℕ} {w w′ : ℕ} {win win′ : List ℤ} (o : Unrefused frames w win) (o′ : Unrefused frames w′ win′) (cs cs′ : List Call) where
-  pub order : Reordered (acceptedIn frames w cs atFirst) (acceptedIn frames w′ cs′ atFirst) → (i : ℕ)
+  pub order : Reordered (acceptedIn frames w cs (atFirst frames)) (acceptedIn frames w′ cs′ (atFirst frames)) → (i : ℕ)
       → i < length (verdicts (outs checker cs (fresh frames w win))) → i < length (verdicts (outs checker cs′ (fresh frames w′ win′)))
       → getD (verdicts (outs checker cs (fresh frames w win))) i Unknown ≡ getD (verdicts (outs checker cs′ (fresh frames w′ win′))) i Unknown
   order r = agree o o′ cs cs′ (order-more frames w w′ cs cs′ r)

@@ -6,7 +6,7 @@ use Prim.Native.Nat.{ℕ, _+_, _≤_, _<_}
 use native.Mathlib.Omega.{arith}
 use borrow.Author.Tests.{eqb-true, eqb-false}
 use lib.Dec.{eqb}
-use lib.IntN.{ℤ, pos, negsuc}
+use lib.IntN.{ℤ, pos}
 use lib.ListN.{length, getD, set, length-set}
 use lib.Seq.{getD-set-same, getD-set-other}
 use Rattle.rule.specs.Frames.{frameAt, frameCount}
@@ -16,10 +16,7 @@ use Rattle.rule.specs.Check.{checkedOf}
 use Rattle.rule.specs.declared.Frame.{Frame}
 use Rattle.rule.specs.declared.Checked.the-variants.{Accepted}
 use Rattle.rule.proofs.Laws.{passed, reference-at}
-use Rattle.verdict.specs.Found.{meantBy, Found, present, pending, void}
-use Rattle.verdict.specs.declared.Occurrence.{Occurrence}
-use Rattle.verdict.specs.declared.Meant.the-variants.{Void, At}
-use Rattle.checker.specs.Found.{windowAt}
+use Rattle.verdict.specs.Found.{Found, present, pending, void}
 use Rattle.verdict.specs.Marks.{Tells, Told}
 use Rattle.checker.specs.Sights.{Shows, ShownTo, Looked, Limited}
 
@@ -72,15 +69,3 @@ pub looked-last : (s : List ℕ) (found : Reference → Found) (marks : List ℕ
     → Looked s found marks notes
 looked-last s found marks notes k w e =
     record { marked = w .marked; noted = w .noted; shown = subst (λ (n : ℕ). ShownTo s found marks notes n) e (w .shown) }
-
--- ---- by the occurrence that a reference means
-module _ (w : ℕ) (win : List ℤ) (c e n : ℕ) where
-  pub void-shows : (z : ℤ) → Void ≡ meantBy z → Shows (windowAt w win c e n z) 2 (pos 0)
-  void-shows (negsuc k) q = record { mark-is = refl; note-is = refl }
-  void-shows (pos k) q = absurd (let x : _≡_ {A = ℕ} 0 1 = cc in omega arith)
-
-  pub at-shows : (z : ℤ) (k : Occurrence) (m : ℕ) (v : ℤ) → At k ≡ meantBy z → Shows (windowAt w win c e n (pos (k .0))) m v → Shows (windowAt w win c e n z) m v
-  at-shows (negsuc j) k m v q h = absurd (let x : _≡_ {A = ℕ} 0 1 = cc in omega arith)
-  at-shows (pos j) k m v q h =
-      let y : k ≡ record { 0 = j } = cc in
-      subst (λ (o : Occurrence). Shows (windowAt w win c e n (pos (o .0))) m v) y h

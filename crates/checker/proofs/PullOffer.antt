@@ -16,7 +16,7 @@ use Rattle.verdict.specs.Found.{Found}
 use Rattle.verdict.specs.Settled.{judgement}
 use Rattle.verdict.specs.Marks.{Judgeable}
 use Rattle.verdict.specs.Pass.{judgementOf}
-use Rattle.verdict.specs.declared.Truth.{Truth}
+use Rattle.verdict.specs.declared.Verdict.{Verdict}
 use Rattle.verdict.specs.declared.Judgement.{Judgement}
 use Rattle.verdict.specs.declared.Judgement.the-variants.{Unsettled, True, False, Unknown}
 use Rattle.verdict.proofs.Main.{judge-accepted}
@@ -25,7 +25,7 @@ use Rattle.checker.specs.State.{ruleIn}
 use Rattle.checker.specs.Admission.{admitted, admission}
 use Rattle.checker.specs.Report.{reportBytes}
 use Rattle.checker.specs.Answer.{verdict, refused, pullTold}
-use Rattle.checker.specs.Pull.{PullRead, gave, pullRead, offered, pullAnswer, pullReport, PullResult, foundHere, notPulled, stateAfter, pulledBy, pullDef, pullOutcome}
+use Rattle.checker.specs.Pull.{PullRead, gave, pullRead, offered, pullAnswer, pullReport, PullResult, givenHere, notPulled, stateAfter, pulledBy, pullDef, pullOutcome}
 use Rattle.checker.specs.Sights.{Looked, Fillable, headerOf, reportTo}
 use Rattle.checker.specs.Offer.{Offerable}
 use Rattle.checker.specs.Parts.{stateOf, pulledOf}
@@ -61,8 +61,8 @@ module _ (fs : List ℕ) (p w n m : ℕ) (o : Offerable fs p w n m) where
         }
 
     -- what the pass says, the definition says
-    pub offer-judged : (j : Judgement) → j ≡ judgementOf fs p marks notes → j ≡ judgement p found (treeOf fs)
-    offer-judged j e = e ∙ judge-accepted fs p found marks notes (o .accepted) (shown-told fs found marks notes (l .shown))
+    pub offer-judged : (j : Judgement) → j ≡ judgementOf fs p marks notes → j ≡ judgement (record { instance = p; found = found }) (treeOf fs)
+    offer-judged j e = e ∙ judge-accepted fs (record { instance = p; found = found }) marks notes (o .accepted) (shown-told fs found marks notes (l .shown))
 
     pub offer-report : Bytes fs
         → reportTo fs marks notes (headerOf p (referenceCount fs)) (frameCount fs) ≡ reportBytes p (map found (references (treeOf fs)))
@@ -75,13 +75,13 @@ module _ (s : State) (win : List ℤ) (buffer : List ℕ) where
   pull-14 a r = rw (a, r)
 
   pub pull-offers : admission s win ≡ admitted → ltb (length buffer) reportLeast ≡ false
-      → (j : Judgement) → j ≡ judgement (s .next .0) (foundHere s win) (ruleIn s) → pulledBy s win buffer (offered j) ≡ pullDef s win buffer
+      → (j : Judgement) → j ≡ judgement (givenHere s win) (ruleIn s) → pulledBy s win buffer (offered j) ≡ pullDef s win buffer
   unfolding pullDef pullRead
   pull-offers a r j e = rw (a, r, sym e)
 
 -- ---- what the code gives, as a result
 module _ (frames : List ℕ) (f : Fields) (r : PulledFields) where
-  pub gave-as : (a : PullAnswer) (v : Truth) (d : PullRead) (report : List ℕ) → r .answer ≡ a → stateOf frames (r .fields) ≡ stateAfter (stateOf frames f) (gave v) → d ≡ gave v
+  pub gave-as : (a : PullAnswer) (v : Verdict) (d : PullRead) (report : List ℕ) → r .answer ≡ a → stateOf frames (r .fields) ≡ stateAfter (stateOf frames f) (gave v) → d ≡ gave v
       → pullTold a ≡ verdict v → pullOutcome (pulledOf frames r) report ≡ record { answer = pullAnswer d; state = stateAfter (stateOf frames f) d; report = report }
   gave-as a v d report e s k t = rw (e, s, k, t)
 

@@ -1,22 +1,24 @@
 -- The report of each false verdict that a list hands out, and what two lists for one rule leave free in it. Assumes nothing.
-use mathlib.Core.Path.{_≡_, refl, sym, _∙_, ap, subst}
+use mathlib.Core.Path.{_≡_, refl, sym, ap, subst}
 use mathlib.Core.Bool.{Bool, true, false, cond}
 use mathlib.Core.List.{List, [], _∷_, _++_, map}
+use mathlib.Core.Logic.{inl, inr}
 use Prim.Native.Nat.{ℕ, zero, suc, _+_}
 use native.Mathlib.Omega.{arith}
 use native.Mathlib.Nat.{add-zero}
-use borrow.Author.Tests.{ltb-true}
 use lib.Dec.{ltb}
-use lib.IntN.{ℤ, pos, negsuc}
-use lib.ListN.{length, getD, List·getD-append}
+use lib.IntN.{ℤ}
+use lib.ListN.{getD}
 use Rattle.rule.specs.Tree.{Reference, references}
 use Rattle.rule.specs.Build.{treeOf}
-use Rattle.verdict.specs.Found.{present, pending, void, occurrence, foundAt, foundIn}
-use Rattle.verdict.specs.Later.{MoreLines}
-use Rattle.verdict.specs.declared.Truth.{Truth}
-use Rattle.verdict.specs.declared.Truth.the-variants.{False, Unknown}
+use Rattle.verdict.specs.Found.{meant, Found, present, pending, void, Lookup, foundBy, byLists, foundIn}
+use Rattle.verdict.specs.Later.{Gains, MoreLines}
+use Rattle.verdict.specs.declared.Meant.{Meant}
+use Rattle.verdict.specs.declared.Meant.the-variants.{Void, At}
+use Rattle.verdict.specs.declared.Verdict.{Verdict}
+use Rattle.verdict.specs.declared.Verdict.the-variants.{False, Unknown}
 use Rattle.verdict.proofs.Main.{lines-gain}
-use Rattle.checker.specs.Base.{firstInstance}
+use Rattle.checker.specs.Base.{firstFor}
 use Rattle.checker.specs.Feed.{FeedRead, turned, skipped, taken, feedAnswer}
 use Rattle.checker.specs.Report.{reportBytes, written}
 use Rattle.checker.specs.Pull.{PullRead, short, waits, gave, pullAnswer, pullReport}
@@ -64,10 +66,10 @@ module _ (frames : List ℕ) (w : ℕ) where
   wrote-here m buffer cs = record { before = []; buffer = buffer; after = cs; split = refl; turn = refl; bytes = refl }
 
   -- each false verdict among vs, the first of instance p, has such a pull; rs are the buffers beside vs
-  abbrev AllWrote : Machine → List Call → ℕ → List Truth → List (List ℕ) → Type 0
+  abbrev AllWrote : Machine → List Call → ℕ → List Verdict → List (List ℕ) → Type 0
   AllWrote m cs p vs rs = (k : ℕ) → getD vs k Unknown ≡ False → Wrote m cs (p + k) (getD rs k [])
 
-  wrote-fed : (m : Machine) (cs : List Call) (f : FeedRead) (vs : List Truth) (rs : List (List ℕ))
+  wrote-fed : (m : Machine) (cs : List Call) (f : FeedRead) (vs : List Verdict) (rs : List (List ℕ))
       → AllWrote m cs (afterFeed m f .next) vs rs → AllWrote m cs (m .next) (handed (feedAnswer f) vs) rs
   unfolding joined
   wrote-fed m cs (turned number place) vs rs h = h
@@ -78,7 +80,7 @@ module _ (frames : List ℕ) (w : ℕ) where
   abbrev pub bufferBy : Machine → List ℕ → PullRead → List ℕ
   bufferBy m buffer x = pullReport (m .next) (references (treeOf frames)) (foundIn (m .lists) (m .next)) buffer x
 
-  wrote-pulled : (m : Machine) (buffer : List ℕ) (cs : List Call) (x : PullRead) (vs : List Truth) (rs : List (List ℕ))
+  wrote-pulled : (m : Machine) (buffer : List ℕ) (cs : List Call) (x : PullRead) (vs : List Verdict) (rs : List (List ℕ))
       → AllWrote m (pull buffer ∷ cs) (afterPull m x .next) vs rs
       → AllWrote m (pull buffer ∷ cs) (m .next) (handed (pullAnswer x) vs) (reporting (pullAnswer x) (bufferBy m buffer x) rs)
   unfolding moved
@@ -112,9 +114,9 @@ module _ (frames : List ℕ) (w : ℕ) where
 
   more-before : (front rest cs : List Call) → front ++ rest ≡ cs
       → MoreLines (machineAfter frames w front .lists) (machineAfter frames w cs .lists)
-  more-before front rest cs q = rw (sym q) (more-front front rest atFirst)
+  more-before front rest cs q = rw (sym q) (more-front front rest (atFirst frames))
 
-  reported : (cs : List Call) (i : ℕ) (report : List ℕ) → Wrote atFirst cs i report → Reported frames w cs i report
+  reported : (cs : List Call) (i : ℕ) (report : List ℕ) → Wrote (atFirst frames) cs i report → Reported frames w cs i report
   reported cs i report h =
       let more = more-before (h .before) (pull (h .buffer) ∷ h .after) cs (h .split) in
       record {
@@ -129,42 +131,35 @@ module _ (frames : List ℕ) (w : ℕ) where
 
 module _ {frames : List ℕ} {w : ℕ} {win : List ℤ} (o : Unrefused frames w win) (cs : List Call) where
   pub report : (i : ℕ) → getD (handedOut frames w win cs) i Unknown ≡ False
-      → Reported frames w cs (firstInstance + i) (getD (reportsOut frames w win cs) i [])
+      → Reported frames w cs (firstFor frames + i) (getD (reportsOut frames w win cs) i [])
   report i q =
-      let h = all-wrote frames w cs atFirst i (rw (sym (lists.answers o cs)) q) in
-      rw (lists.answers o cs) (reported frames w cs (firstInstance + i) _ h)
+      let h = all-wrote frames w cs (atFirst frames) i (rw (sym (lists.answers o cs)) q) in
+      rw (lists.answers o cs) (reported frames w cs (firstFor frames + i) _ h)
 
 -- ---- two lists whose lines begin the same ones
-module _ (a b more more′ : List (List ℤ)) (e : a ++ more ≡ b ++ more′) (note : ℕ) where
-  same-line : (k : ℕ) → ltb k (length a) ≡ true → ltb k (length b) ≡ true → getD a k [] ≡ getD b k []
-  same-line k p q =
-      sym (List·getD-append a more [] k (ltb-true k (length a) p))
-      ∙ ap (λ (l : List (List ℤ)). getD l k []) e
-      ∙ List·getD-append b more′ [] k (ltb-true k (length b) q)
+free-by : (x y : Found) (z : ℤ) (t : Bool) → Gains x (cond t (present z) pending) → Gains y (cond t (present z) pending) → FreeBetween x y
+free-by x y z t (inl p) (inl q) = rw (p, q) (equal (cond t (present z) pending))
+free-by x y z t (inr p) (inr q) = rw (p, q) (equal pending)
+free-by x y z true (inl p) (inr q) = rw (p, q) (present-pending z)
+free-by x y z true (inr p) (inl q) = rw (p, q) (pending-present z)
+free-by x y z false (inl p) (inr q) = rw (p, q) (equal pending)
+free-by x y z false (inr p) (inl q) = rw (p, q) (equal pending)
 
-  free-by : (k : ℕ) (s t : Bool) → ltb k (length a) ≡ s → ltb k (length b) ≡ t
-      → FreeBetween (cond s (present (getD (getD a k []) note (pos 0))) pending)
-      (cond t (present (getD (getD b k []) note (pos 0))) pending)
-  free-by k true true p q = rw (same-line k p q) (equal (present (getD (getD b k []) note (pos 0))))
-  free-by k true false p q = present-pending (getD (getD a k []) note (pos 0))
-  free-by k false true p q = pending-present (getD (getD b k []) note (pos 0))
-  free-by k false false p q = equal pending
-
-  free-at : (k : ℤ) → FreeBetween (foundAt a note k) (foundAt b note k)
-  free-at (negsuc k) = equal void
-  free-at (pos k) = free-by k (ltb k (length a)) (ltb k (length b)) refl refl
+free-at : (l l′ l″ : Lookup) (e n : ℕ) (m : Meant) → Gains (foundBy l e n m) (foundBy l″ e n m) → Gains (foundBy l′ e n m) (foundBy l″ e n m)
+    → FreeBetween (foundBy l e n m) (foundBy l′ e n m)
+free-at l l′ l″ e n Void p q = equal void
+free-at l l′ l″ e n (At k) p q = free-by _ _ (l″ .noteAt e n (k .0)) (ltb (k .0) (l″ .count e)) p q
 
 free-between : (a b c : ℕ → List (List ℤ)) → MoreLines a c → MoreLines b c
     → (i : ℕ) (r : Reference) → FreeBetween (foundIn a i r) (foundIn b i r)
 free-between a b c p q i r =
-    let e = r .event in
-    free-at (a e) (b e) (p e .0) (q e .0) (p e .1 ∙ sym (q e .1)) (r .note) (occurrence (r .factor) (r .offset) i)
+    free-at (byLists a) (byLists b) (byLists c) (r .event) (r .note) (meant i r) (lines-gain a c p i r) (lines-gain b c q i r)
 
 module _ {frames : List ℕ} {w w′ : ℕ} {win win′ : List ℤ}
     (o : Unrefused frames w win) (o′ : Unrefused frames w′ win′) (cs cs′ : List Call) where
   pub two-reports : MoreLines (machineAfter frames w cs .lists) (machineAfter frames w′ cs′ .lists) → (i : ℕ)
       → getD (handedOut frames w win cs) i Unknown ≡ False → getD (handedOut frames w′ win′ cs′) i Unknown ≡ False
-      → ReportedTwice frames w w′ cs cs′ (firstInstance + i)
+      → ReportedTwice frames w w′ cs cs′ (firstFor frames + i)
       (getD (reportsOut frames w win cs) i []) (getD (reportsOut frames w′ win′ cs′) i [])
   two-reports more i q q′ =
       let x = report o cs i q in
@@ -177,11 +172,11 @@ module _ {frames : List ℕ} {w w′ : ℕ} {win win′ : List ℤ}
       record {
         first = x;
         second = y;
-        marks = free-between a b c (more-trans a (machineAfter frames w cs .lists) c first more) second (firstInstance + i);
+        marks = free-between a b c (more-trans a (machineAfter frames w cs .lists) c first more) second (firstFor frames + i);
       }
 
-  pub order-reports : Reordered (acceptedIn frames w cs atFirst) (acceptedIn frames w′ cs′ atFirst) → (i : ℕ)
+  pub order-reports : Reordered (acceptedIn frames w cs (atFirst frames)) (acceptedIn frames w′ cs′ (atFirst frames)) → (i : ℕ)
       → getD (handedOut frames w win cs) i Unknown ≡ False → getD (handedOut frames w′ win′ cs′) i Unknown ≡ False
-      → ReportedTwice frames w w′ cs cs′ (firstInstance + i)
+      → ReportedTwice frames w w′ cs cs′ (firstFor frames + i)
       (getD (reportsOut frames w win cs) i []) (getD (reportsOut frames w′ win′ cs′) i [])
   order-reports r = two-reports (order-more frames w w′ cs cs′ r)

@@ -5,9 +5,9 @@ use mathlib.Core.List.{List, [], _∷_, _++_, List·Memᴰ, List·Memᴰ·head, 
 use mathlib.Core.Logic.{⊎-elim, _≢_}
 use Prim.Native.Nat.{ℕ, _+_, _<_, _≤_}
 use native.Mathlib.Omega.{arith}
-use borrow.Author.Tests.{eq-eqb, leb-true, leb-false, ltb-true, eqb-true}
+use borrow.Author.Tests.{eq-eqb, leb-true, leb-false, eqb-true}
 use lib.Dec.{ltb, leb, eqb}
-use lib.IntN.{ℤ, pos, negsuc}
+use lib.IntN.{ℤ, pos}
 use lib.ListN.{length, getD, set, length-append, List·getD-append}
 use lib.Seq.{getD-append-seam}
 use Rattle.rule.specs.Limits.{frameLimit}
@@ -18,20 +18,21 @@ use Rattle.rule.specs.declared.Checked.the-variants.{Accepted}
 use Rattle.log.specs.Line.{Told, lineOf}
 use Rattle.log.specs.Line as log
 use Rattle.numbers.proofs.Bools.{true-false, and-true, true-and}
-use Rattle.verdict.specs.Found.{instanceLimit, Found, present, pending, occurrence, foundAt, foundIn, isPresent, isPending, someOf}
+use Rattle.verdict.specs.Found.{instanceLimit, meant, Found, pending, byLists, foundIn, Given, givenIn, isPresent, isPending, someOf}
 use Rattle.verdict.specs.Value.{value}
 use Rattle.verdict.specs.Settled.{settledBy, judgement}
+use Rattle.verdict.specs.Later.{withFound}
 use Rattle.verdict.specs.Settled as settling
-use Rattle.verdict.specs.declared.Truth.{Truth}
-use Rattle.verdict.specs.declared.Truth.the-variants as truths
+use Rattle.verdict.specs.declared.Verdict.{Verdict}
 use Rattle.verdict.specs.declared.Judgement.{Judgement}
 use Rattle.verdict.specs.declared.Judgement.the-variants.{Unsettled, True, False, Unknown}
 use Rattle.verdict.proofs.Main.{own-references}
+use Rattle.verdict.proofs.Laws.{found-same}
 use Rattle.checker.specs.Limits.{windowWords, lineLimit, reportLeast}
 use Rattle.checker.specs.Base.{referenced, orZero, base}
 use Rattle.checker.specs.State.{Tally, countOf, tallyIn, stateFrames, refsIn, withLine, withVerdict, withTally}
 use Rattle.checker.specs.Ring.{wordAt, kept}
-use Rattle.checker.specs.Found.{windowAt, foundInWindow}
+use Rattle.checker.specs.Found.{byWindow, foundInWindow, givenInWindow}
 use Rattle.checker.specs.Open.{widthFits, windowFits}
 use Rattle.checker.specs.Good.{isAccepted, goodRule, goodTally, goodState}
 use Rattle.checker.specs.Admission.{admitted, admission}
@@ -166,11 +167,11 @@ one-pending : (rs : List Reference) (found : Reference → Found) → (rs ≡ []
 one-pending [] found l h = absurd (l refl)
 one-pending (x ∷ xs) found l h = rw (h x (List·Memᴰ·head refl))
 
-pub all-pending : (rule : Cond) (i : ℕ) (found : Reference → Found) → (references rule ≡ [] → ⊥) → ((r : Reference) → List·Memᴰ r (references rule) → found r ≡ pending)
-    → judgement i found rule ≡ Unsettled
-all-pending rule i found l h =
-    ap₂ (λ (a b : Bool). cond (settledBy a b (value i found rule)) (settling.verdict (value i found rule)) Unsettled)
-    (one-pending (references rule) found l h) (no-present (references rule) found h)
+pub all-pending : (rule : Cond) (g : Given) → (references rule ≡ [] → ⊥) → ((r : Reference) → List·Memᴰ r (references rule) → g .found r ≡ pending)
+    → judgement g rule ≡ Unsettled
+all-pending rule g l h =
+    ap₂ (λ (a b : Bool). cond (settledBy a b (value g rule)) (settling.verdict (settling.verdictOf (value g rule))) Unsettled)
+    (one-pending (references rule) (g .found) l h) (no-present (references rule) (g .found) h)
 
 abbrev isUnsettled : Judgement → Bool
 isUnsettled Unsettled = true
@@ -178,27 +179,27 @@ isUnsettled True = false
 isUnsettled False = false
 isUnsettled Unknown = false
 
-pub verdict-settled : (v : Truth) → settling.verdict v ≡ Unsettled → ⊥
-verdict-settled truths.True q = true-false (sym (ap isUnsettled q))
-verdict-settled truths.False q = true-false (sym (ap isUnsettled q))
-verdict-settled truths.Unknown q = true-false (sym (ap isUnsettled q))
+pub verdict-settled : (v : Verdict) → settling.verdict v ≡ Unsettled → ⊥
+verdict-settled Verdict.True q = true-false (sym (ap isUnsettled q))
+verdict-settled Verdict.False q = true-false (sym (ap isUnsettled q))
+verdict-settled Verdict.Unknown q = true-false (sym (ap isUnsettled q))
 
 -- what is known of a verdict that is given
-abbrev pub Gave : Cond → ℕ → (Reference → Found) → PullRead → Type 0
-Gave rule i found short = Unit {0}
-Gave rule i found waits = Unit {0}
-Gave rule i found (gave v) = judgement i found rule ≡ settling.verdict v
+abbrev pub Gave : Cond → Given → PullRead → Type 0
+Gave rule g short = Unit {0}
+Gave rule g waits = Unit {0}
+Gave rule g (gave v) = judgement g rule ≡ settling.verdict v
 
-gave-by : (rule : Cond) (i : ℕ) (found : Reference → Found) (j : Judgement) → judgement i found rule ≡ j → Gave rule i found (offered j)
-gave-by rule i found Unsettled q = tt
-gave-by rule i found True q = q
-gave-by rule i found False q = q
-gave-by rule i found Unknown q = q
+gave-by : (rule : Cond) (g : Given) (j : Judgement) → judgement g rule ≡ j → Gave rule g (offered j)
+gave-by rule g Unsettled q = tt
+gave-by rule g True q = q
+gave-by rule g False q = q
+gave-by rule g Unknown q = q
 
-pub gave-judged : (rule : Cond) (i : ℕ) (found : Reference → Found) (n : ℕ) → Gave rule i found (pullRead rule i found n)
+pub gave-judged : (rule : Cond) (g : Given) (n : ℕ) → Gave rule g (pullRead rule g n)
 unfolding pullRead
-gave-judged rule i found n =
-    cond-case (Gave rule i found) (ltb n reportLeast) short (offered (judgement i found rule)) (λ _. tt) (λ _. gave-by rule i found (judgement i found rule) refl)
+gave-judged rule g n =
+    cond-case (Gave rule g) (ltb n reportLeast) short (offered (judgement g rule)) (λ _. tt) (λ _. gave-by rule g (judgement g rule) refl)
 
 module _ (frames : List ℕ) (w : ℕ) (ok : Fine frames w) where
   abbrev refs : List Reference
@@ -208,12 +209,12 @@ module _ (frames : List ℕ) (w : ℕ) (ok : Fine frames w) where
   wide = leb-true 1 w (and-true (leb 1 w) _ (ok .width) .0)
 
   -- an instance with a verdict is not the last
-  gave-low : (m : Machine) (v : Truth) → Sound (references (treeOf frames)) w (tallyOf m) → judgement (m .next) (foundIn (m .lists) (m .next)) (treeOf frames) ≡ settling.verdict v → m .next < instanceLimit
+  gave-low : (m : Machine) (v : Verdict) → Sound (references (treeOf frames)) w (tallyOf m) → judgement (givenIn (m .lists) (m .next)) (treeOf frames) ≡ settling.verdict v → m .next < instanceLimit
   gave-low m v x q =
       ⊎-elim
       (λ l. l)
-      (λ (l : instanceLimit ≤ m .next). absurd (verdict-settled v (sym q ∙ all-pending (treeOf frames) (m .next) (foundIn (m .lists) (m .next)) (ok .some)
-      (λ r h. late-pending (m .lists (r .event)) r (m .next) (ok .limits r h .least) (ok .limits r h .offset) (few r h) l))))
+      (λ (l : instanceLimit ≤ m .next). absurd (verdict-settled v (sym q ∙ all-pending (treeOf frames) (givenIn (m .lists) (m .next)) (ok .some)
+      (λ r h. late-pending (byLists (m .lists)) r (m .next) (ok .limits r h .least) (ok .limits r h .offset) (few r h) l))))
       (less-or (m .next) instanceLimit)
     where
       few : (r : Reference) → List·Memᴰ r (references (treeOf frames)) → length (m .lists (r .event)) ≤ lineLimit
@@ -279,55 +280,46 @@ module _ (frames : List ℕ) (w : ℕ) (ok : Fine frames w) where
         }
 
     -- ---- pulling
-    found-at : (e n : ℕ) (z : ℤ) → e < 8 → n < 4 → base (references (treeOf frames)) e (m .next) ≤ orZero z
-        → windowAt w (k .words) (countOf (tallyOf m) e) e n z ≡ foundAt (m .lists e) n z
-    found-at e n (negsuc j) he hn h = refl
-    found-at e n (pos j) he hn h =
-        rw (count-of m e he)
-        (cond-case (λ (v : Found). v ≡ cond (ltb j (length (m .lists e))) (present (getD (getD (m .lists e) j []) n (pos 0))) pending) (ltb j (length (m .lists e))) (present (getD (k .words) (wordAt w e j n) (pos 0))) pending
-        (λ q. rw q (ap present (b .sim .live e j n he h (ltb-true j (length (m .lists e)) q) hn)))
-        (λ q. rw q))
-
     -- the window says of each reference what the lists say
-    found-same : SameOn (references (treeOf frames)) (foundInWindow w (tallyOf m) (k .words) (m .next)) (foundIn (m .lists) (m .next))
-    found-same r h =
-        found-at (r .event) (r .note) (occurrence (r .factor) (r .offset) (m .next)) (ok .limits r h .event) (ok .limits r h .note)
-        (base-le (references (treeOf frames)) (m .next) r h)
+    window-same : SameOn (references (treeOf frames)) (foundInWindow w (tallyOf m .counts) (k .words) (m .next)) (foundIn (m .lists) (m .next))
+    window-same r h =
+        found-same (byWindow w (tallyOf m .counts) (k .words)) (byLists (m .lists)) (r .event) (r .note) (count-of m (r .event) (ok .limits r h .event)) (meant (m .next) r)
+        (λ o q l. b .sim .live (r .event) (o .0) (r .note) (ok .limits r h .event) (omega (arith, base-le (references (treeOf frames)) (m .next) r h, ap orZero q)) l (ok .limits r h .note))
 
-    abbrev resultOf : ℕ → Cond → (Reference → Found) → List ℕ → PullRead → PullResult
-    resultOf p t found buffer x =
-        record { answer = pullAnswer x; state = stateAfter (k .state) x; report = pullReport p (references t) found buffer x }
+    abbrev resultOf : Cond → Given → List ℕ → PullRead → PullResult
+    resultOf t g buffer x =
+        record { answer = pullAnswer x; state = stateAfter (k .state) x; report = pullReport (g .instance) (references t) (g .found) buffer x }
 
-    abbrev resultAt : ℕ → Cond → (Reference → Found) → List ℕ → PullResult
-    resultAt p t found buffer = resultOf p t found buffer (pullRead t p found (length buffer))
+    abbrev resultAt : Cond → Given → List ℕ → PullResult
+    resultAt t g buffer = resultOf t g buffer (pullRead t g (length buffer))
 
     report-own : (p : ℕ) (t : Cond) (found found′ : Reference → Found) (buffer : List ℕ) → SameOn (references t) found found′ → (x : PullRead)
         → pullReport p (references t) found buffer x ≡ pullReport p (references t) found′ buffer x
     report-own p t found found′ buffer s short = refl
     report-own p t found found′ buffer s waits = refl
-    report-own p t found found′ buffer s (gave truths.True) = refl
-    report-own p t found found′ buffer s (gave truths.False) = rw (map-own found found′ (references t) s)
-    report-own p t found found′ buffer s (gave truths.Unknown) = refl
+    report-own p t found found′ buffer s (gave Verdict.True) = refl
+    report-own p t found found′ buffer s (gave Verdict.False) = rw (map-own found found′ (references t) s)
+    report-own p t found found′ buffer s (gave Verdict.Unknown) = refl
 
-    read-own : (p : ℕ) (t : Cond) (found found′ : Reference → Found) (n : ℕ) → SameOn (references t) found found′ → pullRead t p found n ≡ pullRead t p found′ n
+    read-own : (t : Cond) (g : Given) (found : Reference → Found) (n : ℕ) → SameOn (references t) (g .found) found → pullRead t g n ≡ pullRead t (withFound g found) n
     unfolding pullRead
-    read-own p t found found′ n s = ap (λ (j : Judgement). cond (ltb n reportLeast) short (offered j)) (own-references p found found′ t s)
+    read-own t g found n s = ap (λ (j : Judgement). cond (ltb n reportLeast) short (offered j)) (own-references g found t s)
 
-    result-own : (p : ℕ) (t : Cond) (found found′ : Reference → Found) (buffer : List ℕ) → SameOn (references t) found found′ → resultAt p t found buffer ≡ resultAt p t found′ buffer
-    result-own p t found found′ buffer s =
-        ap (λ (x : PullRead). resultOf p t found buffer x) (read-own p t found found′ (length buffer) s)
-        ∙ ap (λ (l : List ℕ). record { answer = pullAnswer (pullRead t p found′ (length buffer)); state = stateAfter (k .state) (pullRead t p found′ (length buffer)); report = l })
-        (report-own p t found found′ buffer s (pullRead t p found′ (length buffer)))
+    result-own : (t : Cond) (g : Given) (found : Reference → Found) (buffer : List ℕ) → SameOn (references t) (g .found) found → resultAt t g buffer ≡ resultAt t (withFound g found) buffer
+    result-own t g found buffer s =
+        let x = pullRead t (withFound g found) (length buffer) in
+        ap (resultOf t g buffer) (read-own t g found (length buffer) s)
+        ∙ ap (λ (l : List ℕ). record { answer = pullAnswer x; state = stateAfter (k .state) x; report = l }) (report-own (g .instance) t (g .found) found buffer s x)
 
-    pull-eq : (buffer : List ℕ) → pullDef (k .state) (k .words) buffer ≡ resultAt (m .next) (treeOf frames) (foundIn (m .lists) (m .next)) buffer
+    pull-eq : (buffer : List ℕ) → pullDef (k .state) (k .words) buffer ≡ resultAt (treeOf frames) (givenIn (m .lists) (m .next)) buffer
     unfolding pullDef
     pull-eq buffer =
         ap (pulledIf (k .state) (k .words) buffer) in-step-admitted
-        ∙ ap (λ (x : List ℕ). resultAt (k .state .next .0) (treeOf x) (foundInWindow (k .state .width) (tallyIn (k .state)) (k .words) (k .state .next .0)) buffer) (b .sim .rule)
-        ∙ ap₂ (λ (v : ℕ) (t : Tally). resultAt (t .next) (treeOf frames) (foundInWindow v t (k .words) (t .next)) buffer) (b .sim .width) (b .sim .tally)
-        ∙ result-own (m .next) (treeOf frames) (foundInWindow w (tallyOf m) (k .words) (m .next)) (foundIn (m .lists) (m .next)) buffer found-same
+        ∙ ap (λ (x : List ℕ). resultAt (treeOf x) (givenInWindow (k .state .width) (k .state .counts) (k .words) (k .state .next .0)) buffer) (b .sim .rule)
+        ∙ ap₂ (λ (v : ℕ) (t : Tally). resultAt (treeOf frames) (givenInWindow v (t .counts) (k .words) (t .next)) buffer) (b .sim .width) (b .sim .tally)
+        ∙ result-own (treeOf frames) (givenInWindow w (tallyOf m .counts) (k .words) (m .next)) (foundIn (m .lists) (m .next)) buffer window-same
 
-    both-pulled : (x : PullRead) → Gave (treeOf frames) (m .next) (foundIn (m .lists) (m .next)) x
+    both-pulled : (x : PullRead) → Gave (treeOf frames) (givenIn (m .lists) (m .next)) x
         → Both frames w (afterPull m x) (record { state = stateAfter (k .state) x; words = k .words })
     both-pulled short t = b
     both-pulled waits t = b
@@ -361,4 +353,4 @@ module _ (frames : List ℕ) (w : ℕ) (ok : Fine frames w) where
         (both-fed (machineFeed (treeOf frames) w m line) (took refs w (tallyOf m) (lineOf line)))
     next-step (pull buffer) =
         subst (λ (x : PullResult). Both frames w (afterPull m (machinePull (treeOf frames) w m buffer)) (record { state = x .state; words = k .words })) (sym (pull-eq buffer))
-        (both-pulled (machinePull (treeOf frames) w m buffer) (gave-judged (treeOf frames) (m .next) (foundIn (m .lists) (m .next)) (length buffer)))
+        (both-pulled (machinePull (treeOf frames) w m buffer) (gave-judged (treeOf frames) (givenIn (m .lists) (m .next)) (length buffer)))

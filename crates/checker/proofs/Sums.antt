@@ -6,9 +6,9 @@ use native.Mathlib.Omega.{arith}
 use lib.IntN.{ℤ}
 use lib.ListN.{length}
 use Rattle.rule.specs.Build.{treeOf}
-use Rattle.verdict.specs.declared.Truth.{Truth}
-use Rattle.verdict.specs.declared.Truth.the-variants.{True, False, Unknown}
-use Rattle.checker.specs.Base.{firstInstance}
+use Rattle.verdict.specs.declared.Verdict.{Verdict}
+use Rattle.verdict.specs.declared.Verdict.the-variants.{True, False, Unknown}
+use Rattle.checker.specs.Base.{firstFor}
 use Rattle.checker.specs.State.{Tally}
 use Rattle.checker.specs.Feed.{FeedRead, turned, skipped, taken, feedAnswer}
 use Rattle.checker.specs.Pull.{PullRead, short, waits, gave, pullAnswer}
@@ -19,19 +19,19 @@ use Rattle.checker.specs.declared.Totals.{Totals}
 use Rattle.checker.proofs.Lists as lists
 use Rattle.checker.proofs.Final.{verdicts-same}
 
-record Counted (m m′ : Machine) (vs : List Truth) : Type 0 where
+record Counted (m m′ : Machine) (vs : List Verdict) : Type 0 where
   pub next : m′ .next ≡ m .next + length vs
   pub held : m′ .totals .held ≡ m .totals .held + countIn vs True
   pub failed : m′ .totals .failed ≡ m .totals .failed + countIn vs False
   pub unknown : m′ .totals .unknown ≡ m .totals .unknown + countIn vs Unknown
 
-counted-fed : (m m′ : Machine) (f : FeedRead) (vs : List Truth) → Counted (afterFeed m f) m′ vs → Counted m m′ (handed (feedAnswer f) vs)
+counted-fed : (m m′ : Machine) (f : FeedRead) (vs : List Verdict) → Counted (afterFeed m f) m′ vs → Counted m m′ (handed (feedAnswer f) vs)
 unfolding joined
 counted-fed m m′ (turned number place) vs h = h
 counted-fed m m′ skipped vs h = h
 counted-fed m m′ (taken e notes) vs h = record { next = h .next; held = h .held; failed = h .failed; unknown = h .unknown }
 
-counted-pulled : (m m′ : Machine) (x : PullRead) (vs : List Truth) → Counted (afterPull m x) m′ vs → Counted m m′ (handed (pullAnswer x) vs)
+counted-pulled : (m m′ : Machine) (x : PullRead) (vs : List Verdict) → Counted (afterPull m x) m′ vs → Counted m m′ (handed (pullAnswer x) vs)
 unfolding moved countIn
 counted-pulled m m′ short vs h = h
 counted-pulled m m′ waits vs h = h
@@ -53,9 +53,9 @@ module _ (frames : List ℕ) (w : ℕ) where
       let x = machinePull (treeOf frames) w m buffer in
       counted-pulled m (end (machineFor frames w) cs (afterPull m x)) x (verdicts (outs (machineFor frames w) cs (afterPull m x))) (all-counted cs (afterPull m x))
 
--- from 0 on
-sums-are : (m : Machine) (vs : List Truth) → Counted atFirst m vs → (m .next ≡ firstInstance + length vs) × (m .totals ≡ totalsOf vs)
-sums-are m vs c =
+-- from the first instance on
+sums-are : (frames : List ℕ) (m : Machine) (vs : List Verdict) → Counted (atFirst frames) m vs → (m .next ≡ firstFor frames + length vs) × (m .totals ≡ totalsOf vs)
+sums-are frames m vs c =
     let h : m .totals .held ≡ countIn vs True = c .held ∙ omega arith in
     let f : m .totals .failed ≡ countIn vs False = c .failed ∙ omega arith in
     let u : m .totals .unknown ≡ countIn vs Unknown = c .unknown ∙ omega arith in
@@ -69,10 +69,10 @@ sums-are m vs c =
 
 module _ {frames : List ℕ} {w : ℕ} {win : List ℤ} (o : Unrefused frames w win) (cs : List Call) where
   -- in the checker's state
-  pub sums : (end checker cs (fresh frames w win) .state .next .0 ≡ firstInstance + length (verdicts (outs checker cs (fresh frames w win))))
+  pub sums : (end checker cs (fresh frames w win) .state .next .0 ≡ firstFor frames + length (verdicts (outs checker cs (fresh frames w win))))
       × (end checker cs (fresh frames w win) .state .totals ≡ totalsOf (verdicts (outs checker cs (fresh frames w win))))
   sums =
       let t = lists.state o cs in
       let v = verdicts-same o cs in
-      let c = sums-are (end (machineFor frames w) cs atFirst) (verdicts (outs (machineFor frames w) cs atFirst)) (all-counted frames w cs atFirst) in
-      (ap (λ (x : Tally). x .next) t ∙ c .0 ∙ ap (λ (l : List Truth). firstInstance + length l) (sym v), ap (λ (x : Tally). x .totals) t ∙ c .1 ∙ ap totalsOf (sym v))
+      let c = sums-are frames (end (machineFor frames w) cs (atFirst frames)) (verdicts (outs (machineFor frames w) cs (atFirst frames))) (all-counted frames w cs (atFirst frames)) in
+      (ap (λ (x : Tally). x .next) t ∙ c .0 ∙ ap (λ (l : List Verdict). firstFor frames + length l) (sym v), ap (λ (x : Tally). x .totals) t ∙ c .1 ∙ ap totalsOf (sym v))

@@ -13,8 +13,7 @@ use Rattle.numbers.proofs.Bools.{true-false, and-true, true-and}
 use Rattle.rule.specs.Limits.{eventLimit}
 use Rattle.rule.specs.Tree.{Reference}
 use Rattle.verdict.specs.Found.{instanceLimit}
-use Rattle.verdict.specs.declared.Truth.{Truth}
-use Rattle.verdict.specs.declared.Truth.the-variants as truths
+use Rattle.verdict.specs.declared.Verdict.{Verdict}
 use Rattle.checker.specs.Limits.{lineLimit}
 use Rattle.checker.specs.Base.{referenced, base}
 use Rattle.checker.specs.State.{counted, sumOf, Tally, countOf, withLine, withVerdict}
@@ -102,12 +101,12 @@ module _ (refs : List Reference) (w : ℕ) (t : Tally) (x : Sound refs w t) wher
   sound-line e r h₁ h₂ = record { counts = λ f l. count-line e f l r h₁ h₂; low = x .low; sum = x .sum }
 
 -- ---- a verdict is given
-pub sum-counted : (t : Totals) (v : Truth) → sumOf (counted t v) ≡ sumOf t + 1
-sum-counted t truths.True = omega arith
-sum-counted t truths.False = omega arith
-sum-counted t truths.Unknown = omega arith
+pub sum-counted : (t : Totals) (v : Verdict) → sumOf (counted t v) ≡ sumOf t + 1
+sum-counted t Verdict.True = omega arith
+sum-counted t Verdict.False = omega arith
+sum-counted t Verdict.Unknown = omega arith
 
-pub sound-verdict : (refs : List Reference) (w : ℕ) (t : Tally) (v : Truth) → Sound refs w t → t .next < instanceLimit → Sound refs w (withVerdict t v)
+pub sound-verdict : (refs : List Reference) (w : ℕ) (t : Tally) (v : Verdict) → Sound refs w t → t .next < instanceLimit → Sound refs w (withVerdict t v)
 sound-verdict refs w t v x l =
     record {
       counts = λ e h. let c = x .counts e h in record {

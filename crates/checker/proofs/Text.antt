@@ -1,5 +1,5 @@
 -- From a rule's text to the verdicts that are handed out: what `read` fills is the frames of what the text means, and each verdict
--- is the value of the tree that the frames are of. Assumes nothing.
+-- is that of the value of the tree that the frames are of. Assumes nothing.
 use mathlib.Core.Path.{_≡_, ap, _∙_}
 use mathlib.Core.List.{List}
 use Prim.Native.Nat.{ℕ, _+_, _*_, _<_}
@@ -13,11 +13,12 @@ use Rattle.rule.specs.Meaning.{meaning}
 use Rattle.rule.specs.Reading.{readOf}
 use Rattle.rule.specs.declared.Reading.the-variants as reading
 use Rattle.rule.proofs.Main.{read-tree, read-bytes}
-use Rattle.verdict.specs.Found.{foundIn}
+use Rattle.verdict.specs.Found.{givenIn}
 use Rattle.verdict.specs.Value.{value}
-use Rattle.verdict.specs.declared.Truth.the-variants.{Unknown}
+use Rattle.verdict.specs.Settled.{verdictOf}
+use Rattle.verdict.specs.declared.Verdict.the-variants.{Unknown}
 use Rattle.checker.specs.Answer.{opened}
-use Rattle.checker.specs.Base.{firstInstance}
+use Rattle.checker.specs.Base.{firstFor}
 use Rattle.checker.specs.Open.{openDef}
 use Rattle.checker.specs.Calls.{Call}
 use Rattle.checker.specs.Demand.{machineAfter, handedOut}
@@ -27,7 +28,7 @@ module _ (text buffer filled : List ℕ) (n : ℕ) (r : readOf text buffer ≡ (
   pub text-to-verdict : (w : ℕ) (win : List ℤ) → openDef (take (n * frameBytes) filled) w win .answer ≡ opened → (cs : List Call) (i : ℕ)
       → i < length (handedOut (take (n * frameBytes) filled) w win cs)
       → getD (handedOut (take (n * frameBytes) filled) w win cs) i Unknown
-      ≡ value (firstInstance + i) (foundIn (machineAfter (take (n * frameBytes) filled) w cs .lists) (firstInstance + i)) (meaning text x)
+      ≡ verdictOf (value (givenIn (machineAfter (take (n * frameBytes) filled) w cs .lists) (firstFor (take (n * frameBytes) filled) + i)) (meaning text x))
   text-to-verdict w win o cs i h =
       value-of (record { bytes = read-bytes text buffer n filled r; answer = o }) cs i h
-      ∙ ap (λ (t : Cond). value (firstInstance + i) (foundIn (machineAfter (take (n * frameBytes) filled) w cs .lists) (firstInstance + i)) t) (read-tree text buffer n filled r x spelled)
+      ∙ ap (λ (t : Cond). verdictOf (value (givenIn (machineAfter (take (n * frameBytes) filled) w cs .lists) (firstFor (take (n * frameBytes) filled) + i)) t)) (read-tree text buffer n filled r x spelled)

@@ -10,7 +10,7 @@ use Rattle.rule.specs.Check.{checkedOf}
 use Rattle.rule.specs.declared.Checked.{Checked}
 use Rattle.rule.specs.declared.Checked.the-variants.{Accepted, Refused}
 use Rattle.log.specs.Line.{lineOf}
-use Rattle.verdict.specs.declared.Truth.{Truth}
+use Rattle.verdict.specs.declared.Verdict.{Verdict}
 use Rattle.checker.specs.Answer.{opened, accepted, verdict}
 use Rattle.checker.specs.State.{zeroState}
 use Rattle.checker.specs.Open.{OpenResult, widthFits, windowFits, openedAs, notOpened, afterFrames, openDef}
@@ -55,7 +55,7 @@ module _ (s : State) (win : List ℤ) (line : List ℕ) where
 -- ---- pulling
 module _ (s : State) (win : List ℤ) (buffer : List ℕ) where
   abbrev KeptP : PullResult → Type 0
-  KeptP x = ((v : Truth) → x .answer ≢ verdict v) → (x .state ≡ s) × (x .report ≡ buffer)
+  KeptP x = ((v : Verdict) → x .answer ≢ verdict v) → (x .state ≡ s) × (x .report ≡ buffer)
 
   pulled-by : (x : PullRead) → KeptP (pulledBy s win buffer x)
   pulled-by short h = (refl, refl)

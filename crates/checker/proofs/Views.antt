@@ -10,21 +10,20 @@ use lib.IntN.{ℤ}
 use lib.ListN.{length, getD, drop, length-append, length-drop}
 use Rattle.rule.specs.Tree.{Reference, Cond, references}
 use Rattle.rule.specs.Build.{treeOf}
-use Rattle.verdict.specs.Found.{Found, foundIn}
+use Rattle.verdict.specs.Found.{Found, foundIn, Given, givenIn}
 use Rattle.verdict.specs.Settled.{judgement}
-use Rattle.verdict.specs.declared.Truth.{Truth}
-use Rattle.verdict.specs.declared.Truth.the-variants as truths
+use Rattle.verdict.specs.declared.Verdict.{Verdict}
 use Rattle.verdict.specs.declared.Judgement.{Judgement}
 use Rattle.verdict.specs.declared.Judgement.the-variants.{Unsettled, True, False, Unknown}
 use Rattle.checker.specs.Limits.{reportLeast}
 use Rattle.checker.specs.Answer.{Answer, opened, accepted, ignored, waiting, verdict, refused}
-use Rattle.checker.specs.Base.{firstInstance}
+use Rattle.checker.specs.Base.{firstFor}
 use Rattle.checker.specs.State.{ruleIn, refsIn}
 use Rattle.checker.specs.Report.{reportBytes, written}
 use Rattle.checker.specs.Feed.{FeedRead, turned, skipped, taken, feedAnswer}
 use Rattle.checker.specs.Admission.{Admission, admitted, barred, admission}
 use Rattle.checker.specs.Pull.{PullRead, short, waits, gave, offered, pullRead, pullAnswer, pullReport}
-use Rattle.checker.specs.Pull.{PullResult, foundHere, nextIn, pulledIf, pullDef}
+use Rattle.checker.specs.Pull.{PullResult, givenHere, foundHere, nextIn, pulledIf, pullDef}
 use Rattle.checker.specs.Calls.{Call, feed, pull, outs}
 use Rattle.checker.specs.Machine.{Machine, atFirst, joined, moved, afterFeed, afterPull, machineFeed, machinePull, machineFor}
 use Rattle.checker.specs.Demand.{Unrefused, handed, verdicts}
@@ -43,7 +42,7 @@ written-long n bytes buffer h =
 
 -- a reported instance; the verdict is false
 abbrev reportOf : ℕ → InstanceVerdict
-reportOf i = record { instance = i; verdict = truths.False }
+reportOf i = record { instance = i; verdict = Verdict.False }
 
 view-report : (i : ℕ) (xs : List Found) (buffer : List ℕ) → reportLeast ≤ length buffer
     → viewDef (written (reportBytes i xs) buffer) ≡ record { number = 0; bytes = seen (reportOf i) }
@@ -62,11 +61,11 @@ enough-offered n h True = h
 enough-offered n h False = h
 enough-offered n h Unknown = h
 
-enough : (rule : Cond) (i : ℕ) (found : Reference → Found) (n : ℕ) → Enough n (pullRead rule i found n)
+enough : (rule : Cond) (g : Given) (n : ℕ) → Enough n (pullRead rule g n)
 unfolding pullRead
-enough rule i found n =
-    cond-case (Enough n) (ltb n reportLeast) short (offered (judgement i found rule))
-    (λ _. tt) (λ q. enough-offered n (ltb-false n reportLeast q) (judgement i found rule))
+enough rule g n =
+    cond-case (Enough n) (ltb n reportLeast) short (offered (judgement g rule))
+    (λ _. tt) (λ q. enough-offered n (ltb-false n reportLeast q) (judgement g rule))
 
 -- ---- after one pull
 -- 1 for the answer that fills a report
@@ -75,40 +74,40 @@ filling opened = 0
 filling accepted = 0
 filling ignored = 0
 filling waiting = 0
-filling (verdict truths.True) = 0
-filling (verdict truths.False) = 1
-filling (verdict truths.Unknown) = 0
+filling (verdict Verdict.True) = 0
+filling (verdict Verdict.False) = 1
+filling (verdict Verdict.Unknown) = 0
 filling (refused number place) = 0
 
 -- what is said of an answer that fills no report
-no-report : {A : Type 0} (a : Answer) → filling a ≡ 0 → a ≡ verdict truths.False → A
+no-report : {A : Type 0} (a : Answer) → filling a ≡ 0 → a ≡ verdict Verdict.False → A
 no-report a z q = absurd (let one : filling a ≡ 1 = ap filling q in omega arith)
 
 module _ (i : ℕ) (refs : List Reference) (found : Reference → Found) (buffer : List ℕ) where
-  view-filled : (x : PullRead) → Enough (length buffer) x → pullAnswer x ≡ verdict truths.False
+  view-filled : (x : PullRead) → Enough (length buffer) x → pullAnswer x ≡ verdict Verdict.False
       → viewDef (pullReport i refs found buffer x) ≡ record { number = 0; bytes = seen (reportOf i) }
   view-filled short long q = no-report _ refl q
   view-filled waits long q = no-report _ refl q
-  view-filled (gave truths.True) long q = no-report _ refl q
-  view-filled (gave truths.False) long q = view-report i (map found refs) buffer long
-  view-filled (gave truths.Unknown) long q = no-report _ refl q
+  view-filled (gave Verdict.True) long q = no-report _ refl q
+  view-filled (gave Verdict.False) long q = view-report i (map found refs) buffer long
+  view-filled (gave Verdict.Unknown) long q = no-report _ refl q
 
 -- of what a pull at instance i gives: a report that was filled has this view
 abbrev Viewed : ℕ → PullResult → Type 0
-Viewed i r = r .answer ≡ verdict truths.False → viewDef (r .report) ≡ record { number = 0; bytes = seen (reportOf i) }
+Viewed i r = r .answer ≡ verdict Verdict.False → viewDef (r .report) ≡ record { number = 0; bytes = seen (reportOf i) }
 
 pub view-after : (s : State) (win : List ℤ) (buffer : List ℕ) → Viewed (s .next .0) (pullDef s win buffer)
 unfolding pullDef
 view-after s win buffer = go (admission s win)
   where
     go : (a : Admission) → Viewed (s .next .0) (pulledIf s win buffer a)
-    go admitted = view-filled (s .next .0) (refsIn s) (foundHere s win) buffer (nextIn s win (length buffer)) (enough (ruleIn s) (s .next .0) (foundHere s win) (length buffer))
+    go admitted = view-filled (s .next .0) (refsIn s) (foundHere s win) buffer (nextIn s win (length buffer)) (enough (ruleIn s) (givenHere s win) (length buffer))
     go (barred number) = no-report (refused number 0) refl
 
 -- ---- the views of a list from m on, os being what it gives: those of its verdicts, the first of instance m's p
 module _ (frames : List ℕ) (w : ℕ) where
   -- beside what a feed adds
-  seen-fed : (m : Machine) (f : FeedRead) (vs : List Truth) (ws : List (List ℕ))
+  seen-fed : (m : Machine) (f : FeedRead) (vs : List Verdict) (ws : List (List ℕ))
       → ws ≡ map seen (reportedFrom (afterFeed m f .next) vs) → ws ≡ map seen (reportedFrom (m .next) (handed (feedAnswer f) vs))
   unfolding joined
   seen-fed m (turned number place) vs ws h = h
@@ -116,17 +115,17 @@ module _ (frames : List ℕ) (w : ℕ) where
   seen-fed m (taken e notes) vs ws h = h
 
   -- beside what a pull adds
-  seen-pulled : (m : Machine) (buffer : List ℕ) (x : PullRead) → Enough (length buffer) x → (vs : List Truth) (ws : List (List ℕ))
+  seen-pulled : (m : Machine) (buffer : List ℕ) (x : PullRead) → Enough (length buffer) x → (vs : List Verdict) (ws : List (List ℕ))
       → ws ≡ map seen (reportedFrom (afterPull m x .next) vs)
       → viewing (pullAnswer x) (bufferBy frames w m buffer x) ws ≡ map seen (reportedFrom (m .next) (handed (pullAnswer x) vs))
   unfolding moved reportedFrom
   seen-pulled m buffer short long vs ws h = h
   seen-pulled m buffer waits long vs ws h = h
-  seen-pulled m buffer (gave truths.True) long vs ws h = h
-  seen-pulled m buffer (gave truths.False) long vs ws h =
+  seen-pulled m buffer (gave Verdict.True) long vs ws h = h
+  seen-pulled m buffer (gave Verdict.False) long vs ws h =
       let found = map (foundIn (m .lists) (m .next)) (references (treeOf frames)) in
       ap₂ _∷_ (ap (λ (r : ViewResult). r .bytes) (view-report (m .next) found buffer long)) h
-  seen-pulled m buffer (gave truths.Unknown) long vs ws h = h
+  seen-pulled m buffer (gave Verdict.Unknown) long vs ws h = h
 
   all-seen : (cs : List Call) (m : Machine)
       → views (outs (machineFor frames w) cs m) ≡ map seen (reportedFrom (m .next) (verdicts (outs (machineFor frames w) cs m)))
@@ -139,12 +138,12 @@ module _ (frames : List ℕ) (w : ℕ) where
   all-seen (pull buffer ∷ cs) m =
       let x = machinePull (treeOf frames) w m buffer in
       let os = outs (machineFor frames w) cs (afterPull m x) in
-      let long = enough (treeOf frames) (m .next) (foundIn (m .lists) (m .next)) (length buffer) in
+      let long = enough (treeOf frames) (givenIn (m .lists) (m .next)) (length buffer) in
       seen-pulled m buffer x long (verdicts os) (views os) (all-seen cs (afterPull m x))
 
 module _ {frames : List ℕ} {w : ℕ} {win : List ℤ} (o : Unrefused frames w win) (cs : List Call) where
   pub views-seen : viewsOut frames w win cs ≡ map seen (reportedOut frames w win cs)
-  views-seen = rw (lists.answers o cs) (all-seen frames w cs atFirst)
+  views-seen = rw (lists.answers o cs) (all-seen frames w cs (atFirst frames))
 
 -- ---- a view fixes the instance and the verdict
 -- the number of a word's four bytes
@@ -161,12 +160,12 @@ reported bytes = reportOf (wordOf (getD bytes 0 0) (getD bytes 1 0) (getD bytes 
 reported-seen : (i : ℕ) → reported (seen (reportOf i)) ≡ reportOf i
 reported-seen i = ap reportOf (word-back i)
 
-reported-back : (i : ℕ) (vs : List Truth) → map reported (map seen (reportedFrom i vs)) ≡ reportedFrom i vs
+reported-back : (i : ℕ) (vs : List Verdict) → map reported (map seen (reportedFrom i vs)) ≡ reportedFrom i vs
 unfolding reportedFrom
 reported-back i [] = refl
-reported-back i (truths.True ∷ vs) = reported-back (i + 1) vs
-reported-back i (truths.False ∷ vs) = ap₂ _∷_ (reported-seen i) (reported-back (i + 1) vs)
-reported-back i (truths.Unknown ∷ vs) = reported-back (i + 1) vs
+reported-back i (Verdict.True ∷ vs) = reported-back (i + 1) vs
+reported-back i (Verdict.False ∷ vs) = ap₂ _∷_ (reported-seen i) (reported-back (i + 1) vs)
+reported-back i (Verdict.Unknown ∷ vs) = reported-back (i + 1) vs
 
 -- ---- two lists
 module _ {frames : List ℕ} {w w′ : ℕ} {win win′ : List ℤ}
@@ -178,9 +177,9 @@ module _ {frames : List ℕ} {w w′ : ℕ} {win win′ : List ℤ}
   same-reported : viewsOut frames w win cs ≡ viewsOut frames w′ win′ cs′
       → reportedOut frames w win cs ≡ reportedOut frames w′ win′ cs′
   same-reported e =
-      sym (reported-back firstInstance _)
+      sym (reported-back (firstFor frames) _)
       ∙ ap (map reported) (sym (views-seen o cs) ∙ e ∙ views-seen o′ cs′)
-      ∙ reported-back firstInstance _
+      ∙ reported-back (firstFor frames) _
 
   pub views-exactly : (viewsOut frames w win cs ≡ viewsOut frames w′ win′ cs′)
       ↔ (reportedOut frames w win cs ≡ reportedOut frames w′ win′ cs′)

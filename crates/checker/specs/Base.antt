@@ -4,9 +4,11 @@ use mathlib.Core.Bool.{Bool, true, false, cond}
 use mathlib.Core.List.{List, [], _∷_, map}
 use Prim.Native.Nat.{ℕ, min}
 use lib.Dec.{eqb}
-use lib.IntN.{ℤ, pos, negsuc}
-use Rattle.rule.specs.Tree.{Reference}
-use Rattle.verdict.specs.Found.{occurrence}
+use Rattle.rule.specs.Tree.{Reference, references}
+use Rattle.rule.specs.Build.{treeOf}
+use Rattle.verdict.specs.Found.{meant}
+use Rattle.verdict.specs.declared.Meant.{Meant}
+use Rattle.verdict.specs.declared.Meant.the-variants.{Void, At}
 
 -- "its references": those that name the event
 unfoldable pub ofEvent : ℕ → List Reference → List Reference
@@ -22,14 +24,14 @@ isSome (r ∷ rs) = true
 unfoldable pub referenced : List Reference → ℕ → Bool
 referenced refs e = isSome (ofEvent e refs)
 
--- max(0, z), for "max(0, factor × p + offset)"
-abbrev pub orZero : ℤ → ℕ
-orZero (pos k) = k
-orZero (negsuc k) = 0
+-- the occurrence that is meant, 0 where it is void, for "max(0, factor × p + offset)"
+abbrev pub orZero : Meant → ℕ
+orZero Void = 0
+orZero (At k) = k .0
 
 -- "max(0, factor × p + offset)"
 abbrev pub startAt : ℕ → Reference → ℕ
-startAt p r = orZero (occurrence (r .factor) (r .offset) p)
+startAt p r = orZero (meant p r)
 
 -- "the smallest of" some numbers, 0 where there is none
 unfoldable pub smallest : List ℕ → ℕ
@@ -41,6 +43,10 @@ smallest (n ∷ (m ∷ ns)) = min n (smallest (m ∷ ns))
 unfoldable pub base : List Reference → ℕ → ℕ → ℕ
 base refs e p = smallest (map (startAt p) (ofEvent e refs))
 
--- "the number p of verdicts pulled .. 0 at first": verdicts are pulled from instance 0 on
-abbrev pub firstInstance : ℕ
-firstInstance = 0
+-- "the number p of verdicts pulled .. 0 at first": verdicts are pulled from instance 0 on, whatever a rule's references are
+unfoldable pub firstInstance : List Reference → ℕ
+firstInstance refs = 0
+
+-- so of "the rule .. that opening was given", as frames
+abbrev pub firstFor : List ℕ → ℕ
+firstFor frames = firstInstance (references (treeOf frames))

@@ -9,14 +9,14 @@ use lib.ListN.{length}
 use Rattle.rule.specs.Frames.{Bytes}
 use Rattle.rule.specs.Tree.{Reference, references}
 use Rattle.rule.specs.Build.{treeOf}
-use Rattle.verdict.specs.Found.{Found, present, pending, foundIn}
+use Rattle.verdict.specs.Found.{Found, present, pending, foundIn, givenIn}
 use Rattle.verdict.specs.Settled.{judgement}
 use Rattle.verdict.specs.Settled as settling
 use Rattle.verdict.specs.Later.{Gains}
-use Rattle.verdict.specs.declared.Truth.{Truth}
-use Rattle.verdict.specs.declared.Truth.the-variants.{True, False, Unknown}
+use Rattle.verdict.specs.declared.Verdict.{Verdict}
+use Rattle.verdict.specs.declared.Verdict.the-variants.{True, False, Unknown}
 use Rattle.checker.specs.Answer.{Answer, opened, accepted, ignored, waiting, verdict, refused}
-use Rattle.checker.specs.Base.{firstInstance}
+use Rattle.checker.specs.Base.{firstFor}
 use Rattle.checker.specs.State.{tallyIn}
 use Rattle.checker.specs.Report.{reportBytes, written}
 use Rattle.checker.specs.Open.{openDef}
@@ -41,7 +41,7 @@ answerOf (pulled a report) = a
 
 -- ---- verdicts
 -- "the answer is its verdict": one such answer before others
-abbrev pub handed : Answer → List Truth → List Truth
+abbrev pub handed : Answer → List Verdict → List Verdict
 handed opened vs = vs
 handed accepted vs = vs
 handed ignored vs = vs
@@ -50,7 +50,7 @@ handed (verdict v) vs = v ∷ vs
 handed (refused number place) vs = vs
 
 -- the "verdicts pulled" in a list of calls, the first instance's first
-unfoldable pub verdicts : List Out → List Truth
+unfoldable pub verdicts : List Out → List Verdict
 verdicts [] = []
 verdicts (o ∷ os) = handed (answerOf o) (verdicts os)
 
@@ -60,7 +60,7 @@ span i zero f = []
 span i (suc n) f = f i ∷ span (i + 1) n f
 
 -- 1 where a verdict is the one that is counted, for "a total for each of the verdicts"
-abbrev pub isIt : Truth → Truth → ℕ
+abbrev pub isIt : Verdict → Verdict → ℕ
 isIt True True = 1
 isIt True False = 0
 isIt True Unknown = 0
@@ -72,12 +72,12 @@ isIt Unknown False = 0
 isIt Unknown Unknown = 1
 
 -- "a total for each of the verdicts": how often one is among others
-unfoldable pub countIn : List Truth → Truth → ℕ
+unfoldable pub countIn : List Verdict → Verdict → ℕ
 countIn [] v = 0
 countIn (x ∷ xs) v = isIt v x + countIn xs v
 
 -- "the totals true, false, unknown"
-abbrev pub totalsOf : List Truth → Totals
+abbrev pub totalsOf : List Verdict → Totals
 totalsOf vs = record { held = countIn vs True; failed = countIn vs False; unknown = countIn vs Unknown }
 
 -- ---- after a list of calls, from an opening with these frames, this W and this window
@@ -87,24 +87,24 @@ checkerAfter frames w win cs = end checker cs (fresh frames w win)
 
 -- "the machine's lists after the last call", with its p and totals
 abbrev pub machineAfter : List ℕ → ℕ → List Call → Machine
-machineAfter frames w cs = end (machineFor frames w) cs atFirst
+machineAfter frames w cs = end (machineFor frames w) cs (atFirst frames)
 
 -- "verdicts pulled" from the checker
-abbrev pub handedOut : List ℕ → ℕ → List ℤ → List Call → List Truth
+abbrev pub handedOut : List ℕ → ℕ → List ℤ → List Call → List Verdict
 handedOut frames w win cs = verdicts (outs checker cs (fresh frames w win))
 
 -- ---- "The third demand is a single claim about the whole list and not one for each call"
 pub record ThirdDemand (frames : List ℕ) (w : ℕ) (win : List ℤ) (cs : List Call) : Type 0 where
   -- "After every list, each answer with its number and place and each report buffer after its pull are as the machine gave them"
-  pub answers : outs checker cs (fresh frames w win) ≡ outs (machineFor frames w) cs atFirst
+  pub answers : outs checker cs (fresh frames w win) ≡ outs (machineFor frames w) cs (atFirst frames)
   -- "and the counts, p and totals in the state are the machine's"
   pub state : tallyIn (checkerAfter frames w win cs .state) ≡ tallyOf (machineAfter frames w cs)
   -- "The definition over all lines accepted in the list is the one over the machine's lists after the last call"
   pub final : map settling.verdict (handedOut frames w win cs)
-      ≡ span firstInstance (length (handedOut frames w win cs))
-      (λ (i : ℕ). judgement i (foundIn (machineAfter frames w cs .lists) i) (treeOf frames))
+      ≡ span (firstFor frames) (length (handedOut frames w win cs))
+      (λ (i : ℕ). judgement (givenIn (machineAfter frames w cs .lists) i) (treeOf frames))
   -- "the totals true, false, unknown, which sum to p"
-  pub totals : (checkerAfter frames w win cs .state .next .0 ≡ firstInstance + length (handedOut frames w win cs))
+  pub totals : (checkerAfter frames w win cs .state .next .0 ≡ firstFor frames + length (handedOut frames w win cs))
       × (checkerAfter frames w win cs .state .totals ≡ totalsOf (handedOut frames w win cs))
   -- "So 12 and 13 never come in such a list"
   pub never-12-13 : (x : Out) → List·Memᴰ x (outs checker cs (fresh frames w win)) → (place : ℕ)

@@ -63,9 +63,10 @@ outRaised (pulled a report) = pulled a report
 pub record RaisedLog (frames : List ℕ) (w : ℕ) (win : List ℤ) (other : List ℕ) (cs : List Call) : Type 0 where
   -- each answer with its number and place and each report buffer
   pub answers : outs checker (map (raisedCall other) cs) (fresh frames w win)
-      ≡ map outRaised (outs (oldMachineFor frames w) cs atFirst)
+      ≡ map outRaised (outs (oldMachineFor frames w) cs (atFirst frames))
   -- the verdicts handed out
-  pub verdicts-same : handedOut frames w win (map (raisedCall other) cs) ≡ verdicts (outs (oldMachineFor frames w) cs atFirst)
+  pub verdicts-same : handedOut frames w win (map (raisedCall other) cs)
+      ≡ verdicts (outs (oldMachineFor frames w) cs (atFirst frames))
   -- the counts, p and totals
   pub state : tallyIn (checkerAfter frames w win (map (raisedCall other) cs) .state)
-      ≡ tallyOf (end (oldMachineFor frames w) cs atFirst)
+      ≡ tallyOf (end (oldMachineFor frames w) cs (atFirst frames))

@@ -6,12 +6,12 @@ use lib.Dec.{eqb}
 use lib.IntN.{ℤ}
 use lib.ListN.{length}
 use Rattle.rule.specs.Limits.{eventLimit}
-use Rattle.rule.specs.Tree.{Reference, Cond, references}
+use Rattle.rule.specs.Tree.{Cond, references}
 use Rattle.rule.specs.Build.{treeOf}
 use Rattle.log.specs.Line.{lineOf}
-use Rattle.verdict.specs.Found.{Found, foundIn}
-use Rattle.verdict.specs.declared.Truth.{Truth}
-use Rattle.checker.specs.Base.{firstInstance}
+use Rattle.verdict.specs.Found.{Given, givenIn}
+use Rattle.verdict.specs.declared.Verdict.{Verdict}
+use Rattle.checker.specs.Base.{firstFor}
 use Rattle.checker.specs.State.{noTotals, counted, Tally}
 use Rattle.checker.specs.Feed.{FeedRead, turned, skipped, taken, feedRead, feedAnswer}
 use Rattle.checker.specs.Pull.{PullRead, short, waits, gave, pullRead, pullAnswer, pullReport}
@@ -24,10 +24,6 @@ pub record Machine : Type 0 where
   pub lists : ℕ → List (List ℤ)
   pub next : ℕ
   pub totals : Totals
-
--- "empty at first .. 0 at first"
-abbrev pub atFirst : Machine
-atFirst = record { lists = λ e. []; next = firstInstance; totals = noTotals }
 
 -- f at 0, 1, .., n - 1, for what there is "per event"
 unfoldable pub tabulated : {A : Type 0} → ℕ → (ℕ → A) → List A
@@ -48,7 +44,7 @@ joined m e notes =
     }
 
 -- "p and that verdict's total go up by 1"
-unfoldable pub moved : Machine → Truth → Machine
+unfoldable pub moved : Machine → Verdict → Machine
 moved m v = record { lists = m .lists; next = m .next + 1; totals = counted (m .totals) v }
 
 -- "A refused line or pull, an ignored line and 'waiting' change nothing"
@@ -69,13 +65,13 @@ module _ (rule : Cond) (w : ℕ) where
   abbrev pub machineFeed : Machine → List ℕ → FeedRead
   machineFeed m line = feedRead (references rule) w (tallyOf m) (lineOf line)
 
-  -- "instance p .. by the lists": what each of its references is
-  abbrev pub foundNow : Machine → Reference → Found
-  foundNow m = foundIn (m .lists) (m .next)
+  -- "instance p .. by the lists": what is given of it
+  abbrev pub givenNow : Machine → Given
+  givenNow m = givenIn (m .lists) (m .next)
 
   -- "Pulling: a buffer that 14 names is refused with 14. If instance p is settled by the lists, the answer is its verdict"
   abbrev pub machinePull : Machine → List ℕ → PullRead
-  machinePull m buffer = pullRead rule (m .next) (foundNow m) (length buffer)
+  machinePull m buffer = pullRead rule (givenNow m) (length buffer)
 
   -- "The plain machine runs beside a list of feeding and pulling calls": one call
   abbrev pub machine : Machine → Call → Step Machine
@@ -83,10 +79,14 @@ module _ (rule : Cond) (w : ℕ) where
   machine m (pull buffer) =
       record {
         out = pulled (pullAnswer (machinePull m buffer))
-            (pullReport (m .next) (references rule) (foundNow m) buffer (machinePull m buffer));
+            (pullReport (m .next) (references rule) (givenNow m .found) buffer (machinePull m buffer));
         next = afterPull m (machinePull m buffer);
       }
 
 -- "the rule and W that opening was given", the rule as frames
 abbrev pub machineFor : List ℕ → ℕ → Machine → Call → Step Machine
 machineFor frames w = machine (treeOf frames) w
+
+-- "empty at first .. 0 at first", the rule as frames
+abbrev pub atFirst : List ℕ → Machine
+atFirst frames = record { lists = λ e. []; next = firstFor frames; totals = noTotals }

@@ -7,16 +7,15 @@ use lib.Dec.{ltb}
 use lib.IntN.{ℤ}
 use lib.ListN.{length}
 use Rattle.rule.specs.Tree.{Reference, Cond}
-use Rattle.verdict.specs.Found.{Found}
+use Rattle.verdict.specs.Found.{Found, Given}
 use Rattle.verdict.specs.Settled.{judgement}
-use Rattle.verdict.specs.declared.Truth.{Truth}
-use Rattle.verdict.specs.declared.Truth.the-variants as truths
+use Rattle.verdict.specs.declared.Verdict.{Verdict}
 use Rattle.verdict.specs.declared.Judgement.{Judgement}
 use Rattle.verdict.specs.declared.Judgement.the-variants.{Unsettled, True, False, Unknown}
 use Rattle.checker.specs.Limits.{reportLeast}
 use Rattle.checker.specs.Answer.{Answer, waiting, verdict, refused, pullTold}
 use Rattle.checker.specs.State.{tallyIn, ruleIn, refsIn, withVerdict, withTally}
-use Rattle.checker.specs.Found.{foundInWindow}
+use Rattle.checker.specs.Found.{givenInWindow}
 use Rattle.checker.specs.Report.{reportAfter}
 use Rattle.checker.specs.Admission.{Admission, admitted, barred, admission}
 use Rattle.checker.specs.declared.Pulled.{Pulled}
@@ -26,18 +25,18 @@ use Rattle.checker.specs.declared.State.{State}
 -- "a buffer that 14 names", 'waiting', or "its verdict"
 pub data PullRead : Type 0 where
   short waits : PullRead
-  gave : Truth → PullRead
+  gave : Verdict → PullRead
 
 -- "If instance p is settled by the lists, the answer is its verdict .. Else the answer is 'waiting'"
 abbrev pub offered : Judgement → PullRead
 offered Unsettled = waits
-offered True = gave truths.True
-offered False = gave truths.False
-offered Unknown = gave truths.Unknown
+offered True = gave Verdict.True
+offered False = gave Verdict.False
+offered Unknown = gave Verdict.Unknown
 
--- "a buffer that 14 names is refused with 14": n is the buffer's length; found says what each reference of instance i is
-unfoldable pub pullRead : Cond → ℕ → (Reference → Found) → ℕ → PullRead
-pullRead rule i found n = cond (ltb n reportLeast) short (offered (judgement i found rule))
+-- "a buffer that 14 names is refused with 14": n is the buffer's length; by what is given of the instance
+unfoldable pub pullRead : Cond → Given → ℕ → PullRead
+pullRead rule g n = cond (ltb n reportLeast) short (offered (judgement g rule))
 
 -- "is refused with 14 .. the answer is its verdict .. Else the answer is 'waiting'"
 abbrev pub pullAnswer : PullRead → Answer
@@ -62,9 +61,13 @@ pub record PullResult : Type 0 where
 abbrev pub notPulled : State → List ℕ → Answer → PullResult
 notPulled s buffer a = record { answer = a; state = s; report = buffer }
 
+-- "A reference of instance i", where i is p: what is given by the counts and the window
+abbrev pub givenHere : State → List ℤ → Given
+givenHere s win = givenInWindow (s .width) (s .counts) win (s .next .0)
+
 -- "A reference of instance i", where i is p: what it is by the counts and the window
 abbrev pub foundHere : State → List ℤ → Reference → Found
-foundHere s win = foundInWindow (s .width) (tallyIn s) win (s .next .0)
+foundHere s win = givenHere s win .found
 
 -- "A refused .. pull .. and 'waiting' change nothing"
 abbrev pub stateAfter : State → PullRead → State
@@ -83,7 +86,7 @@ pulledBy s win buffer x =
 
 -- what a pull of a state that is let through reads: n is the buffer's length
 abbrev pub nextIn : State → List ℤ → ℕ → PullRead
-nextIn s win n = pullRead (ruleIn s) (s .next .0) (foundHere s win) n
+nextIn s win n = pullRead (ruleIn s) (givenHere s win) n
 
 -- "A refusal .. changes nothing"; from what is let through a verdict is pulled
 abbrev pub pulledIf : State → List ℤ → List ℕ → Admission → PullResult

@@ -8,8 +8,8 @@ use Rattle.rule.specs.Tree.{Reference, wordBytes}
 use Rattle.verdict.specs.Found.{Found, present, pending, void}
 use Rattle.verdict.specs.Value.{noteOf}
 use Rattle.verdict.specs.Marks.{presentMark, pendingMark, voidMark}
-use Rattle.verdict.specs.declared.Truth.{Truth}
-use Rattle.verdict.specs.declared.Truth.the-variants.{True, False, Unknown}
+use Rattle.verdict.specs.declared.Verdict.{Verdict}
+use Rattle.verdict.specs.declared.Verdict.the-variants.{True, False, Unknown}
 
 -- "a mark (00 present, 01 pending, 02 void)"
 abbrev pub markOf : Found → ℕ
@@ -40,7 +40,7 @@ abbrev pub written : List ℕ → List ℕ → List ℕ
 written bytes buffer = bytes ++ drop (length bytes) buffer
 
 -- "A false verdict fills a report in a lent buffer; other verdicts leave it"; found says what each reference is
-abbrev pub reportAfter : ℕ → List Reference → (Reference → Found) → List ℕ → Truth → List ℕ
+abbrev pub reportAfter : ℕ → List Reference → (Reference → Found) → List ℕ → Verdict → List ℕ
 reportAfter p refs found buffer True = buffer
 reportAfter p refs found buffer False = written (reportBytes p (map found refs)) buffer
 reportAfter p refs found buffer Unknown = buffer

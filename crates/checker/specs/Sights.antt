@@ -16,15 +16,10 @@ use Rattle.rule.specs.References.{referenceByte, referenceOf}
 use Rattle.rule.specs.Check.{checkedOf}
 use Rattle.rule.specs.declared.Frame.{Frame}
 use Rattle.rule.specs.declared.Checked.the-variants.{Accepted}
-use Rattle.verdict.specs.Found.{instanceLimit, occurrence, Found}
+use Rattle.verdict.specs.Found.{instanceLimit, Found}
 use Rattle.verdict.specs.Value.{noteOf}
 use Rattle.checker.specs.Limits.{widthLimit, windowWords, reportLeast}
-use Rattle.checker.specs.Found.{windowAt}
 use Rattle.checker.specs.Report.{markOf, falseByte}
-
--- "void below 0, pending if not yet accepted, else present": foundInWindow of a tally is this of its counts
-abbrev pub foundBy : ℕ → List ℕ → List ℤ → ℕ → Reference → Found
-foundBy w counts win p r = windowAt w win (getD counts (r .event) 0) (r .event) (r .note) (occurrence (r .factor) (r .offset) p)
 
 -- "a mark (00 present, 01 pending, 02 void) and the value (4 bytes, 0 unless present)"
 pub record Shows (x : Found) (mark : ℕ) (note : ℤ) : Type 0 where

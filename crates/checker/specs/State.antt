@@ -7,9 +7,9 @@ use lib.ListN.{length, getD, set, take, replicate}
 use Rattle.rule.specs.Limits.{eventLimit, frameLimit, frameBytes}
 use Rattle.rule.specs.Tree.{Reference, Cond, references}
 use Rattle.rule.specs.Build.{treeOf}
-use Rattle.verdict.specs.declared.Truth.{Truth}
-use Rattle.verdict.specs.declared.Truth.the-variants.{True, False, Unknown}
-use Rattle.checker.specs.Base.{firstInstance}
+use Rattle.verdict.specs.declared.Verdict.{Verdict}
+use Rattle.verdict.specs.declared.Verdict.the-variants.{True, False, Unknown}
+use Rattle.checker.specs.Base.{firstFor}
 use Rattle.checker.specs.declared.Totals.{Totals}
 use Rattle.checker.specs.declared.State.{State}
 
@@ -19,7 +19,7 @@ abbrev pub noTotals : Totals
 noTotals = record { held = 0; failed = 0; unknown = 0 }
 
 -- "that verdict's total go up by 1"
-abbrev pub counted : Totals → Truth → Totals
+abbrev pub counted : Totals → Verdict → Totals
 counted t True = record { held = t .held + 1; failed = t .failed; unknown = t .unknown }
 counted t False = record { held = t .held; failed = t .failed + 1; unknown = t .unknown }
 counted t Unknown = record { held = t .held; failed = t .failed; unknown = t .unknown + 1 }
@@ -47,7 +47,7 @@ abbrev pub withLine : Tally → ℕ → Tally
 withLine t e = record { counts = set (t .counts) e (countOf t e + 1); next = t .next; totals = t .totals }
 
 -- "p and that verdict's total go up by 1"
-abbrev pub withVerdict : Tally → Truth → Tally
+abbrev pub withVerdict : Tally → Verdict → Tally
 withVerdict t v = record { counts = t .counts; next = t .next + 1; totals = counted (t .totals) v }
 
 -- ---- states; only here their fields are listed
@@ -78,7 +78,7 @@ zeroState = stateWith (replicate (frameLimit * frameBytes) 0) 0 0 (tallyFrom 0)
 -- "the state .. that an unrefused opening gave back", zero after the last frame
 unfoldable pub freshState : List ℕ → ℕ → State
 freshState frames w =
-    stateWith (frames ++ replicate (frameLimit * frameBytes - length frames) 0) (length frames / frameBytes) w (tallyFrom firstInstance)
+    stateWith (frames ++ replicate (frameLimit * frameBytes - length frames) 0) (length frames / frameBytes) w (tallyFrom (firstFor frames))
 
 -- "a state whose frames": those that its rule is
 abbrev pub stateFrames : State → List ℕ

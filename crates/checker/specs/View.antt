@@ -7,11 +7,11 @@ use lib.Dec.{ltb}
 use lib.IntN.{ℤ}
 use lib.ListN.{length, take}
 use Rattle.rule.specs.Tree.{wordBytes}
-use Rattle.verdict.specs.declared.Truth.{Truth}
-use Rattle.verdict.specs.declared.Truth.the-variants.{True, False, Unknown}
+use Rattle.verdict.specs.declared.Verdict.{Verdict}
+use Rattle.verdict.specs.declared.Verdict.the-variants.{True, False, Unknown}
 use Rattle.checker.specs.Limits.{reportLeast}
 use Rattle.checker.specs.Answer.{Answer, opened, accepted, ignored, waiting, verdict, refused}
-use Rattle.checker.specs.Base.{firstInstance}
+use Rattle.checker.specs.Base.{firstFor}
 use Rattle.checker.specs.Report.{falseByte}
 use Rattle.checker.specs.Calls.{Call, Out, fed, pulled, outs, checker}
 use Rattle.checker.specs.Demand.{fresh, handedOut}
@@ -35,7 +35,7 @@ viewDef buffer =
 
 -- ---- views in a list of calls
 -- document 01: "A false verdict fills a report in a lent buffer; other verdicts leave it"
-abbrev pub fills : Truth → Bool
+abbrev pub fills : Verdict → Bool
 fills True = false
 fills False = true
 fills Unknown = false
@@ -63,17 +63,17 @@ viewsOut frames w win cs = views (outs checker cs (fresh frames w win))
 -- one of them
 pub record InstanceVerdict : Type 0 where
   pub instance : ℕ
-  pub verdict : Truth
+  pub verdict : Verdict
 
 -- those that fill a report, of verdicts of which the first is instance i's
-unfoldable pub reportedFrom : ℕ → List Truth → List InstanceVerdict
+unfoldable pub reportedFrom : ℕ → List Verdict → List InstanceVerdict
 reportedFrom i [] = []
 reportedFrom i (v ∷ vs) =
     cond (fills v) (record { instance = i; verdict = v } ∷ reportedFrom (i + 1) vs) (reportedFrom (i + 1) vs)
 
 -- those of the verdicts that a list of calls on a fresh checker hands out
 abbrev pub reportedOut : List ℕ → ℕ → List ℤ → List Call → List InstanceVerdict
-reportedOut frames w win cs = reportedFrom firstInstance (handedOut frames w win cs)
+reportedOut frames w win cs = reportedFrom (firstFor frames) (handedOut frames w win cs)
 
 -- "Machine hands get i and the verdict", as document 01 has them in a report: "p before the pull (4 bytes), 00 for false", the only
 -- verdict that fills one

@@ -1,5 +1,4 @@
 -- What inner functions require of widths, events and notes. No public contract cites it. Assumes nothing: definitions.
-use mathlib.Core.Path.{_≡_}
 use Prim.Native.Nat.{ℕ, _≤_, _<_}
 use Rattle.rule.specs.Limits.{eventLimit, noteLimit}
 use Rattle.checker.specs.Limits.{widthLimit}

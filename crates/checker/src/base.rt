@@ -8,7 +8,7 @@ ghost use Prim.Native.Nat.{_≤_, _<_, min};
 ghost use lib.IntN.{natAbs};
 ghost use lib.ListN.{length};
 ghost use Rattle.rule.specs.Limits.{eventLimit, factorLimit, offsetLimit};
-ghost use Rattle.verdict.specs.Found.{instanceLimit, occurrence};
+ghost use Rattle.verdict.specs.Found.{instanceLimit, occurrence, meantBy};
 ghost use Rattle.checker.specs.Base.{orZero};
 ghost use Rattle.checker.specs.Lows.{loweredBy, lowsOf, Startable, Passable};
 
@@ -18,7 +18,7 @@ pub const NO_BASE: u32 = 4294967295;
 // The lower of a number and the occurrence that a reference means, void as 0.
 fn lower(low: u32, p: Instance, factor: u8, offset: i32) -> u32
     requires { ⌜ (p .0 ≤ instanceLimit) × ((factor ≤ factorLimit) × (natAbs offset ≤ offsetLimit)) ⌝ }
-    ensures { λ r. ⌜ r ≡ min low (orZero (occurrence factor offset (p .0))) ⌝ }
+    ensures { λ r. ⌜ r ≡ min low (orZero (meantBy (occurrence factor offset (p .0)))) ⌝ }
 {
     let meant = verdict::occurrence_of(p, factor, offset);
     match meant {

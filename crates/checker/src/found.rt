@@ -10,16 +10,18 @@ use verdict::PRESENT;
 use verdict::VOID;
 ghost use mathlib.Core.Path.{_≡_};
 ghost use lib.IntN.{pos};
-ghost use lib.ListN.{length};
+ghost use lib.ListN.{length, getD};
 ghost use Rattle.rule.specs.Limits.{frameLimit};
 ghost use Rattle.rule.specs.Tree.{LimitsR};
 ghost use Rattle.rule.specs.References.{referenceByte, referenceOf};
 ghost use Rattle.rule.specs.Check.{checkedOf};
 ghost use Rattle.rule.specs.declared.Checked.{Checked};
+ghost use Rattle.verdict.specs.Found.{foundAt};
 ghost use Rattle.checker.specs.Limits.{windowWords};
-ghost use Rattle.checker.specs.Found.{windowAt};
+ghost use Rattle.checker.specs.Ring.{wordAt};
+ghost use Rattle.checker.specs.Found.{foundInWindow};
 ghost use Rattle.checker.specs.Within.{InWindow};
-ghost use Rattle.checker.specs.Sights.{foundBy, Shows, Looked, Lookable, Limited};
+ghost use Rattle.checker.specs.Sights.{Shows, Looked, Lookable, Limited};
 
 // A mark, and the note's value, 0 unless present.
 pub struct Seen {
@@ -30,7 +32,8 @@ pub struct Seen {
 // A note of an occurrence: pending from the count on.
 fn at_occurrence(width: u32, window: &[i32], count: u32, event: u8, note: u8, k: Occurrence) -> Seen
     requires { ⌜ InWindow width event note × (length (now window) ≡ windowWords width) ⌝ }
-    ensures { λ r. ⌜ Shows (windowAt width (now (window .entry)) count event note (pos (k .0))) (r .mark) (r .note) ⌝ }
+    ensures { λ r. ⌜ Shows (foundAt count (getD (now (window .entry)) (wordAt width event (k .0) note) (pos 0)) (k .0))
+        (r .mark) (r .note) ⌝ }
 {
     if k.0 < count {
         let at = words::word(width, event, k, note);
@@ -49,7 +52,7 @@ fn at_occurrence(width: u32, window: &[i32], count: u32, event: u8, note: u8, k:
 // A reference of instance p.
 fn of_reference(x: Frame, p: Instance, width: u32, counts: [u32; 8], window: &[i32]) -> Seen
     requires { ⌜ LimitsR (referenceOf x) × Lookable (p .0) width (length (now window)) ⌝ }
-    ensures { λ r. ⌜ Shows (foundBy width counts (now (window .entry)) (p .0) (referenceOf x)) (r .mark) (r .note) ⌝ }
+    ensures { λ r. ⌜ Shows (foundInWindow width counts (now (window .entry)) (p .0) (referenceOf x)) (r .mark) (r .note) ⌝ }
 {
     let e = x.event as usize;
     let count = counts[e];
@@ -66,7 +69,8 @@ fn of_reference(x: Frame, p: Instance, width: u32, counts: [u32; 8], window: &[i
 // A frame of any kind.
 fn of_frame(x: Frame, p: Instance, width: u32, counts: [u32; 8], window: &[i32]) -> Seen
     requires { ⌜ Limited x × Lookable (p .0) width (length (now window)) ⌝ }
-    ensures { λ r. ⌜ (x .kind ≡ referenceByte → Shows (foundBy width counts (now (window .entry)) (p .0) (referenceOf x)) (r .mark) (r .note)) ⌝ }
+    ensures { λ r. ⌜ (x .kind ≡ referenceByte
+        → Shows (foundInWindow width counts (now (window .entry)) (p .0) (referenceOf x)) (r .mark) (r .note)) ⌝ }
 {
     if x.kind == rule::REFERENCE {
         of_reference(x, p, width, counts, window)
@@ -88,8 +92,10 @@ pub fn look(
     marks: &mut [u8; 64],
     notes: &mut [i32; 64],
 )
-    requires { ⌜ (checkedOf (now frames) ≡ Checked.Accepted) × (Lookable (p .0) width (length (now window)) × ((length (now marks) ≡ frameLimit) × (length (now notes) ≡ frameLimit))) ⌝ }
-    ensures { λ r. ⌜ Looked (now (frames .entry)) (foundBy width counts (now (window .entry)) (p .0)) (now (marks .exit)) (now (notes .exit)) ⌝ }
+    requires { ⌜ (checkedOf (now frames) ≡ Checked.Accepted) × (Lookable (p .0) width (length (now window))
+        × ((length (now marks) ≡ frameLimit) × (length (now notes) ≡ frameLimit))) ⌝ }
+    ensures { λ r. ⌜ Looked (now (frames .entry)) (foundInWindow width counts (now (window .entry)) (p .0))
+        (now (marks .exit)) (now (notes .exit)) ⌝ }
 {
     let n = frames.len() / FRAME_BYTES;
     let mut k = 0;

@@ -2,7 +2,7 @@
 use crate::State;
 use crate::Totals;
 use verdict::Instance;
-use verdict::Truth;
+use verdict::Verdict;
 ghost use mathlib.Core.Path.{_≡_};
 ghost use mathlib.Core.List.{List};
 ghost use Prim.Native.Nat.{ℕ, _<_};
@@ -88,22 +88,22 @@ pub fn with_line(f: Fields, event: u8) -> Fields
 }
 
 // A verdict's total goes up by 1.
-fn count_verdict(t: Totals, p: Instance, v: Truth) -> Totals
+fn count_verdict(t: Totals, p: Instance, v: Verdict) -> Totals
     requires { ⌜ Countable t (p .0) ⌝ }
     ensures { λ r. ⌜ r ≡ counted t v ⌝ }
 {
     match v {
-        Truth::True => Totals {
+        Verdict::True => Totals {
             held: t.held + 1,
             failed: t.failed,
             unknown: t.unknown,
         },
-        Truth::False => Totals {
+        Verdict::False => Totals {
             held: t.held,
             failed: t.failed + 1,
             unknown: t.unknown,
         },
-        Truth::Unknown => Totals {
+        Verdict::Unknown => Totals {
             held: t.held,
             failed: t.failed,
             unknown: t.unknown + 1,
@@ -112,7 +112,7 @@ fn count_verdict(t: Totals, p: Instance, v: Truth) -> Totals
 }
 
 // p and that verdict's total go up by 1.
-pub fn with_verdict(f: Fields, v: Truth) -> Fields
+pub fn with_verdict(f: Fields, v: Verdict) -> Fields
     requires { ⌜ Countable (f .totals) (f .next .0) ⌝ }
     ensures { λ r. ⌜ ((fs : List ℕ) → stateOf fs r ≡ withTally (stateOf fs f) (withVerdict (tallyIn (stateOf fs f)) v)) ⌝ }
 {

@@ -11,7 +11,7 @@ use rule::FRAME_BYTES;
 use rule::Refusal;
 use verdict::Instance;
 use verdict::Judgement;
-use verdict::Truth;
+use verdict::Verdict;
 ghost use mathlib.Core.Path.{_≡_};
 ghost use mathlib.Core.List.{List};
 ghost use Prim.Native.Nat.{ℕ, _*_, _≤_};
@@ -23,7 +23,7 @@ ghost use Rattle.verdict.specs.Settled.{judgement};
 ghost use Rattle.checker.specs.Limits.{reportLeast};
 ghost use Rattle.checker.specs.Parts.{stateOf, pulledOf};
 ghost use Rattle.checker.specs.Pull.{gave, offered, pullAnswer, pullReport, stateAfter, pullDef, pullOutcome};
-ghost use Rattle.checker.specs.Sights.{foundBy};
+ghost use Rattle.checker.specs.Found.{foundInWindow, givenInWindow};
 ghost use Rattle.checker.specs.Offer.{Countable, Offerable};
 ghost use Rattle.checker.specs.Ready.{Ready};
 
@@ -47,7 +47,7 @@ fn refuse(fields: Fields, number: u8) -> PulledFields
 }
 
 // A verdict is handed out.
-fn hand_out(fields: Fields, answer: PullAnswer, v: Truth) -> PulledFields
+fn hand_out(fields: Fields, answer: PullAnswer, v: Verdict) -> PulledFields
     requires { ⌜ Countable (fields .totals) (fields .next .0) ⌝ }
     ensures { λ r. ⌜ (r .answer ≡ answer) × ((fs : List ℕ) → stateOf fs (r .fields) ≡ stateAfter (stateOf fs fields) (gave v)) ⌝ }
 {
@@ -68,9 +68,9 @@ fn give(fields: Fields, judged: Judgement) -> PulledFields
             answer: PullAnswer::Waiting,
             fields,
         },
-        Judgement::True => hand_out(fields, PullAnswer::True, Truth::True),
-        Judgement::False => hand_out(fields, PullAnswer::False, Truth::False),
-        Judgement::Unknown => hand_out(fields, PullAnswer::Unknown, Truth::Unknown),
+        Judgement::True => hand_out(fields, PullAnswer::True, Verdict::True),
+        Judgement::False => hand_out(fields, PullAnswer::False, Verdict::False),
+        Judgement::Unknown => hand_out(fields, PullAnswer::Unknown, Verdict::Unknown),
     }
 }
 
@@ -84,9 +84,9 @@ fn offer(
     report: &mut [u8],
 ) -> Judgement
     requires { ⌜ Offerable (now frames) (p .0) width (length (now window)) (length (now report)) ⌝ }
-    ensures { λ r. ⌜ (r ≡ judgement (p .0) (foundBy width counts (now (window .entry)) (p .0)) (treeOf (now (frames .entry))))
+    ensures { λ r. ⌜ (r ≡ judgement (givenInWindow width counts (now (window .entry)) (p .0)) (treeOf (now (frames .entry))))
         × (now (report .exit) ≡ pullReport (p .0) (references (treeOf (now (frames .entry))))
-        (foundBy width counts (now (window .entry)) (p .0)) (now (report .entry)) (offered r)) ⌝ }
+        (foundInWindow width counts (now (window .entry)) (p .0)) (now (report .entry)) (offered r)) ⌝ }
 {
     let mut marks = [0u8; 64];
     let mut notes = [0i32; 64];

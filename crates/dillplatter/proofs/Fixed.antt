@@ -10,8 +10,8 @@ use Rattle.log.specs.declared.earlier.RaiseAnswer.{RaiseAnswer}
 use Rattle.log.specs.declared.earlier.RaiseAnswer.the-variants as raises
 use Rattle.log.specs.declared.earlier.LowerAnswer.{LowerAnswer}
 use Rattle.log.specs.declared.earlier.LowerAnswer.the-variants as lowers
-use Rattle.verdict.specs.declared.Truth.the-variants.{True, False, Unknown}
-use Rattle.checker.specs.Answer.{Answer, opened, accepted, ignored, waiting, verdict, refused}
+use Rattle.verdict.specs.declared.Verdict.the-variants.{True, False, Unknown}
+use Rattle.checker.specs.Answer.{opened, accepted, ignored, waiting, verdict, refused}
 use Rattle.checker.specs.Good.{goodState}
 use Rattle.checker.specs.Tariff.{bandsFit, pricesFit, centsOf, Charge, cents, turned, chargeDef}
 use Rattle.checker.specs.declared.State.{State}

@@ -21,7 +21,7 @@ use Rattle.rule.specs.declared.Frame.{Frame}
 use Rattle.rule.specs.declared.order.Shape.{Shape}
 use Rattle.rule.specs.declared.order.Shape.the-variants.{Good, Bad}
 use Rattle.rule.proofs.Laws.{Live, sumsOf, condsOf, live, BoundedIn, sizes-in, fits-at, sizes-length}
-use Rattle.verdict.specs.Found.{instanceLimit, Found}
+use Rattle.verdict.specs.Found.{instanceLimit, Given}
 use Rattle.verdict.specs.Kleene.{notK, joined}
 use Rattle.verdict.specs.Value.{computed, sizeOf, noteOf, valueS}
 use Rattle.verdict.specs.Pass.{Pass, passBy, operandBy, passAt}
@@ -69,12 +69,12 @@ computed-within subtract = sub-within
 computed-within multiply = mul-within
 
 -- ---- a tree's sums
-module _ (i : ℕ) (found : Reference → Found) (h : i ≤ instanceLimit) (g : (r : Reference) → natAbs (noteOf (found r)) ≤ referenceMagnitude) where
-  pub value-within : (a : Sum) → natAbs (valueS i found a) ≤ magnitude a
-  value-within (tree.literal n) = le-refl n
+module _ (g : Given) (h : g .instance ≤ instanceLimit) (n : (r : Reference) → natAbs (noteOf (g .found r)) ≤ referenceMagnitude) where
+  pub value-within : (a : Sum) → natAbs (valueS g a) ≤ magnitude a
+  value-within (tree.literal k) = le-refl k
   value-within tree.instance = omega arith
-  value-within (tree.reference r) = g r
-  value-within (tree.arithmetic o a b) = computed-within o (valueS i found a) (valueS i found b) (magnitude a) (magnitude b) (value-within a) (value-within b)
+  value-within (tree.reference r) = n r
+  value-within (tree.arithmetic o a b) = computed-within o (valueS g a) (valueS g b) (magnitude a) (magnitude b) (value-within a) (value-within b)
   value-within (tree.abs a) = value-within a
 
 -- ---- a step of the pass

@@ -2,3 +2,5 @@
 
 -- the magnitude of a sum of integers
 pub use Rattle.verdict.proofs.Numbers.{natAbs-add}
+-- what a reference is in two lookups, and at a late instance
+pub use Rattle.verdict.proofs.Resolve.{found-same, found-gains, resolve-late}

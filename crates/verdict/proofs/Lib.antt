@@ -1,8 +1,8 @@
 mod Tables
 mod Own
+mod Resolve
 mod Stays
 mod Numbers
-mod Meanings
 mod ByKind
 mod Built
 mod Bounds

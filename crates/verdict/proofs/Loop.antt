@@ -13,7 +13,8 @@ use Rattle.rule.specs.Stack.{Ready, ReadyC}
 use Rattle.rule.specs.declared.Frame.{Frame}
 use Rattle.rule.proofs.Laws.{sumsOf, condsOf, sums-le, conds-le, one-left, found, stack-length, passed}
 use Rattle.verdict.specs.Marks.{Judgeable}
-use Rattle.verdict.specs.Pass.{Pass, passBy, passAt, firstT, judgedBy, judgementOf}
+use Rattle.verdict.specs.Settled.{judgedBy}
+use Rattle.verdict.specs.Pass.{Pass, passBy, passAt, firstT, judgementOf}
 use Rattle.verdict.specs.Stacks.{truthOf, truthsOf, passOf, Small, Begun}
 use Rattle.verdict.specs.declared.evaluate.Top.{Top}
 use Rattle.verdict.proofs.Bounds.{InSizes, sizes-next, small-at, sums-length, conds-length}

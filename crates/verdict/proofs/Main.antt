@@ -9,10 +9,10 @@ use Rattle.rule.specs.Tree.{Reference, Sum, Cond, IsRule, references, magnitude
 use Rattle.rule.specs.Build.{treeOf}
 use Rattle.rule.specs.Check.{checkedOf}
 use Rattle.rule.specs.declared.Checked.the-variants.{Accepted}
-use Rattle.verdict.specs.Found.{instanceLimit, Found, foundIn}
+use Rattle.verdict.specs.Found.{instanceLimit, Found, foundIn, Given, givenIn}
 use Rattle.verdict.specs.Value.{noteOf, valueS, value}
 use Rattle.verdict.specs.Settled.{settled, judgement}
-use Rattle.verdict.specs.Later.{Gains, GainsIn, Sharpens, MoreLines}
+use Rattle.verdict.specs.Later.{Gains, withFound, GainsIn, Sharpens, MoreLines}
 use Rattle.verdict.specs.Marks.{Told}
 use Rattle.verdict.specs.Pass.{judgementOf}
 use Rattle.verdict.specs.declared.Judgement.the-variants.{Unsettled}
@@ -23,27 +23,27 @@ use Rattle.verdict.proofs.Means
 
 -- what judge answers of accepted frames is the document's: the value of the rule's tree where the instance is settled,
 -- whatever the references are, so long as the arrays tell it
-pub judge-accepted : (s : List ℕ) (i : ℕ) (found : Reference → Found) (marks : List ℕ) (notes : List ℤ) → checkedOf s ≡ Accepted → Told s found marks notes
-    → judgementOf s i marks notes ≡ judgement i found (treeOf s)
+pub judge-accepted : (s : List ℕ) (g : Given) (marks : List ℕ) (notes : List ℤ) → checkedOf s ≡ Accepted → Told s (g .found) marks notes
+    → judgementOf s (g .instance) marks notes ≡ judgement g (treeOf s)
 judge-accepted = Means.judge-accepted
 
 -- evaluation of a tree's frames in postfix order gives the tree's value
-pub judge-postfix : {s : List ℕ} (r : IsRule s) (i : ℕ) (found : Reference → Found) (marks : List ℕ) (notes : List ℤ) → Told s found marks notes
-    → judgementOf s i marks notes ≡ judgement i found (r .tree)
+pub judge-postfix : {s : List ℕ} (r : IsRule s) (g : Given) (marks : List ℕ) (notes : List ℤ) → Told s (g .found) marks notes
+    → judgementOf s (g .instance) marks notes ≡ judgement g (r .tree)
 judge-postfix = Means.judge-postfix
 
 -- only the rule's own references matter
-pub own-references : (i : ℕ) (found found′ : Reference → Found) (t : Cond) → ((r : Reference) → List·Memᴰ r (references t) → found r ≡ found′ r)
-    → judgement i found t ≡ judgement i found′ t
-own-references i found found′ t = Own.judgement-own found found′ i t
+pub own-references : (g : Given) (found : Reference → Found) (t : Cond) → ((r : Reference) → List·Memᴰ r (references t) → g .found r ≡ found r)
+    → judgement g t ≡ judgement (withFound g found) t
+own-references = Own.judgement-own
 
 -- a rule that is true or false stays so when pending references become present
-pub monotone : (i : ℕ) (found found′ : Reference → Found) (t : Cond) → GainsIn t found found′ → Sharpens (value i found t) (value i found′ t)
+pub monotone : (g : Given) (found : Reference → Found) (t : Cond) → GainsIn t (g .found) found → Sharpens (value g t) (value (withFound g found) t)
 monotone = Stays.value-sharpens
 
 -- a settled instance stays settled, with its verdict
-pub settled-stays : (i : ℕ) (found found′ : Reference → Found) (t : Cond) → GainsIn t found found′ → settled i found t ≡ true
-    → (settled i found′ t ≡ true) × (value i found′ t ≡ value i found t)
+pub settled-stays : (g : Given) (found : Reference → Found) (t : Cond) → GainsIn t (g .found) found → settled g t ≡ true
+    → (settled (withFound g found) t ≡ true) × (value (withFound g found) t ≡ value g t)
 settled-stays = Stays.settled-stays
 
 -- where lines are added, each reference stays as it is or was pending
@@ -51,11 +51,11 @@ pub lines-gain : (lines lines′ : ℕ → List (List ℤ)) → MoreLines lines 
 lines-gain = Stays.lines-gain
 
 -- so more accepted lines leave what is said of an instance that is settled
-pub lines-stay : (i : ℕ) (lines lines′ : ℕ → List (List ℤ)) (t : Cond) → MoreLines lines lines′ → (judgement i (foundIn lines i) t ≡ Unsettled → ⊥)
-    → judgement i (foundIn lines′ i) t ≡ judgement i (foundIn lines i) t
+pub lines-stay : (i : ℕ) (lines lines′ : ℕ → List (List ℤ)) (t : Cond) → MoreLines lines lines′ → (judgement (givenIn lines i) t ≡ Unsettled → ⊥)
+    → judgement (givenIn lines′ i) t ≡ judgement (givenIn lines i) t
 lines-stay = Stays.lines-stay
 
 -- no sum exceeds its magnitude: with frames that opening accepts arithmetic is exact
-pub within-magnitude : (i : ℕ) (found : Reference → Found) → i ≤ instanceLimit → ((r : Reference) → natAbs (noteOf (found r)) ≤ referenceMagnitude)
-    → (a : Sum) → natAbs (valueS i found a) ≤ magnitude a
+pub within-magnitude : (g : Given) → g .instance ≤ instanceLimit → ((r : Reference) → natAbs (noteOf (g .found r)) ≤ referenceMagnitude)
+    → (a : Sum) → natAbs (valueS g a) ≤ magnitude a
 within-magnitude = Bounds.value-within

@@ -14,14 +14,14 @@ use Rattle.rule.specs.Sizes.{sizesFit}
 use Rattle.rule.specs.Check.{checkedOf}
 use Rattle.rule.specs.Opening.{refused}
 use Rattle.rule.specs.declared.Checked.the-variants.{Accepted}
-use Rattle.verdict.specs.Found.{foundIn}
+use Rattle.verdict.specs.Found.{givenIn}
 use Rattle.verdict.specs.Settled.{judgement}
 use Rattle.verdict.specs.declared.Judgement.{Judgement}
 use Rattle.verdict.specs.declared.Judgement.the-variants.{Unsettled, True, False, Unknown}
 
 -- what is said of instance i over accepted lines; waiting is Unsettled
 abbrev over : (ℕ → List (List ℤ)) → ℕ → Cond → Judgement
-over lines i t = judgement i (foundIn lines i) t
+over lines i t = judgement (givenIn lines i) t
 
 -- the lines of events 0 and 1, each with one note
 abbrev lines : List (List ℤ) → List (List ℤ) → ℕ → List (List ℤ)

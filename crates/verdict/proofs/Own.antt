@@ -3,13 +3,13 @@ use mathlib.Core.Path.{_≡_, refl, ap, ap₂, _∙_}
 use mathlib.Core.Bool.{Bool, true, false, cond, _||_}
 use mathlib.Core.Logic.{⊎-elim}
 use mathlib.Core.List.{List, [], _∷_, _++_, List·Memᴰ, List·Memᴰ·head, List·Memᴰ·tail, List·Memᴰ·cases-cons, Memᴰ·append-left, Memᴰ·append-right}
-use Prim.Native.Nat.{ℕ}
 use Rattle.rule.specs.Tree.{Reference, Sum, literal, instance, reference, arithmetic, abs, Cond, relation, connective, referencesS, references}
 use Rattle.numbers.proofs.Bools.{true-false}
-use Rattle.verdict.specs.Found.{Found, isMissing, isPending, isPresent, someOf}
+use Rattle.verdict.specs.Found.{Found, Given, isMissing, isPending, isPresent, someOf}
 use Rattle.verdict.specs.Kleene.{notK, joined, truth}
 use Rattle.verdict.specs.Value.{computed, sizeOf, noteOf, holds, valueS, value}
-use Rattle.verdict.specs.Settled.{settledBy, verdict, settled, judgement}
+use Rattle.verdict.specs.Settled.{settledBy, verdictOf, verdict, settled, judgement}
+use Rattle.verdict.specs.Later.{withFound}
 use Rattle.verdict.specs.declared.Truth.{Truth}
 use Rattle.verdict.specs.declared.Truth.the-variants.{Unknown}
 use Rattle.verdict.specs.declared.Judgement.the-variants.{Unsettled}
@@ -29,38 +29,38 @@ module _ (found found′ : Reference → Found) where
   some-own is [] h = refl
   some-own is (r ∷ rs) h = ap₂ _||_ (ap is (h r (List·Memᴰ·head refl))) (some-own is rs (λ x m. h x (List·Memᴰ·tail m)))
 
-  module _ (i : ℕ) where
-    pub sum-own : (a : Sum) → SameOn (referencesS a) found found′ → valueS i found a ≡ valueS i found′ a
-    sum-own (literal n) h = refl
-    sum-own instance h = refl
-    sum-own (reference r) h = ap noteOf (h r (List·Memᴰ·head refl))
-    sum-own (arithmetic o a b) h =
-        ap₂ (computed o) (sum-own a (same-left (referencesS a) (referencesS b) h)) (sum-own b (same-right (referencesS a) (referencesS b) h))
-    sum-own (abs a) h = ap sizeOf (sum-own a h)
+module _ (g : Given) (found : Reference → Found) where
+  pub sum-own : (a : Sum) → SameOn (referencesS a) (g .found) found → valueS g a ≡ valueS (withFound g found) a
+  sum-own (literal n) h = refl
+  sum-own instance h = refl
+  sum-own (reference r) h = ap noteOf (h r (List·Memᴰ·head refl))
+  sum-own (arithmetic o a b) h =
+      ap₂ (computed o) (sum-own a (same-left (g .found) found (referencesS a) (referencesS b) h)) (sum-own b (same-right (g .found) found (referencesS a) (referencesS b) h))
+  sum-own (abs a) h = ap sizeOf (sum-own a h)
 
-    pub value-own : (t : Cond) → SameOn (references t) found found′ → value i found t ≡ value i found′ t
-    value-own (relation r a b) h =
-        ap₂ (λ (t : Bool) (u : Bool). cond t Unknown (truth u)) (some-own isMissing (referencesS a ++ referencesS b) h)
-        (ap₂ (holds r) (sum-own a (same-left (referencesS a) (referencesS b) h)) (sum-own b (same-right (referencesS a) (referencesS b) h)))
-    value-own (Cond.not p) h = ap notK (value-own p h)
-    value-own (connective j p q) h =
-        ap₂ (joined j) (value-own p (same-left (references p) (references q) h)) (value-own q (same-right (references p) (references q) h))
+  pub value-own : (t : Cond) → SameOn (references t) (g .found) found → value g t ≡ value (withFound g found) t
+  value-own (relation r a b) h =
+      ap₂ (λ (t : Bool) (u : Bool). cond t Unknown (truth u)) (some-own (g .found) found isMissing (referencesS a ++ referencesS b) h)
+      (ap₂ (holds r) (sum-own a (same-left (g .found) found (referencesS a) (referencesS b) h)) (sum-own b (same-right (g .found) found (referencesS a) (referencesS b) h)))
+  value-own (Cond.not p) h = ap notK (value-own p h)
+  value-own (connective j p q) h =
+      ap₂ (joined j) (value-own p (same-left (g .found) found (references p) (references q) h)) (value-own q (same-right (g .found) found (references p) (references q) h))
 
-    pub settled-own : (t : Cond) → SameOn (references t) found found′ → settled i found t ≡ settled i found′ t
-    settled-own t h =
-        ap₂ (λ (a b : Bool). settledBy a b (value i found t)) (some-own isPending (references t) h) (some-own isPresent (references t) h)
-        ∙ ap (settledBy (someOf isPending found′ (references t)) (someOf isPresent found′ (references t))) (value-own t h)
+  pub settled-own : (t : Cond) → SameOn (references t) (g .found) found → settled g t ≡ settled (withFound g found) t
+  settled-own t h =
+      ap₂ (λ (a b : Bool). settledBy a b (value g t)) (some-own (g .found) found isPending (references t) h) (some-own (g .found) found isPresent (references t) h)
+      ∙ ap (settledBy (someOf isPending found (references t)) (someOf isPresent found (references t))) (value-own t h)
 
-    pub judgement-own : (t : Cond) → SameOn (references t) found found′ → judgement i found t ≡ judgement i found′ t
-    judgement-own t h =
-        ap₂ (λ (b : Bool) (v : Truth). cond b (verdict v) Unsettled) (settled-own t h) (value-own t h)
+  pub judgement-own : (t : Cond) → SameOn (references t) (g .found) found → judgement g t ≡ judgement (withFound g found) t
+  judgement-own t h =
+      ap₂ (λ (b : Bool) (v : Truth). cond b (verdict (verdictOf v)) Unsettled) (settled-own t h) (value-own t h)
 
 -- where none is so, each is not
-or-left : (a b : Bool) → (a || b) ≡ false → a ≡ false
+pub or-left : (a b : Bool) → (a || b) ≡ false → a ≡ false
 or-left true b e = e
 or-left false b e = refl
 
-or-right : (a b : Bool) → (a || b) ≡ false → b ≡ false
+pub or-right : (a b : Bool) → (a || b) ≡ false → b ≡ false
 or-right true b e = absurd (true-false e)
 or-right false b e = e
 

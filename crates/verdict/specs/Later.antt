@@ -6,13 +6,17 @@ use mathlib.Core.List.{List, _++_, List·Memᴰ}
 use Prim.Native.Nat.{ℕ}
 use lib.IntN.{ℤ}
 use Rattle.rule.specs.Tree.{Reference, Cond, references}
-use Rattle.verdict.specs.Found.{Found, pending}
+use Rattle.verdict.specs.Found.{Found, pending, Given}
 use Rattle.verdict.specs.declared.Truth.{Truth}
 use Rattle.verdict.specs.declared.Truth.the-variants.{Unknown}
 
 -- "pending if not yet accepted": with later lines a reference stays as it is, or was pending
 abbrev pub Gains : Found → Found → Type 0
 Gains a b = (a ≡ b) ⊎ (a ≡ pending)
+
+-- "pending if not yet accepted": the same instance, where references are as other lines make them
+abbrev pub withFound : Given → (Reference → Found) → Given
+withFound g found = record { instance = g .instance; found = found }
 
 -- so each reference that a rule "names"
 abbrev pub GainsIn : Cond → (Reference → Found) → (Reference → Found) → Type 0

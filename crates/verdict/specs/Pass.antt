@@ -11,12 +11,11 @@ use Rattle.rule.specs.Frames.{Kind, operand, arithmetic, absolute, relation, ne
 use Rattle.rule.specs.Build.{top1, top2}
 use Rattle.verdict.specs.Kleene.{notK, joined, truth}
 use Rattle.verdict.specs.Value.{computed, sizeOf, holds}
-use Rattle.verdict.specs.Settled.{settledBy, verdict}
+use Rattle.verdict.specs.Settled.{judgedBy}
 use Rattle.verdict.specs.Marks.{presentMark, pendingMark}
 use Rattle.verdict.specs.declared.Truth.{Truth}
 use Rattle.verdict.specs.declared.Truth.the-variants.{Unknown}
 use Rattle.verdict.specs.declared.Judgement.{Judgement}
-use Rattle.verdict.specs.declared.Judgement.the-variants.{Unsettled}
 
 -- after some frames "in postfix order": the sums' values and the conditions' truth values, the last first; whether a reference
 -- since the last relation is missing; whether a reference is pending, and whether one is present
@@ -87,10 +86,6 @@ passBy none v i mark note p = p
 abbrev pub firstT : List Truth → Truth
 firstT [] = Unknown
 firstT (t ∷ cs) = t
-
--- "The verdict of a settled instance is the rule's value": of another that it is not settled
-abbrev pub judgedBy : Bool → Bool → Truth → Judgement
-judgedBy somePending somePresent t = cond (settledBy somePending somePresent t) (verdict t) Unsettled
 
 module _ (s : List ℕ) (i : ℕ) (marks : List ℕ) (notes : List ℤ) where
   -- after the first k frames "in postfix order"

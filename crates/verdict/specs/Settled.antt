@@ -1,12 +1,11 @@
 -- Settled instances and their verdicts. From document 01, "Verdicts". Assumes nothing: definitions.
 use mathlib.Core.Bool.{Bool, cond, not, _&&_, _||_}
-use Prim.Native.Nat.{ℕ}
-use Rattle.rule.specs.Tree.{Reference, Cond, references}
-use Rattle.verdict.specs.Found.{Found, isPresent, isPending, someOf}
+use Rattle.rule.specs.Tree.{Cond, references}
+use Rattle.verdict.specs.Found.{Given, isPresent, isPending, someOf}
 use Rattle.verdict.specs.Kleene.{isKnown}
 use Rattle.verdict.specs.Value.{value}
 use Rattle.verdict.specs.declared.Truth.{Truth}
-use Rattle.verdict.specs.declared.Truth.the-variants as truths
+use Rattle.verdict.specs.declared.Verdict.{Verdict}
 use Rattle.verdict.specs.declared.Judgement.{Judgement}
 use Rattle.verdict.specs.declared.Judgement.the-variants.{Unsettled, True, False, Unknown}
 
@@ -14,17 +13,27 @@ use Rattle.verdict.specs.declared.Judgement.the-variants.{Unsettled, Tru
 abbrev pub settledBy : Bool → Bool → Truth → Bool
 settledBy somePending somePresent t = not somePending || (somePresent && isKnown t)
 
--- "The verdict of a settled instance is the rule's value": the code's answer for a truth value
-abbrev pub verdict : Truth → Judgement
-verdict truths.True = True
-verdict truths.False = False
-verdict truths.Unknown = Unknown
+-- "The verdict of a settled instance is the rule's value": the verdict that a truth value is
+abbrev pub verdictOf : Truth → Verdict
+verdictOf Truth.True = Verdict.True
+verdictOf Truth.False = Verdict.False
+verdictOf Truth.Unknown = Verdict.Unknown
 
-module _ (i : ℕ) (found : Reference → Found) (t : Cond) where
-  -- "An instance is settled": of a rule, where found says what each reference is
+-- "The verdict of a settled instance": the code's answer for it
+abbrev pub verdict : Verdict → Judgement
+verdict Verdict.True = True
+verdict Verdict.False = False
+verdict Verdict.Unknown = Unknown
+
+-- "The verdict of a settled instance is the rule's value": of another that it is not settled
+abbrev pub judgedBy : Bool → Bool → Truth → Judgement
+judgedBy somePending somePresent t = cond (settledBy somePending somePresent t) (verdict (verdictOf t)) Unsettled
+
+module _ (g : Given) (t : Cond) where
+  -- "An instance is settled": of a rule, by what is given
   abbrev pub settled : Bool
-  settled = settledBy (someOf isPending found (references t)) (someOf isPresent found (references t)) (value i found t)
+  settled = settledBy (someOf isPending (g .found) (references t)) (someOf isPresent (g .found) (references t)) (value g t)
 
-  -- "The verdict of a settled instance is the rule's value": of another that it is not settled
+  -- what is said of an instance: "The verdict of a settled instance is the rule's value"
   abbrev pub judgement : Judgement
-  judgement = cond settled (verdict (value i found t)) Unsettled
+  judgement = judgedBy (someOf isPending (g .found) (references t)) (someOf isPresent (g .found) (references t)) (value g t)

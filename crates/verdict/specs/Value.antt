@@ -1,13 +1,12 @@
 -- The value of a rule's tree at an instance. From document 01, "Verdicts". Assumes nothing: definitions.
 use mathlib.Core.Bool.{Bool, false, cond, not}
 use mathlib.Core.List.{_++_}
-use Prim.Native.Nat.{ℕ}
 use lib.Dec.{eqb}
 use lib.IntN.{ℤ, pos, negsuc, natAbs, _+ℤ_, _-ℤ_, _*ℤ_}
 use lib.Signed.{ltZ, leZ}
 use Rattle.rule.specs.Frames.{Arithmetic, add, subtract, multiply, Relation, equal, unequal, less, atMost, more, atLeast}
-use Rattle.rule.specs.Tree.{Reference, Sum, literal, instance, reference, arithmetic, abs, Cond, relation, connective, referencesS}
-use Rattle.verdict.specs.Found.{Found, present, pending, void, isMissing, someOf}
+use Rattle.rule.specs.Tree.{Sum, literal, instance, reference, arithmetic, abs, Cond, relation, connective, referencesS}
+use Rattle.verdict.specs.Found.{Found, present, pending, void, Given, isMissing, someOf}
 use Rattle.verdict.specs.Kleene.{notK, joined, truth}
 use Rattle.verdict.specs.declared.Truth.{Truth}
 use Rattle.verdict.specs.declared.Truth.the-variants.{Unknown}
@@ -46,19 +45,19 @@ holds atMost x y = leZ x y
 holds more x y = ltZ y x
 holds atLeast x y = leZ y x
 
--- ---- i is the instance number, found says what each reference is at that instance
-module _ (i : ℕ) (found : Reference → Found) where
+-- ---- of what is given: the instance number, and what each reference is at that instance
+module _ (g : Given) where
   -- the value of a sum, by its "01 literal, 02 i, 03 reference, 11 add, 12 subtract, 13 multiply, 14 abs"
   abbrev pub valueS : Sum → ℤ
   valueS (literal n) = pos n
-  valueS instance = pos i
-  valueS (reference r) = noteOf (found r)
+  valueS instance = pos (g .instance)
+  valueS (reference r) = noteOf (g .found r)
   valueS (arithmetic o a b) = computed o (valueS a) (valueS b)
   valueS (abs a) = sizeOf (valueS a)
 
   -- "A relation is unknown if it names a void or pending reference, else true or false"
   abbrev pub value : Cond → Truth
   value (relation r a b) =
-      cond (someOf isMissing found (referencesS a ++ referencesS b)) Unknown (truth (holds r (valueS a) (valueS b)))
+      cond (someOf isMissing (g .found) (referencesS a ++ referencesS b)) Unknown (truth (holds r (valueS a) (valueS b)))
   value (Cond.not p) = notK (value p)
   value (connective j p q) = joined j (value p) (value q)

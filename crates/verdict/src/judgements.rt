@@ -3,8 +3,7 @@ use crate::Judgement;
 use crate::Truth;
 ghost use mathlib.Core.Path.{_≡_};
 ghost use Rattle.verdict.specs.Kleene.{isKnown};
-ghost use Rattle.verdict.specs.Settled.{settledBy, verdict};
-ghost use Rattle.verdict.specs.Pass.{judgedBy};
+ghost use Rattle.verdict.specs.Settled.{settledBy, verdictOf, verdict, judgedBy};
 
 // True or false.
 fn known(t: Truth) -> bool
@@ -26,7 +25,7 @@ fn settled(pending: bool, present: bool, t: Truth) -> bool
 
 // The verdict of a settled instance.
 fn verdict_of(t: Truth) -> Judgement
-    ensures { λ r. ⌜ r ≡ verdict t ⌝ }
+    ensures { λ r. ⌜ r ≡ verdict (verdictOf t) ⌝ }
 {
     match t {
         Truth::True => Judgement::True,

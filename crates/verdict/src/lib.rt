@@ -36,6 +36,13 @@ pub enum Truth {
     Unknown,
 }
 
+// The verdict of a settled instance, which a pull hands out.
+pub enum Verdict {
+    True,
+    False,
+    Unknown,
+}
+
 // The verdict of an instance, or that it is not settled.
 pub enum Judgement {
     Unsettled,

@@ -1,13 +1,20 @@
 -- `checker::found::of_reference` meets its contract. Assumes nothing.
-use lib.IntN.{ℤ}
+use mathlib.Core.Path.{_≡_, refl, sym, ap, _∙_, subst}
+use mathlib.Core.List.{List}
+use Prim.Native.Nat.{ℕ}
+use lib.IntN.{ℤ, pos}
 use mir.Syntax.{w32}
-use mir.Val.{SFits}
+use mir.Val.{SFits, toZ, ofZ}
 use mir.ValLaws.{toZ-ofZ}
 use Rattle.numbers.proofs.Ints.{mag-natAbs}
-use mathlib.Core.Path.{sym, ap, _∙_}
-use lib.ListN.{getD}
-use Rattle.verdict.specs.Found.{occurrence, meantBy}
-use Rattle.checker.proofs.PullFound.{void-shows, at-shows}
+use Rattle.rule.specs.Tree.{LimitsR}
+use Rattle.rule.specs.References.{referenceOf}
+use Rattle.rule.specs.declared.Frame.{Frame}
+use Rattle.verdict.specs.Found.{occurrence, meantBy, foundBy}
+use Rattle.verdict.specs.declared.Meant.{Meant}
+use Rattle.verdict.specs.declared.Meant.the-variants.{Void, At}
+use Rattle.checker.specs.Found.{byWindow, foundInWindow}
+use Rattle.checker.specs.Sights.{Shows}
 use borrow.Author.Needs.{needs}
 use native.Mathlib.Omega.{arith}
 use Rattle.checker.proofs.found.of_reference.Statement.{statement}
@@ -34,19 +41,29 @@ enum-known-meant c = search needs
 at-occurrence-requires : tie.Need-at-occurrence-requires
 at-occurrence-requires c κs = search needs
 
+-- by the occurrence that is meant, whose offset the code carries in 32 bits
+by-meant : (x : Frame) (p w : ℕ) (counts : List ℕ) (win : List ℤ) (m : Meant) (mark : ℕ) (note : ℤ) → LimitsR (referenceOf x)
+    → m ≡ meantBy (occurrence (x .factor) (toZ w32 (ofZ w32 (x .value))) p)
+    → Shows (foundBy (byWindow w counts win) (x .event) (x .note) m) mark note → Shows (foundInWindow w counts win p (referenceOf x)) mark note
+by-meant x p w counts win m mark note l e h =
+    let f : SFits w32 (x .value) = record { sfits = omega (arith, mag-natAbs (x .value), l .offset) } in
+    subst (λ (k : Meant). Shows (foundBy (byWindow w counts win) (x .event) (x .note) k) mark note)
+    (e ∙ ap (λ (z : ℤ). meantBy (occurrence (x .factor) z p)) (toZ-ofZ w32 (x .value) f)) h
+
 returns : tie.Need-returns
 returns c =
-    let a = c .before .before .before .before .before .args in
-    let f : SFits w32 (a .x .value) = record { sfits = omega (arith, mag-natAbs (a .x .value), c .before .before .before .before .before .pre .0 .offset) } in
-    let q = ap (λ (z : ℤ). meantBy (occurrence (a .x .factor) z (a .p .0))) (toZ-ofZ w32 (a .x .value) f) in
-    void-shows (c .before .before .before .before .before .args .width) (c .before .before .before .before .before .args .window .now) (getD (c .before .before .before .before .before .args .t4) (c .before .before .before .before .before .args .x .event) 0) (c .before .before .before .before .before .args .x .event) (c .before .before .before .before .before .args .x .note) (occurrence (c .before .before .before .before .before .args .x .factor) (c .before .before .before .before .before .args .x .value) (c .before .before .before .before .before .args .p .0)) (sym (c .enum-told .given .1) ∙ c .before .before .occurrence-of .ensures ∙ q)
+    let s = c .before .before .before .before .before in
+    let a = s .args in
+    by-meant (a .x) (a .p .0) (a .width) (a .t4) (a .window .now) Void 2 (pos 0) (s .pre .0)
+    (sym (c .enum-told .given .1) ∙ c .before .before .occurrence-of .ensures) (record { mark-is = refl; note-is = refl })
 
 returns-2 : tie.Need-returns-2
 returns-2 c =
-    let a = c .before .before .before .before .before .before .before .args in
-    let f : SFits w32 (a .x .value) = record { sfits = omega (arith, mag-natAbs (a .x .value), c .before .before .before .before .before .before .before .pre .0 .offset) } in
-    let q = ap (λ (z : ℤ). meantBy (occurrence (a .x .factor) z (a .p .0))) (toZ-ofZ w32 (a .x .value) f) in
-    at-shows (c .before .before .before .before .before .before .before .args .width) (c .before .before .before .before .before .before .before .args .window .now) (getD (c .before .before .before .before .before .before .before .args .t4) (c .before .before .before .before .before .before .before .args .x .event) 0) (c .before .before .before .before .before .before .before .args .x .event) (c .before .before .before .before .before .before .before .args .x .note) (occurrence (c .before .before .before .before .before .before .before .args .x .factor) (c .before .before .before .before .before .before .before .args .x .value) (c .before .before .before .before .before .before .before .args .p .0)) _ _ _ (sym (c .before .before .meant .given .1) ∙ c .before .before .before .before .occurrence-of .ensures ∙ q) (c .at-occurrence .ensures)
+    let s = c .before .before .before .before .before .before .before in
+    let a = s .args in
+    let k = c .before .before .meant .given in
+    by-meant (a .x) (a .p .0) (a .width) (a .t4) (a .window .now) (At (k .0 .0)) _ _ (s .pre .0)
+    (sym (k .1) ∙ c .before .before .before .before .occurrence-of .ensures) (c .at-occurrence .ensures)
 
 pub of-reference-spec : {M : Type 1} → statement M
 of-reference-spec =

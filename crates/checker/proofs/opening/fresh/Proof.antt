@@ -1,6 +1,7 @@
 -- `checker::opening::fresh` meets its contract. Assumes nothing.
 use mathlib.Core.Path.{sym}
 use borrow.Author.Needs.{needs}
+use Rattle.checker.specs.Base.{firstInstance}
 use Rattle.checker.specs.State.{freshState}
 use Rattle.checker.proofs.opening.fresh.Statement.{statement}
 use Rattle.checker.proofs.opening.fresh.Tie as tie
@@ -15,7 +16,7 @@ first-requires : tie.Need-first-requires
 first-requires c κs = search needs
 
 returns : tie.Need-returns
-unfolding freshState
+unfolding firstInstance freshState
 returns c = rw (sym (c .before .copied .ensures)) (c .first .ensures)
 
 pub fresh-spec : {M : Type 1} → statement M

@@ -14,8 +14,8 @@ use Rattle.verdict.specs.Found.{Found}
 use Rattle.verdict.specs.declared.Judgement.{Judgement}
 use Rattle.verdict.specs.declared.Judgement.the-variants.{False}
 use Rattle.checker.specs.Report.{written}
+use Rattle.checker.specs.Found.{foundInWindow}
 use Rattle.checker.specs.Pull.{offered, pullReport}
-use Rattle.checker.specs.Sights.{foundBy}
 use Rattle.checker.proofs.PullOffer.{offer-judge, offer-fill, offer-judged, offer-report, unfilled}
 use Rattle.checker.proofs.pulling.offer.Statement.{statement}
 use Rattle.checker.proofs.pulling.offer.Tie as tie
@@ -38,7 +38,7 @@ judge-requires c κs =
     let l = c .before .before .look in
     let marks : List ℕ = l .last .1 .1 .1 .1 .1 .0 in
     let notes : List ℤ = l .last .1 .1 .1 .1 .1 .1 .0 in
-    let found : Reference → Found = foundBy (a .width) (a .counts) (a .window .now) (a .p .0) in
+    let found : Reference → Found = foundInWindow (a .width) (a .counts) (a .window .now) (a .p .0) in
     offer-judge (a .frames .now) (a .p .0) (a .width) (length (a .window .now)) (length (a .report .now)) (p .pre) found marks notes (l .ensures)
 
 enum-told : tie.Need-enum-told
@@ -57,7 +57,7 @@ fill-requires c κs =
     let l = c .before .before .before .before .before .before .before .before .look in
     let marks : List ℕ = l .last .1 .1 .1 .1 .1 .0 in
     let notes : List ℤ = l .last .1 .1 .1 .1 .1 .1 .0 in
-    let found : Reference → Found = foundBy (a .width) (a .counts) (a .window .now) (a .p .0) in
+    let found : Reference → Found = foundInWindow (a .width) (a .counts) (a .window .now) (a .p .0) in
     offer-fill (a .frames .now) (a .p .0) (a .width) (length (a .window .now)) (length (a .report .now)) (p .pre) found marks notes (l .ensures)
 
 same-length : tie.Need-same-length
@@ -70,7 +70,7 @@ returns c =
     let l = c .before .before .before .before .before .before .before .before .before .before .before .look in
     let marks : List ℕ = l .last .1 .1 .1 .1 .1 .0 in
     let notes : List ℤ = l .last .1 .1 .1 .1 .1 .1 .0 in
-    let found : Reference → Found = foundBy (a .width) (a .counts) (a .window .now) (a .p .0) in
+    let found : Reference → Found = foundInWindow (a .width) (a .counts) (a .window .now) (a .p .0) in
     let j = c .before .before .before .before .before .before .before .before .judge in
     let e : j .result ≡ False = c .before .before .before .before .before .before .enum-told .given .1 in
     let b : Bytes (a .frames .now) = bytes-by (a .frames .now) (λ i _. c .before .before .before .before .before .before .before .before .before .before .before .before .before .before .before .shared-slice-known .given i .fits) in
@@ -84,7 +84,7 @@ returns-2 c =
     let l = c .before .before .before .before .look in
     let marks : List ℕ = l .last .1 .1 .1 .1 .1 .0 in
     let notes : List ℤ = l .last .1 .1 .1 .1 .1 .1 .0 in
-    let found : Reference → Found = foundBy (a .width) (a .counts) (a .window .now) (a .p .0) in
+    let found : Reference → Found = foundInWindow (a .width) (a .counts) (a .window .now) (a .p .0) in
     let j = c .before .judge in
     let n : j .result ≡ False → ⊥ = λ e. miss (0 ∷ (1 ∷ (3 ∷ []))) 2 tt (rw e at (c .match .keys2)) in
     (offer-judged (a .frames .now) (a .p .0) (a .width) (length (a .window .now)) (length (a .report .now)) (p .pre) found marks notes (l .ensures) (j .result) (j .ensures), unfilled (a .p .0) (references (treeOf (a .frames .now))) found (a .report .now) (j .result) n)

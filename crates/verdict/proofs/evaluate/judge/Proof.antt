@@ -9,7 +9,7 @@ use lib.ListN.{getD}
 use lib.Signed.{natAbs-le}
 use mir.ValLaws.{toZ-ofZ}
 use mir.Syntax.{w32}
-use Rattle.verdict.specs.Pass.{judgedBy}
+use Rattle.verdict.specs.Settled.{judgedBy}
 use Rattle.verdict.proofs.Loop.{Held, begun, again, last}
 use Rattle.verdict.proofs.evaluate.judge.Statement.{statement}
 use Rattle.verdict.proofs.evaluate.judge.Tie as tie

@@ -12,7 +12,7 @@ use Rattle.numbers.proofs.Ints.{is-not-negative}
 use Rattle.rule.specs.Limits.{factorLimit}
 use Rattle.verdict.specs.Found.{instanceLimit, occurrence}
 use Rattle.verdict.proofs.Numbers.{natAbs-add, small-fits}
-use Rattle.verdict.proofs.Meanings.{meant-void, meant-at}
+use Rattle.verdict.proofs.Resolve.{meant-void, meant-at}
 use Rattle.verdict.proofs.places.occurrence_of.Statement.{statement}
 use Rattle.verdict.proofs.places.occurrence_of.Tie as tie
 
