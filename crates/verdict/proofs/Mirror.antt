@@ -1,6 +1,6 @@
 -- The pass over frames holds the values of the trees that the frames build. Assumes nothing.
 use mathlib.Core.Path.{_≡_, refl, sym, ap, ap₂, _∙_, subst}
-use mathlib.Core.Bool.{Bool, true, false, not, cond, _||_}
+use mathlib.Core.Bool.{Bool, true, false, not, cond, _||_, or-false, or-assoc, or-comm}
 use mathlib.Core.Logic.{⊎-elim}
 use mathlib.Core.List.{List, [], _∷_, _++_, map}
 use Prim.Native.Nat.{ℕ, zero, suc, _≤_, _<_}
@@ -51,38 +51,20 @@ tells-note void mark note t e = absurd (true-false e)
 
 -- ---- alternatives
 or-last : (a b : Bool) → (a || b) ≡ ((b || false) || a)
-or-last true true = refl
-or-last true false = refl
-or-last false true = refl
-or-last false false = refl
+or-last a b = or-comm a b ∙ ap (λ (t : Bool). t || a) (sym (or-false b))
 
 or-into : (a b c : Bool) → ((a || b) || c) ≡ (a || ((c || false) || b))
-or-into true b c = refl
-or-into false b c = or-last b c
+or-into a b c = or-assoc a b c ∙ ap (λ (t : Bool). a || t) (or-last b c)
 
 or-two : (a b c : Bool) → (b || (a || c)) ≡ ((a || b) || c)
-or-two true true c = refl
-or-two true false c = refl
-or-two false true c = refl
-or-two false false c = refl
+or-two a b c = sym (or-assoc b a c) ∙ ap (λ (t : Bool). t || c) (or-comm b a)
 
 or-move : (a b c : Bool) → (c || (b || (a || false))) ≡ (((a || b) || c) || false)
-or-move true true true = refl
-or-move true true false = refl
-or-move true false true = refl
-or-move true false false = refl
-or-move false true true = refl
-or-move false true false = refl
-or-move false false true = refl
-or-move false false false = refl
+or-move a b c = or-comm c (b || (a || false)) ∙ ap (λ (t : Bool). t || c) (or-two a b false ∙ or-false (a || b)) ∙ sym (or-false ((a || b) || c))
 
 some-append : (is : Found → Bool) (at : Reference → Found) (xs ys : List Reference) → someOf is at (xs ++ ys) ≡ (someOf is at xs || someOf is at ys)
 some-append is at [] ys = refl
-some-append is at (r ∷ xs) ys = ap (λ (t : Bool). is (at r) || t) (some-append is at xs ys) ∙ join (is (at r)) (someOf is at xs) (someOf is at ys)
-  where
-    join : (a b c : Bool) → (a || (b || c)) ≡ ((a || b) || c)
-    join true b c = refl
-    join false b c = refl
+some-append is at (r ∷ xs) ys = ap (λ (t : Bool). is (at r) || t) (some-append is at xs ys) ∙ sym (or-assoc (is (at r)) (someOf is at xs) (someOf is at ys))
 
 -- ---- lists of trees
 module _ (is : Found → Bool) (at : Reference → Found) where
@@ -182,18 +164,12 @@ module _ (g : Given) where
           sums = λ e. refl;
           conds = ap₂ _∷_
               (related-by r a b (p .missing) (p .sums)
-              (h .missing ∙ or-pair (someOf isMissing (g .found) (referencesS a)) (someOf isMissing (g .found) (referencesS b)) ∙ sym (some-append isMissing (g .found) (referencesS a) (referencesS b))) (h .sums))
+              (h .missing ∙ or-two (someOf isMissing (g .found) (referencesS a)) (someOf isMissing (g .found) (referencesS b)) false ∙ or-false _ ∙ sym (some-append isMissing (g .found) (referencesS a) (referencesS b))) (h .sums))
               (h .conds);
           pending = h .pending ∙ moved isPending;
           present = h .present ∙ moved isPresent;
         }
       where
-        or-pair : (u v : Bool) → (v || (u || false)) ≡ (u || v)
-        or-pair true true = refl
-        or-pair true false = refl
-        or-pair false true = refl
-        or-pair false false = refl
-
         moved : (is : Found → Bool) → (someC is (g .found) cs || (someOf is (g .found) (referencesS b) || (someOf is (g .found) (referencesS a) || false)))
             ≡ ((someOf is (g .found) (referencesS a ++ referencesS b) || someC is (g .found) cs) || false)
         moved is =
@@ -241,8 +217,7 @@ module _ (g : Given) where
 
   -- at the end one condition is left, the rule
   alone : (a : Bool) → ((a || false) || false) ≡ a
-  alone true = refl
-  alone false = refl
+  alone a = or-false (a || false) ∙ or-false a
 
   judged-last : (z : Trees) (p : Pass) → AsMany (viable 1 0) z → HoldsIn z p → judgedBy (p .pending) (p .present) (firstT (p .conds)) ≡ judgement g (firstC z)
   judged-last (trees [] ss) p n h = absurd (omega (arith, n .0))

@@ -27,6 +27,10 @@ stays-not : (is : Found → Bool) → is pending ≡ true → (a b : Found) → 
 stays-not is w a b (inl p) e = p
 stays-not is w a b (inr p) e = absurd (true-false (sym w ∙ sym (ap is p) ∙ e))
 
+or-mono : (a a′ b b′ : Bool) → (a ≡ true → a′ ≡ true) → (b ≡ true → b′ ≡ true) → (a || b) ≡ true → (a′ || b′) ≡ true
+or-mono true a′ b b′ f h e = ap (λ (t : Bool). t || b′) (f refl)
+or-mono false a′ b b′ f h e = ap (λ (t : Bool). a′ || t) (h e) ∙ or-true a′
+
 module _ (g : Given) (found′ : Reference → Found) where
   abbrev GainsOn : List Reference → Type 0
   GainsOn rs = (r : Reference) → List·Memᴰ r rs → Gains (g .found r) (found′ r)
@@ -56,16 +60,10 @@ module _ (g : Given) (found′ : Reference → Found) where
   present-stays a b (inl p) e = sym (ap isPresent p) ∙ e
   present-stays a b (inr p) e = absurd (true-false (sym e ∙ ap isPresent p))
 
-  present-or : (x : Reference) (rs : List Reference) (t : Bool) → isPresent (g .found x) ≡ t → Gains (g .found x) (found′ x)
-      → (someOf isPresent (g .found) rs ≡ true → someOf isPresent found′ rs ≡ true) → (t || someOf isPresent (g .found) rs) ≡ true
-      → (isPresent (found′ x) || someOf isPresent found′ rs) ≡ true
-  present-or x rs true e n ih h = ap (λ (t : Bool). t || someOf isPresent found′ rs) (present-stays (g .found x) (found′ x) n e)
-  present-or x rs false e n ih h = ap (λ (t : Bool). isPresent (found′ x) || t) (ih h) ∙ or-true (isPresent (found′ x))
-
   some-present : (rs : List Reference) → GainsOn rs → someOf isPresent (g .found) rs ≡ true → someOf isPresent found′ rs ≡ true
   some-present [] n e = e
   some-present (x ∷ rs) n e =
-      present-or x rs (isPresent (g .found x)) refl (n x (List·Memᴰ·head refl)) (some-present rs (λ r m. n r (List·Memᴰ·tail m))) e
+      or-mono (isPresent (g .found x)) _ _ _ (present-stays (g .found x) (found′ x) (n x (List·Memᴰ·head refl))) (some-present rs (λ r m. n r (List·Memᴰ·tail m))) e
 
   known-same : (v v′ : Truth) → Sharpens v v′ → isKnown v ≡ true → v ≡ v′
   known-same v v′ (inl p) e = absurd (true-false (sym e ∙ ap isKnown p))
