@@ -1,5 +1,6 @@
 // Readers of conditions: cond, disj, conj and unit. Each takes its part off the stack of specs/Machine.
 use crate::emit::emit_kind;
+use crate::kinds;
 use crate::memory::Step;
 use crate::memory::Tally;
 use crate::memory::deeper;
@@ -21,46 +22,26 @@ ghost use Rattle.rule.specs.Machine.{want, rel, unit, ands, ors, arrow, 
 ghost use Rattle.rule.specs.Memory.{mem};
 ghost use Rattle.rule.specs.Does.{relByte, Does};
 
-const EQUAL: u8 = 0x21;
-
-const OTHER: u8 = 0x22;
-
-const LESS: u8 = 0x23;
-
-const NOT_MORE: u8 = 0x24;
-
-const MORE: u8 = 0x25;
-
-const NOT_LESS: u8 = 0x26;
-
-const NOT: u8 = 0x31;
-
-const AND: u8 = 0x32;
-
-const OR: u8 = 0x33;
-
-const IMPLIES: u8 = 0x34;
-
 // The kind of frame of a relation, 0 of any other token.
 fn rel_kind(k: u8) -> u8
     ensures { λ r. ⌜ r ≡ relByte k ⌝ }
 {
     if k == b'=' {
-        return EQUAL;
+        return kinds::EQUAL_BYTE;
     }
     if k == UNEQUAL {
-        return OTHER;
+        return kinds::UNEQUAL_BYTE;
     }
     if k == b'<' {
-        return LESS;
+        return kinds::LESS_BYTE;
     }
     if k == AT_MOST {
-        return NOT_MORE;
+        return kinds::AT_MOST_BYTE;
     }
     if k == b'>' {
-        return MORE;
+        return kinds::MORE_BYTE;
     }
-    if k == AT_LEAST { NOT_LESS } else { 0 }
+    if k == AT_LEAST { kinds::AT_LEAST_BYTE } else { 0 }
 }
 
 // rel sum, and the frame of the relation.
@@ -155,7 +136,7 @@ fn arrow(text: &[u8], names: &[u64; 12], at: usize, d: usize, m: Tally, buf: &mu
     let e = deeper(d);
     match condition(text, names, t.end, e, entered(e, m), buf) {
         Step::No(q) => Step::No(q),
-        Step::Go(a, n) => Step::Go(a, emit_kind(buf, n, IMPLIES)),
+        Step::Go(a, n) => Step::Go(a, emit_kind(buf, n, kinds::IMPLIES_BYTE)),
     }
 }
 
@@ -171,7 +152,7 @@ fn ors(text: &[u8], names: &[u64; 12], at: usize, d: usize, m: Tally, buf: &mut 
     match conj(text, names, t.end, d, m, buf) {
         Step::No(q) => Step::No(q),
         Step::Go(a, n) => {
-            let k = emit_kind(buf, n, OR);
+            let k = emit_kind(buf, n, kinds::OR_BYTE);
             ors(text, names, a, d, k, buf)
         }
     }
@@ -200,7 +181,7 @@ fn ands(text: &[u8], names: &[u64; 12], at: usize, d: usize, m: Tally, buf: &mut
     match unit(text, names, t.end, d, m, buf) {
         Step::No(q) => Step::No(q),
         Step::Go(a, n) => {
-            let k = emit_kind(buf, n, AND);
+            let k = emit_kind(buf, n, kinds::AND_BYTE);
             ands(text, names, a, d, k, buf)
         }
     }
@@ -221,6 +202,6 @@ fn unit(text: &[u8], names: &[u64; 12], at: usize, d: usize, m: Tally, buf: &mut
     }
     match unit(text, names, t.end, e, entered(e, m), buf) {
         Step::No(q) => Step::No(q),
-        Step::Go(a, n) => Step::Go(a, emit_kind(buf, n, NOT)),
+        Step::Go(a, n) => Step::Go(a, emit_kind(buf, n, kinds::NOT_BYTE)),
     }
 }

@@ -1,4 +1,5 @@
 // Declared names: a table of 12 numbers of names, events from 0 on and notes from 8 on.
+use crate::limits;
 use crate::memory::Tally;
 use crate::memory::blamed;
 use crate::memory::name_at;
@@ -16,10 +17,6 @@ ghost use Rattle.rule.specs.Spelling.{room};
 ghost use Rattle.rule.specs.Machine.{declare, uses};
 ghost use Rattle.rule.specs.Memory.{table, position, acts, listed, mem, among};
 ghost use Rattle.rule.specs.Does.{Inside};
-
-const EVENTS: u8 = 8;
-
-const NOTES: u8 = 4;
 
 fn least(a: u8, b: u8) -> u8
     ensures { λ r. ⌜ r ≡ min a b ⌝ }
@@ -47,8 +44,8 @@ fn most(role: Role) -> u8
     ensures { λ r. ⌜ r ≡ room role ⌝ }
 {
     match role {
-        Role::Event => EVENTS,
-        Role::Note => NOTES,
+        Role::Event => limits::EVENT_LIMIT,
+        Role::Note => limits::NOTE_LIMIT,
     }
 }
 
@@ -57,8 +54,8 @@ fn held(role: Role, m: Tally) -> u8
     ensures { λ r. ⌜ ((tb b : List ℕ) → r ≡ length (table role (mem m tb b))) ⌝ }
 {
     match role {
-        Role::Event => least(EVENTS, m.events),
-        Role::Note => least(NOTES, m.notes),
+        Role::Event => least(limits::EVENT_LIMIT, m.events),
+        Role::Note => least(limits::NOTE_LIMIT, m.notes),
     }
 }
 
@@ -67,8 +64,13 @@ pub fn lookup(names: &[u64; 12], role: Role, c: u64, m: Tally) -> u8
     ensures { λ r. ⌜ ((b : List ℕ) → r ≡ position c (table role (mem m (now (names .entry)) b))) ⌝ }
 {
     match role {
-        Role::Event => find(names, 0, least(EVENTS, m.events), c),
-        Role::Note => find(names, EVENTS, least(NOTES, m.notes), c),
+        Role::Event => find(names, 0, least(limits::EVENT_LIMIT, m.events), c),
+        Role::Note => find(
+            names,
+            limits::EVENT_LIMIT,
+            least(limits::NOTE_LIMIT, m.notes),
+            c,
+        ),
     }
 }
 
@@ -135,7 +137,7 @@ fn declare_note(text: &[u8], names: &mut [u64; 12], p: Place, m: Tally) -> Tally
         return blamed(p, m);
     }
     let n = m.notes;
-    names[(EVENTS + n) as usize] = c;
+    names[(limits::EVENT_LIMIT + n) as usize] = c;
     Tally {
         count: m.count,
         deep: m.deep,

@@ -4,8 +4,8 @@ use crate::Reading;
 use crate::Refusal;
 use crate::check;
 use crate::conditions::condition;
-use crate::frames::FRAME_BYTES;
 use crate::header::declarations;
+use crate::limits;
 use crate::memory::Step;
 use crate::memory::Tally;
 use crate::parts::Role;
@@ -24,12 +24,6 @@ ghost use Rattle.rule.specs.Does.{runFrom};
 ghost use Rattle.rule.specs.Reading.{concluded, readOf, unread, answerOf};
 ghost use Rattle.rule.specs.Answers.{refusedAs};
 
-const BUFFER: usize = 512;
-
-const LONGEST: usize = 1024;
-
-const FRAMES: usize = 64;
-
 fn refuse(number: u8, place: u32) -> Reading
     ensures { λ r. ⌜ r ≡ refusedAs number place ⌝ }
 {
@@ -42,7 +36,7 @@ fn copy(from: &[u8], to: &mut [u8])
     ensures { λ _. ⌜ now (to .exit) ≡ now (from .entry) ⌝ }
 {
     let mut i: usize = 0;
-    while i < BUFFER {
+    while i < limits::BUFFER_BYTES {
         to[i] = from[i];
         i += 1;
     }
@@ -99,11 +93,11 @@ fn conclude(buf: &[u8], frames: &mut [u8], m: Tally) -> Reading
     if m.deep {
         return refuse(6, 0);
     }
-    if FRAMES < m.count {
+    if limits::FRAME_LIMIT < m.count {
         return refuse(6, 0);
     }
     let n = m.count;
-    let e = n * FRAME_BYTES;
+    let e = n * limits::FRAME_BYTES;
     let answer = check(&buf[..e]);
     match answer {
         Checked::Refused(r) => Reading::Refused(r),
@@ -120,13 +114,13 @@ pub fn read(text: &[u8], frames: &mut [u8]) -> Reading
     ensures { λ r. ⌜ (r ≡ readOf (now (text .entry)) (now (frames .entry)) .0) × (now (frames .exit) ≡ readOf (now (text .entry)) (now (frames .entry)) .1) ⌝ }
     ensures { λ r. ⌜ readTold r ≡ readTold (readOf (now (text .entry)) (now (frames .entry)) .0) ⌝ }
 {
-    if frames.len() != BUFFER {
+    if frames.len() != limits::BUFFER_BYTES {
         return refuse(1, 0);
     }
     if text.len() == 0 {
         return refuse(2, 0);
     }
-    if LONGEST < text.len() {
+    if limits::TEXT_LIMIT < text.len() {
         return refuse(2, 0);
     }
     let mut names = [0u64; 12];

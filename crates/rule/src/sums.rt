@@ -3,6 +3,7 @@ use crate::emit::emit_instance;
 use crate::emit::emit_kind;
 use crate::emit::emit_literal;
 use crate::emit::emit_reference;
+use crate::kinds;
 use crate::lookup::named;
 use crate::memory::Step;
 use crate::memory::Tally;
@@ -29,22 +30,14 @@ ghost use Rattle.rule.specs.Machine.{out, doing, want, ref-event, ref-in
 ghost use Rattle.rule.specs.Memory.{mem};
 ghost use Rattle.rule.specs.Does.{signByte, Does, Inside, InsideScale};
 
-const ADD: u8 = 0x11;
-
-const SUBTRACT: u8 = 0x12;
-
-const MULTIPLY: u8 = 0x13;
-
-const ABSOLUTE: u8 = 0x14;
-
 // The kind of frame of "+" and "-", 0 of any other token.
 fn sign_kind(k: u8) -> u8
     ensures { λ r. ⌜ r ≡ signByte k ⌝ }
 {
     if k == b'+' {
-        return ADD;
+        return kinds::ADD_BYTE;
     }
-    if k == b'-' { SUBTRACT } else { 0 }
+    if k == b'-' { kinds::SUBTRACT_BYTE } else { 0 }
 }
 
 // Takes a token of the kind k.
@@ -320,7 +313,7 @@ fn muls(text: &[u8], names: &[u64; 12], at: usize, d: usize, m: Tally, buf: &mut
     match factor(text, names, t.end, d, m, buf) {
         Step::No(q) => Step::No(q),
         Step::Go(a, n) => {
-            let k = emit_kind(buf, n, MULTIPLY);
+            let k = emit_kind(buf, n, kinds::MULTIPLY_BYTE);
             muls(text, names, a, d, k, buf)
         }
     }
@@ -342,7 +335,7 @@ fn absolute(
         Step::No(q) => Step::No(q),
         Step::Go(a, n) => match parens(text, names, a, d, n, buf) {
             Step::No(q) => Step::No(q),
-            Step::Go(z, l) => Step::Go(z, emit_kind(buf, l, ABSOLUTE)),
+            Step::Go(z, l) => Step::Go(z, emit_kind(buf, l, kinds::ABSOLUTE_BYTE)),
         },
     }
 }

@@ -1,4 +1,5 @@
 // Sums and relations of 64-bit numbers.
+use rule::kinds;
 ghost use mathlib.Core.Path.{_≡_};
 ghost use Prim.Native.Nat.{_≤_, _<_};
 ghost use lib.IntN.{natAbs};
@@ -30,8 +31,8 @@ pub fn compute(kind: u8, a: i64, b: i64) -> i64
     ensures { λ r. ⌜ r ≡ computedBy (kindOf kind) a b ⌝ }
 {
     match kind {
-        0x11 => a + b,
-        0x12 => a - b,
+        kinds::ADD_BYTE => a + b,
+        kinds::SUBTRACT_BYTE => a - b,
         _ => a * b,
     }
 }
@@ -42,11 +43,11 @@ pub fn compare(kind: u8, a: i64, b: i64) -> bool
     ensures { λ r. ⌜ r ≡ holdsBy (kindOf kind) a b ⌝ }
 {
     match kind {
-        0x21 => a == b,
-        0x22 => a != b,
-        0x23 => a < b,
-        0x24 => a <= b,
-        0x25 => a > b,
+        kinds::EQUAL_BYTE => a == b,
+        kinds::UNEQUAL_BYTE => a != b,
+        kinds::LESS_BYTE => a < b,
+        kinds::AT_MOST_BYTE => a <= b,
+        kinds::MORE_BYTE => a > b,
         _ => a >= b,
     }
 }

@@ -9,6 +9,7 @@ use crate::kleene;
 use crate::stacks;
 use rule::FRAME_BYTES;
 use rule::Frame;
+use rule::kinds;
 ghost use mathlib.Core.Path.{_≡_};
 ghost use mathlib.Core.List.{List};
 ghost use Prim.Native.Nat.{ℕ, _≤_, _<_};
@@ -83,29 +84,29 @@ fn step(
     let c = top.conds;
     let mut next = top;
     match kind {
-        0x01 => {
+        kinds::LITERAL_BYTE => {
             next.sums = stacks::put_sum(sums, k, arithmetic::widen(x.value));
             next
         }
-        0x02 => {
+        kinds::INSTANCE_BYTE => {
             next.sums = stacks::put_sum(sums, k, i.0 as i64); // only here an instance number is a value
             next
         }
-        0x03 => put_reference(sums, top, mark, note),
-        0x11..=0x13 => {
+        kinds::REFERENCE_BYTE => put_reference(sums, top, mark, note),
+        kinds::ADD_BYTE..=kinds::MULTIPLY_BYTE => {
             next.sums = stacks::join_sums(kind, sums, k);
             next
         }
-        0x14 => {
+        kinds::ABSOLUTE_BYTE => {
             next.sums = stacks::size_sum(sums, k);
             next
         }
-        0x21..=0x26 => put_relation(kind, sums, conds, top),
-        0x31 => {
+        kinds::EQUAL_BYTE..=kinds::AT_LEAST_BYTE => put_relation(kind, sums, conds, top),
+        kinds::NOT_BYTE => {
             next.conds = stacks::not_cond(conds, c);
             next
         }
-        0x32..=0x34 => {
+        kinds::AND_BYTE..=kinds::IMPLIES_BYTE => {
             next.conds = stacks::join_conds(kind, conds, c);
             next
         }

@@ -1,5 +1,6 @@
 // Kleene's tables, and truth values as bytes on the stack of conditions.
 use crate::Truth;
+use rule::kinds;
 ghost use mathlib.Core.Path.{_≡_};
 ghost use mathlib.Core.Bool.{cond};
 ghost use Prim.Native.Nat.{_≤_, _<_};
@@ -54,8 +55,8 @@ pub fn connect(kind: u8, p: Truth, q: Truth) -> Truth
     ensures { λ r. ⌜ r ≡ joinedBy (kindOf kind) p q ⌝ }
 {
     match kind {
-        0x32 => both(p, q),
-        0x33 => either(p, q),
+        kinds::AND_BYTE => both(p, q),
+        kinds::OR_BYTE => either(p, q),
         _ => either(negated(p), q),
     }
 }
