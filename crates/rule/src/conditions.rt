@@ -1,23 +1,24 @@
 // Readers of conditions: cond, disj, conj and unit. Each takes its part off the stack of specs/Machine.
 use crate::emit::emit_kind;
+use crate::expect::expect;
 use crate::kinds;
 use crate::memory::Step;
 use crate::memory::Tally;
 use crate::memory::deeper;
 use crate::memory::entered;
-use crate::sums::expect;
 use crate::sums::sum;
-use crate::tokens::AMPERSANDS;
-use crate::tokens::ARROW;
-use crate::tokens::AT_LEAST;
-use crate::tokens::AT_MOST;
-use crate::tokens::BARS;
-use crate::tokens::UNEQUAL;
+use crate::tokens::AMPERSANDS_KIND;
+use crate::tokens::ARROW_KIND;
+use crate::tokens::AT_LEAST_KIND;
+use crate::tokens::AT_MOST_KIND;
+use crate::tokens::BARS_KIND;
+use crate::tokens::UNEQUAL_KIND;
 use crate::tokens::token_at;
 ghost use mathlib.Core.Path.{_≡_};
 ghost use mathlib.Core.List.{_∷_};
 ghost use Prim.Native.Nat.{_+_, _≤_};
 ghost use lib.ListN.{length};
+ghost use Rattle.rule.specs.Grammar.{closeBrace};
 ghost use Rattle.rule.specs.Machine.{want, rel, unit, ands, ors, arrow, conj, sum, condition};
 ghost use Rattle.rule.specs.Memory.{mem};
 ghost use Rattle.rule.specs.Does.{relByte, Does};
@@ -29,19 +30,23 @@ fn rel_kind(k: u8) -> u8
     if k == b'=' {
         return kinds::EQUAL_BYTE;
     }
-    if k == UNEQUAL {
+    if k == UNEQUAL_KIND {
         return kinds::UNEQUAL_BYTE;
     }
     if k == b'<' {
         return kinds::LESS_BYTE;
     }
-    if k == AT_MOST {
+    if k == AT_MOST_KIND {
         return kinds::AT_MOST_BYTE;
     }
     if k == b'>' {
         return kinds::MORE_BYTE;
     }
-    if k == AT_LEAST { kinds::AT_LEAST_BYTE } else { 0 }
+    if k == AT_LEAST_KIND {
+        kinds::AT_LEAST_BYTE
+    } else {
+        0
+    }
 }
 
 // rel sum, and the frame of the relation.
@@ -95,7 +100,7 @@ fn braces(
     buf: &mut [u8; 512],
 ) -> Step
     requires { ⌜ at ≤ length (now text) ⌝ }
-    ensures { λ r. ⌜ Does (λ s. condition d (want 125 ∷ s)) (now (text .entry)) at (at + 1) (mem m (now (names .entry)) (now (buf .entry))) r (now (names .entry)) (now (buf .exit)) ⌝ }
+    ensures { λ r. ⌜ Does (λ s. condition d (want closeBrace ∷ s)) (now (text .entry)) at (at + 1) (mem m (now (names .entry)) (now (buf .entry))) r (now (names .entry)) (now (buf .exit)) ⌝ }
 {
     match condition(text, names, at, d, m, buf) {
         Step::No(q) => Step::No(q),
@@ -130,7 +135,7 @@ fn arrow(text: &[u8], names: &[u64; 12], at: usize, d: usize, m: Tally, buf: &mu
     ensures { λ r. ⌜ Does (λ s. arrow d ∷ s) (now (text .entry)) at at (mem m (now (names .entry)) (now (buf .entry))) r (now (names .entry)) (now (buf .exit)) ⌝ }
 {
     let t = token_at(text, at);
-    if t.kind != ARROW {
+    if t.kind != ARROW_KIND {
         return Step::Go(at, m);
     }
     let e = deeper(d);
@@ -146,7 +151,7 @@ fn ors(text: &[u8], names: &[u64; 12], at: usize, d: usize, m: Tally, buf: &mut 
     ensures { λ r. ⌜ Does (λ s. ors d ∷ s) (now (text .entry)) at at (mem m (now (names .entry)) (now (buf .entry))) r (now (names .entry)) (now (buf .exit)) ⌝ }
 {
     let t = token_at(text, at);
-    if t.kind != BARS {
+    if t.kind != BARS_KIND {
         return Step::Go(at, m);
     }
     match conj(text, names, t.end, d, m, buf) {
@@ -175,7 +180,7 @@ fn ands(text: &[u8], names: &[u64; 12], at: usize, d: usize, m: Tally, buf: &mut
     ensures { λ r. ⌜ Does (λ s. ands d ∷ s) (now (text .entry)) at at (mem m (now (names .entry)) (now (buf .entry))) r (now (names .entry)) (now (buf .exit)) ⌝ }
 {
     let t = token_at(text, at);
-    if t.kind != AMPERSANDS {
+    if t.kind != AMPERSANDS_KIND {
         return Step::Go(at, m);
     }
     match unit(text, names, t.end, d, m, buf) {

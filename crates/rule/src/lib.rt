@@ -9,7 +9,9 @@ mod numerals; // numerals.rt: the value of a run of digits
 mod memory; // memory.rt: what the reader remembers; refusals 5 and 6
 mod lookup; // lookup.rt: declared names; refusal 4
 mod emit; // emit.rt: a frame is put into the buffer
-mod sums; // sums.rt: readers of sums and references
+mod expect; // expect.rt: a token of one kind
+mod references; // references.rt: readers of references
+mod sums; // sums.rt: readers of sums
 mod conditions; // conditions.rt: readers of conditions
 mod header; // header.rt: readers of the declarations
 mod reader; // reader.rt: the reader of a whole rule; refusals 1 to 8

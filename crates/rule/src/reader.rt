@@ -9,9 +9,9 @@ use crate::limits;
 use crate::memory::Step;
 use crate::memory::Tally;
 use crate::parts::Role;
-use crate::tokens::END;
-use crate::tokens::EVENTS;
-use crate::tokens::NOTES;
+use crate::tokens::END_KIND;
+use crate::tokens::EVENTS_KIND;
+use crate::tokens::NOTES_KIND;
 use crate::tokens::token_at;
 ghost use mathlib.Core.Path.{_≡_};
 ghost use mathlib.Core.List.{List, []};
@@ -48,7 +48,7 @@ fn ended(text: &[u8], at: usize, m: Tally) -> Step
     ensures { λ r. ⌜ ((tb b : List ℕ) → runFrom (now (text .entry)) [] (mem m tb b) at ≡ answerOf r tb b) ⌝ }
 {
     let t = token_at(text, at);
-    if t.kind != END {
+    if t.kind != END_KIND {
         return Step::No(t.start);
     }
     Step::Go(at, m)
@@ -67,9 +67,9 @@ fn whole(text: &[u8], names: &mut [u64; 12], buf: &mut [u8; 512]) -> Step
         events: 0,
         notes: 0,
     };
-    match declarations(text, names, 0, EVENTS, Role::Event, m) {
+    match declarations(text, names, 0, EVENTS_KIND, Role::Event, m) {
         Step::No(q) => Step::No(q),
-        Step::Go(a, n) => match declarations(text, names, a, NOTES, Role::Note, n) {
+        Step::Go(a, n) => match declarations(text, names, a, NOTES_KIND, Role::Note, n) {
             Step::No(q) => Step::No(q),
             Step::Go(z, l) => match condition(text, names, z, 0, l, buf) {
                 Step::No(q) => Step::No(q),

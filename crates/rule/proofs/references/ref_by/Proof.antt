@@ -5,27 +5,22 @@ use Rattle.rule.specs.Machine.{step, finish}
 use Rattle.rule.proofs.Does.{idle, fail, take, beyond, inside}
 use native.Mathlib.Omega.{arith}
 use borrow.Author.Needs.{needs}
-use Rattle.rule.proofs.sums.ref_by.Statement.{statement}
-use Rattle.rule.proofs.sums.ref_by.Tie as tie
+use Rattle.rule.proofs.references.ref_by.Statement.{statement}
+use Rattle.rule.proofs.references.ref_by.Tie as tie
 
--- src/sums.rt:53:9
 token-at-requires : tie.Need-token-at-requires
 token-at-requires c κs = search needs
 
--- src/sums.rt:55:9
 returns : tie.Need-returns
 unfolding step finish
 returns c = fail (c .before .before .before .before .pre .0) (c .before .before .token-at .ensures) (λ s. rw (ne-eqb _ _ (c .if1 .taken))) (λ s. refl)
 
--- src/sums.rt:61:9
 sized-requires : tie.Need-sized-requires
 sized-requires c κs = let ne : c .before .before .token-at .result .kind ≡ 0 → ⊥ = λ e. omega arith in let i = inside (now (c .before .before .before .before .args .text)) (c .before .before .before .before .args .at) (c .before .before .token-at .result) (c .before .before .before .before .pre .0) (c .before .before .token-at .ensures) ne in i
 
--- src/sums.rt:62:21
 emit-reference-requires : tie.Need-emit-reference-requires
 emit-reference-requires c κs = let ne : c .before .before .before .before .token-at .result .kind ≡ 0 → ⊥ = λ e. omega arith in let i = inside (now (c .before .before .before .before .before .before .args .text)) (c .before .before .before .before .before .before .args .at) (c .before .before .before .before .token-at .result) (c .before .before .before .before .before .before .pre .0) (c .before .before .before .before .token-at .ensures) ne in (c .before .before .before .before .before .before .pre .1, c .before .before .before .before .before .before .pre .2, c .before .before .before .before .before .before .pre .3, i)
 
--- src/sums.rt:49:1
 returns-2 : tie.Need-returns-2
 unfolding step
 returns-2 c = let ne : c .before .before .before .before .before .token-at .result .kind ≡ 0 → ⊥ = λ e. omega arith in let v = beyond (now (c .before .before .before .before .before .before .before .args .text)) (c .before .before .before .before .before .before .before .args .at) (c .before .before .before .before .before .token-at .result) (c .before .before .before .before .before .before .before .pre .0) (c .before .before .before .before .before .token-at .ensures) ne in take (c .before .before .before .before .before .before .before .pre .0) (c .before .before .before .before .before .token-at .ensures) ne (idle (omega arith) (v .1) (rw (c .before .before .sized .ensures (now (c .before .before .before .before .before .before .before .args .names)) (now (c .before .before .before .before .before .before .before .args .buf))) at (c .emit-reference .ensures))) (λ s. rw (c .before .before .before .if1 .left))

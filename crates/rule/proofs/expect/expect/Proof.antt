@@ -5,19 +5,16 @@ use Rattle.rule.specs.Machine.{step, finish}
 use Rattle.rule.proofs.Does.{idle, fail, take, beyond}
 use native.Mathlib.Omega.{arith}
 use borrow.Author.Needs.{needs}
-use Rattle.rule.proofs.sums.expect.Statement.{statement}
-use Rattle.rule.proofs.sums.expect.Tie as tie
+use Rattle.rule.proofs.expect.expect.Statement.{statement}
+use Rattle.rule.proofs.expect.expect.Tie as tie
 
--- src/sums.rt:41:9
 token-at-requires : tie.Need-token-at-requires
 token-at-requires c κs = search needs
 
--- src/sums.rt:43:9
 returns : tie.Need-returns
 unfolding step
 returns c = λ tb b. let ne : c .before .before .token-at .result .kind ≡ 0 → ⊥ = λ e. omega arith in let v = beyond (now (c .before .before .before .before .args .text)) (c .before .before .before .before .args .at) (c .before .before .token-at .result) (c .before .before .before .before .pre .0) (c .before .before .token-at .ensures) ne in take (c .before .before .before .before .pre .0) (c .before .before .token-at .ensures) ne (idle (omega arith) (v .1) refl) (λ s. rw (eq-eqb _ _ (c .if1 .taken)))
 
--- src/sums.rt:37:1
 returns-2 : tie.Need-returns-2
 unfolding step finish
 returns-2 c = λ tb b. fail (c .before .before .before .before .pre .0) (c .before .before .token-at .ensures) (λ s. rw (ne-eqb _ _ (c .if1 .left))) (λ s. refl)

@@ -7,36 +7,29 @@ use Rattle.rule.specs.declared.parts.Shift.the-variants.{Unshifted}
 use Rattle.rule.proofs.Does.{then-does, idle, least, same, take, beyond}
 use native.Mathlib.Omega.{arith}
 use borrow.Author.Needs.{needs}
-use Rattle.rule.proofs.sums.ref_shift.Statement.{statement}
-use Rattle.rule.proofs.sums.ref_shift.Tie as tie
+use Rattle.rule.proofs.references.ref_shift.Statement.{statement}
+use Rattle.rule.proofs.references.ref_shift.Tie as tie
 
--- src/sums.rt:70:9
 token-at-requires : tie.Need-token-at-requires
 token-at-requires c κs = search needs
 
--- src/sums.rt:72:9
 ref-by-requires : tie.Need-ref-by-requires
 ref-by-requires c κs = let ne : c .before .before .before .token-at .result .kind ≡ 0 → ⊥ = λ e. omega arith in let v = beyond (now (c .before .before .before .before .before .args .text)) (c .before .before .before .before .before .args .at) (c .before .before .before .token-at .result) (c .before .before .before .before .before .pre .0) (c .before .before .before .token-at .ensures) ne in (v .1, c .before .before .before .before .before .pre .1, c .before .before .before .before .before .pre .2, c .before .before .before .before .before .pre .3)
 
--- src/sums.rt:72:9
 returns : tie.Need-returns
 unfolding step
 returns c = let ne : c .before .before .before .before .token-at .result .kind ≡ 0 → ⊥ = λ e. omega arith in let v = beyond (now (c .before .before .before .before .before .before .args .text)) (c .before .before .before .before .before .before .args .at) (c .before .before .before .before .token-at .result) (c .before .before .before .before .before .before .pre .0) (c .before .before .before .before .token-at .ensures) ne in take (c .before .before .before .before .before .before .pre .0) (c .before .before .before .before .token-at .ensures) ne (least (omega arith) (c .ref-by .ensures)) (λ s. rw (c .before .before .if1 .taken))
 
--- src/sums.rt:75:9
 ref-by-requires-2 : tie.Need-ref-by-requires-2
 ref-by-requires-2 c κs = let ne : c .before .before .before .before .before .token-at .result .kind ≡ 0 → ⊥ = λ e. omega arith in let v = beyond (now (c .before .before .before .before .before .before .before .args .text)) (c .before .before .before .before .before .before .before .args .at) (c .before .before .before .before .before .token-at .result) (c .before .before .before .before .before .before .before .pre .0) (c .before .before .before .before .before .token-at .ensures) ne in (v .1, c .before .before .before .before .before .before .before .pre .1, c .before .before .before .before .before .before .before .pre .2, c .before .before .before .before .before .before .before .pre .3)
 
--- src/sums.rt:75:9
 returns-2 : tie.Need-returns-2
 unfolding step
 returns-2 c = let ne : c .before .before .before .before .before .before .token-at .result .kind ≡ 0 → ⊥ = λ e. omega arith in let v = beyond (now (c .before .before .before .before .before .before .before .before .args .text)) (c .before .before .before .before .before .before .before .before .args .at) (c .before .before .before .before .before .before .token-at .result) (c .before .before .before .before .before .before .before .before .pre .0) (c .before .before .before .before .before .before .token-at .ensures) ne in take (c .before .before .before .before .before .before .before .before .pre .0) (c .before .before .before .before .before .before .token-at .ensures) ne (least (omega arith) (c .ref-by2 .ensures)) (λ s. rw (c .before .before .if2 .taken))
 
--- src/sums.rt:77:18
 emit-reference-requires : tie.Need-emit-reference-requires
 emit-reference-requires c κs = (c .before .before .before .before .before .before .before .pre .1, c .before .before .before .before .before .before .before .pre .2, c .before .before .before .before .before .before .before .pre .3, tt)
 
--- src/sums.rt:66:1
 returns-3 : tie.Need-returns-3
 unfolding step finish
 returns-3 c = same (c .before .before .before .before .before .before .before .before .pre .0) (c .before .before .before .before .before .before .token-at .ensures) (then-does (out (ref (c .before .before .before .before .before .before .before .before .args .n) (c .before .before .before .before .before .before .before .before .args .e) (c .before .before .before .before .before .before .before .before .args .f) Unshifted)) (idle (omega arith) (c .before .before .before .before .before .before .before .before .pre .0) refl) (c .emit-reference .ensures)) (λ s. rw (ne-eqb _ _ (c .before .before .before .before .if1 .left), ne-eqb _ _ (c .before .before .if2 .left))) (λ s. refl)

@@ -5,36 +5,29 @@ use Rattle.rule.specs.Machine.{step, finish}
 use Rattle.rule.proofs.Does.{least, fail, take, beyond, inside}
 use native.Mathlib.Omega.{arith}
 use borrow.Author.Needs.{needs}
-use Rattle.rule.proofs.sums.ref_index.Statement.{statement}
-use Rattle.rule.proofs.sums.ref_index.Tie as tie
+use Rattle.rule.proofs.references.ref_index.Statement.{statement}
+use Rattle.rule.proofs.references.ref_index.Tie as tie
 
--- src/sums.rt:99:9
 token-at-requires : tie.Need-token-at-requires
 token-at-requires c κs = search needs
 
--- src/sums.rt:105:13
 sized-requires : tie.Need-sized-requires
 sized-requires c κs = let ne : c .before .before .token-at .result .kind ≡ 0 → ⊥ = λ e. omega arith in let i = inside (now (c .before .before .before .before .args .text)) (c .before .before .before .before .args .at) (c .before .before .token-at .result) (c .before .before .before .before .pre .0) (c .before .before .token-at .ensures) ne in i
 
--- src/sums.rt:106:9
 ref-scaled-requires : tie.Need-ref-scaled-requires
 ref-scaled-requires c κs = let ne : c .before .before .before .before .token-at .result .kind ≡ 0 → ⊥ = λ e. omega arith in let v = beyond (now (c .before .before .before .before .before .before .args .text)) (c .before .before .before .before .before .before .args .at) (c .before .before .before .before .token-at .result) (c .before .before .before .before .before .before .pre .0) (c .before .before .before .before .token-at .ensures) ne in let i = inside (now (c .before .before .before .before .before .before .args .text)) (c .before .before .before .before .before .before .args .at) (c .before .before .before .before .token-at .result) (c .before .before .before .before .before .before .pre .0) (c .before .before .before .before .token-at .ensures) ne in (v .1, c .before .before .before .before .before .before .pre .1, c .before .before .before .before .before .before .pre .2, i)
 
--- src/sums.rt:106:9
 returns : tie.Need-returns
 unfolding step
 returns c = let ne : c .before .before .before .before .before .token-at .result .kind ≡ 0 → ⊥ = λ e. omega arith in let v = beyond (now (c .before .before .before .before .before .before .before .args .text)) (c .before .before .before .before .before .before .before .args .at) (c .before .before .before .before .before .token-at .result) (c .before .before .before .before .before .before .before .pre .0) (c .before .before .before .before .before .token-at .ensures) ne in take (c .before .before .before .before .before .before .before .pre .0) (c .before .before .before .before .before .token-at .ensures) ne (least (omega arith) (rw (c .before .before .sized .ensures (now (c .before .before .before .before .before .before .before .args .names)) (now (c .before .before .before .before .before .before .before .args .buf))) at (c .ref-scaled .ensures))) (λ s. rw (c .before .before .before .if1 .taken))
 
--- src/sums.rt:109:9
 ref-shift-requires : tie.Need-ref-shift-requires
 ref-shift-requires c κs = let ne : c .before .before .before .before .before .token-at .result .kind ≡ 0 → ⊥ = λ e. omega arith in let v = beyond (now (c .before .before .before .before .before .before .before .args .text)) (c .before .before .before .before .before .before .before .args .at) (c .before .before .before .before .before .token-at .result) (c .before .before .before .before .before .before .before .pre .0) (c .before .before .before .before .before .token-at .ensures) ne in (v .1, c .before .before .before .before .before .before .before .pre .1, c .before .before .before .before .before .before .before .pre .2, tt)
 
--- src/sums.rt:109:9
 returns-2 : tie.Need-returns-2
 unfolding step
 returns-2 c = let ne : c .before .before .before .before .before .before .token-at .result .kind ≡ 0 → ⊥ = λ e. omega arith in let v = beyond (now (c .before .before .before .before .before .before .before .before .args .text)) (c .before .before .before .before .before .before .before .before .args .at) (c .before .before .before .before .before .before .token-at .result) (c .before .before .before .before .before .before .before .before .pre .0) (c .before .before .before .before .before .before .token-at .ensures) ne in take (c .before .before .before .before .before .before .before .before .pre .0) (c .before .before .before .before .before .before .token-at .ensures) ne (least (omega arith) (c .ref-shift .ensures)) (λ s. rw (c .before .before .if2 .taken))
 
--- src/sums.rt:95:1
 returns-3 : tie.Need-returns-3
 unfolding step finish
 returns-3 c = fail (c .before .before .before .before .before .before .pre .0) (c .before .before .before .before .token-at .ensures) (λ s. rw (ne-eqb _ _ (c .before .before .if1 .left), ne-eqb _ _ (c .if2 .left))) (λ s. refl)

@@ -1,51 +1,42 @@
 use mathlib.Core.List.{[], _∷_}
 use denote.Ref.{now}
+use Rattle.rule.specs.Token.{indexKind}
 use Rattle.rule.specs.Machine.{want}
 use Rattle.rule.specs.Machine as machine
 use Rattle.rule.specs.declared.parts.Scale.the-variants.{Times}
 use Rattle.rule.proofs.Does.{then, stop, as-is}
 use native.Mathlib.Omega.{arith}
 use borrow.Author.Needs.{needs}
-use Rattle.rule.proofs.sums.ref_scaled.Statement.{statement}
-use Rattle.rule.proofs.sums.ref_scaled.Tie as tie
+use Rattle.rule.proofs.references.ref_scaled.Statement.{statement}
+use Rattle.rule.proofs.references.ref_scaled.Tie as tie
 
--- src/sums.rt:85:11
 expect-requires : tie.Need-expect-requires
 expect-requires c κs = search needs
 
--- src/sums.rt:86:18
 enum-known-q : tie.Need-enum-known-q
 enum-known-q c = search needs
 
--- src/sums.rt:87:18
 enum-known-a : tie.Need-enum-known-a
 enum-known-a c = search needs
 
--- src/sums.rt:87:33
 expect-requires-2 : tie.Need-expect-requires-2
 expect-requires-2 c κs = let d = as-is (c .before .before .before .expect .ensures [] []) (c .before .a .given .1) in let w = d .within in (omega arith, omega arith)
 
--- src/sums.rt:88:22
 enum-known-q-2 : tie.Need-enum-known-q-2
 enum-known-q-2 c = search needs
 
--- src/sums.rt:89:22
 enum-known-z : tie.Need-enum-known-z
 enum-known-z c = search needs
 
--- src/sums.rt:89:31
 ref-shift-requires : tie.Need-ref-shift-requires
 ref-shift-requires c κs = let d = as-is (c .before .before .before .before .before .before .before .before .expect .ensures (now (c .before .before .before .before .before .before .before .before .before .before .args .names)) (now (c .before .before .before .before .before .before .before .before .before .before .args .buf))) (c .before .before .before .before .before .before .a .given .1) in let w = d .within in let e = as-is (c .before .before .before .before .expect2 .ensures (now (c .before .before .before .before .before .before .before .before .before .before .args .names)) (now (c .before .before .before .before .before .before .before .before .before .before .args .buf))) (c .before .before .z .given .1) in let x = e .within in (x .1, c .before .before .before .before .before .before .before .before .before .before .pre .1, c .before .before .before .before .before .before .before .before .before .before .pre .2, c .before .before .before .before .before .before .before .before .before .before .pre .3)
 
--- src/sums.rt:81:1
 returns : tie.Need-returns
-returns c = stop (λ s. want 5 ∷ machine.ref-shift (c .before .before .before .before .before .args .n) (c .before .before .before .before .before .args .e) (Times (c .before .before .before .before .before .args .p)) ∷ s) _ (as-is (c .before .before .before .expect .ensures (now (c .before .before .before .before .before .args .names)) (now (c .before .before .before .before .before .args .buf))) (c .before .q .given .1))
+returns c = stop (λ s. want indexKind ∷ machine.ref-shift (c .before .before .before .before .before .args .n) (c .before .before .before .before .before .args .e) (Times (c .before .before .before .before .before .args .p)) ∷ s) _ (as-is (c .before .before .before .expect .ensures (now (c .before .before .before .before .before .args .names)) (now (c .before .before .before .before .before .args .buf))) (c .before .q .given .1))
 
--- src/sums.rt:81:1
 returns-2 : tie.Need-returns-2
 returns-2 c = let d = as-is (c .before .before .before .before .before .before .before .expect .ensures (now (c .before .before .before .before .before .before .before .before .before .args .names)) (now (c .before .before .before .before .before .before .before .before .before .args .buf))) (c .before .before .before .before .before .a .given .1) in let w = d .within in then d (stop (λ s. machine.ref-shift (c .before .before .before .before .before .before .before .before .before .args .n) (c .before .before .before .before .before .before .before .before .before .args .e) (Times (c .before .before .before .before .before .before .before .before .before .args .p)) ∷ s) (c .before .before .before .before .before .before .before .before .before .args .at) (as-is (c .before .before .before .expect2 .ensures (now (c .before .before .before .before .before .before .before .before .before .args .names)) (now (c .before .before .before .before .before .before .before .before .before .args .buf))) (c .before .q2 .given .1))) (omega arith)
 
--- src/sums.rt:81:1
 returns-3 : tie.Need-returns-3
 returns-3 c = let d = as-is (c .before .before .before .before .before .before .before .before .before .expect .ensures (now (c .before .before .before .before .before .before .before .before .before .before .before .args .names)) (now (c .before .before .before .before .before .before .before .before .before .before .before .args .buf))) (c .before .before .before .before .before .before .before .a .given .1) in let w = d .within in let e = as-is (c .before .before .before .before .before .expect2 .ensures (now (c .before .before .before .before .before .before .before .before .before .before .before .args .names)) (now (c .before .before .before .before .before .before .before .before .before .before .before .args .buf))) (c .before .before .before .z .given .1) in let x = e .within in then d (then {lo″ = c .before .before .before .before .before .before .before .before .before .before .before .args .at} e (c .ref-shift .ensures) (omega arith)) (omega arith)
 

@@ -1,50 +1,41 @@
 use mathlib.Core.List.{_∷_}
 use denote.Ref.{now}
+use Rattle.rule.specs.Grammar.{closeParen, closeBracket}
 use Rattle.rule.specs.Machine.{want}
 use Rattle.rule.specs.Machine as machine
 use Rattle.rule.proofs.Does.{then, stop, as-is}
 use native.Mathlib.Omega.{arith}
 use borrow.Author.Needs.{needs}
-use Rattle.rule.proofs.sums.ref_brackets.Statement.{statement}
-use Rattle.rule.proofs.sums.ref_brackets.Tie as tie
+use Rattle.rule.proofs.references.ref_brackets.Statement.{statement}
+use Rattle.rule.proofs.references.ref_brackets.Tie as tie
 
--- src/sums.rt:130:11
 expect-requires : tie.Need-expect-requires
 expect-requires c κs = search needs
 
--- src/sums.rt:131:18
 enum-known-q : tie.Need-enum-known-q
 enum-known-q c = search needs
 
--- src/sums.rt:132:18
 enum-known-a : tie.Need-enum-known-a
 enum-known-a c = search needs
 
--- src/sums.rt:132:33
 ref-index-requires : tie.Need-ref-index-requires
 ref-index-requires c κs = let d = as-is (c .before .before .before .before .expect .ensures (now (c .before .before .before .before .before .before .args .names)) (now (c .before .before .before .before .before .before .args .buf))) (c .before .before .a .given .1) in let w = d .within in (w .1, c .before .before .before .before .before .before .pre .1, c .before .before .before .before .before .before .pre .2)
 
--- src/sums.rt:133:22
 enum-known-q-2 : tie.Need-enum-known-q-2
 enum-known-q-2 c = search needs
 
--- src/sums.rt:134:22
 enum-known-z : tie.Need-enum-known-z
 enum-known-z c = search needs
 
--- src/sums.rt:134:31
 ref-end-requires : tie.Need-ref-end-requires
 ref-end-requires c κs = let d = as-is (c .before .before .before .before .before .before .before .before .expect .ensures (now (c .before .before .before .before .before .before .before .before .before .before .args .names)) (now (c .before .before .before .before .before .before .before .before .before .before .args .buf))) (c .before .before .before .before .before .before .a .given .1) in let w = d .within in let e = as-is (c .before .before .before .ref-index .ensures) (c .before .z .given .1) in let x = e .within in x .1
 
--- src/sums.rt:126:1
 returns : tie.Need-returns
-returns c = stop (λ s. machine.ref-index (c .before .before .before .before .before .args .n) (c .before .before .before .before .before .args .e) ∷ want 93 ∷ want 41 ∷ s) _ (as-is (c .before .before .before .expect .ensures (now (c .before .before .before .before .before .args .names)) (now (c .before .before .before .before .before .args .buf))) (c .before .q .given .1))
+returns c = stop (λ s. machine.ref-index (c .before .before .before .before .before .args .n) (c .before .before .before .before .before .args .e) ∷ want closeBracket ∷ want closeParen ∷ s) _ (as-is (c .before .before .before .expect .ensures (now (c .before .before .before .before .before .args .names)) (now (c .before .before .before .before .before .args .buf))) (c .before .q .given .1))
 
--- src/sums.rt:126:1
 returns-2 : tie.Need-returns-2
-returns-2 c = let d = as-is (c .before .before .before .before .before .before .before .before .expect .ensures (now (c .before .before .before .before .before .before .before .before .before .before .args .names)) (now (c .before .before .before .before .before .before .before .before .before .before .args .buf))) (c .before .before .before .before .before .before .a .given .1) in let w = d .within in then d (stop (λ s. want 93 ∷ want 41 ∷ s) (c .before .before .before .before .before .before .before .before .before .before .args .at) (as-is (c .before .before .before .ref-index .ensures) (c .before .q2 .given .1))) (omega arith)
+returns-2 c = let d = as-is (c .before .before .before .before .before .before .before .before .expect .ensures (now (c .before .before .before .before .before .before .before .before .before .before .args .names)) (now (c .before .before .before .before .before .before .before .before .before .before .args .buf))) (c .before .before .before .before .before .before .a .given .1) in let w = d .within in then d (stop (λ s. want closeBracket ∷ want closeParen ∷ s) (c .before .before .before .before .before .before .before .before .before .before .args .at) (as-is (c .before .before .before .ref-index .ensures) (c .before .q2 .given .1))) (omega arith)
 
--- src/sums.rt:126:1
 returns-3 : tie.Need-returns-3
 returns-3 c = let d = as-is (c .before .before .before .before .before .before .before .before .before .expect .ensures (now (c .before .before .before .before .before .before .before .before .before .before .before .args .names)) (now (c .before .before .before .before .before .before .before .before .before .before .before .args .buf))) (c .before .before .before .before .before .before .before .a .given .1) in let w = d .within in let e = as-is (c .before .before .before .before .ref-index .ensures) (c .before .before .z .given .1) in let x = e .within in then d (then {lo″ = c .before .before .before .before .before .before .before .before .before .before .before .args .at} e (c .ref-end .ensures _ _) (omega arith)) (omega arith)
 

@@ -4,30 +4,24 @@ use Rattle.rule.specs.Machine as machine
 use Rattle.rule.proofs.Does.{then, stop, as-is}
 use native.Mathlib.Omega.{arith}
 use borrow.Author.Needs.{needs}
-use Rattle.rule.proofs.sums.reference.Statement.{statement}
-use Rattle.rule.proofs.sums.reference.Tie as tie
+use Rattle.rule.proofs.references.reference.Statement.{statement}
+use Rattle.rule.proofs.references.reference.Tie as tie
 
--- src/sums.rt:161:11
 expect-requires : tie.Need-expect-requires
 expect-requires c κs = search needs
 
--- src/sums.rt:162:18
 enum-known-q : tie.Need-enum-known-q
 enum-known-q c = search needs
 
--- src/sums.rt:163:18
 enum-known-a : tie.Need-enum-known-a
 enum-known-a c = search needs
 
--- src/sums.rt:163:27
 ref-event-requires : tie.Need-ref-event-requires
 ref-event-requires c κs = let d = as-is (c .before .before .before .before .expect .ensures (now (c .before .before .before .before .before .before .args .names)) (now (c .before .before .before .before .before .before .args .buf))) (c .before .before .a .given .1) in let w = d .within in (w .1, c .before .before .before .before .before .before .pre .1)
 
--- src/sums.rt:157:1
 returns : tie.Need-returns
 returns c = stop (λ s. machine.ref-event (c .before .before .before .before .before .args .n) ∷ s) _ (as-is (c .before .before .before .expect .ensures (now (c .before .before .before .before .before .args .names)) (now (c .before .before .before .before .before .args .buf))) (c .before .q .given .1))
 
--- src/sums.rt:157:1
 returns-2 : tie.Need-returns-2
 returns-2 c = let d = as-is (c .before .before .before .before .before .expect .ensures (now (c .before .before .before .before .before .before .before .args .names)) (now (c .before .before .before .before .before .before .before .args .buf))) (c .before .before .before .a .given .1) in let w = d .within in then d (c .ref-event .ensures) (omega arith)
 
