@@ -12,12 +12,11 @@ use rule::Frame;
 use rule::kinds;
 ghost use mathlib.Core.Path.{_≡_};
 ghost use mathlib.Core.List.{List};
-ghost use Prim.Native.Nat.{ℕ, _≤_, _<_};
-ghost use lib.IntN.{ℤ};
+ghost use Prim.Native.Nat.{ℕ, _<_};
 ghost use lib.ListN.{length};
-ghost use Rattle.rule.specs.Frames.{kindOf};
+ghost use Rattle.rule.specs.Frames.{kindOf, relationAt};
 ghost use Rattle.verdict.specs.Marks.{Judgeable};
-ghost use Rattle.verdict.specs.Pass.{withReference, passBy, judgementOf};
+ghost use Rattle.verdict.specs.Pass.{withReference, withRelation, passBy, judgementOf};
 ghost use Rattle.verdict.specs.Stacks.{passOf, Begun};
 
 // What a step carries on beside the arrays: the numbers of sums and of conditions; whether a reference since the last relation is
@@ -49,9 +48,9 @@ fn put_reference(sums: &mut [i64; 64], top: Top, mark: u8, note: i32) -> Top
 
 // A relation of the two sums that are there. Called by step.
 fn put_relation(kind: u8, sums: &mut [i64; 64], conds: &mut [u8; 64], top: Top) -> Top
-    requires { ⌜ ((0x21 ≤ kind) × (kind < 0x27)) × ((length (now conds) ≡ 64) × ((top .conds < 64) × (top .sums ≡ 2))) ⌝ }
+    requires { ⌜ (length (now conds) ≡ 64) × ((top .conds < 64) × (top .sums ≡ 2)) ⌝ }
     ensures kept { λ r. ⌜ (now (sums .exit) ≡ now (sums .entry)) × (length (now (conds .exit)) ≡ 64) ⌝ }
-    ensures { λ r. ⌜ ((v : ℤ) (i mark : ℕ) (note : ℤ) → passOf (now (sums .exit)) (now (conds .exit)) r ≡ passBy (kindOf kind) v i mark note (passOf (now (sums .entry)) (now (conds .entry)) top)) ⌝ }
+    ensures { λ r. ⌜ passOf (now (sums .exit)) (now (conds .exit)) r ≡ withRelation (passOf (now (sums .entry)) (now (conds .entry)) top) (relationAt kind) ⌝ }
 {
     let at = top.conds;
     let t = kleene::of_relation(top.missing, stacks::relate(kind, sums));
