@@ -18,7 +18,7 @@ ghost use mathlib.Core.Path.{_≡_};
 ghost use mathlib.Core.List.{_∷_};
 ghost use Prim.Native.Nat.{_+_, _≤_};
 ghost use lib.ListN.{length};
-ghost use Rattle.rule.specs.Grammar.{closeBrace};
+ghost use Rattle.rule.specs.Class.{closeBrace};
 ghost use Rattle.rule.specs.Machine.{want, rel, unit, ands, ors, arrow, conj, sum, condition};
 ghost use Rattle.rule.specs.Memory.{mem};
 ghost use Rattle.rule.specs.Does.{relByte, Does};
@@ -59,7 +59,8 @@ fn compare(
     buf: &mut [u8; 512],
 ) -> Step
     requires { ⌜ at ≤ length (now text) ⌝ }
-    ensures { λ r. ⌜ Does (λ s. rel d ∷ s) (now (text .entry)) at (at + 1) (mem m (now (names .entry)) (now (buf .entry))) r (now (names .entry)) (now (buf .exit)) ⌝ }
+    ensures { λ r. ⌜ Does (λ s. rel d ∷ s) (now (text .entry)) at (at + 1)
+        (mem m (now (names .entry)) (now (buf .entry))) r (now (names .entry)) (now (buf .exit)) ⌝ }
 {
     let t = token_at(text, at);
     let kind = rel_kind(t.kind);
@@ -82,7 +83,8 @@ fn relation(
     buf: &mut [u8; 512],
 ) -> Step
     requires { ⌜ at ≤ length (now text) ⌝ }
-    ensures { λ r. ⌜ Does (λ s. sum d (rel d ∷ s)) (now (text .entry)) at (at + 1) (mem m (now (names .entry)) (now (buf .entry))) r (now (names .entry)) (now (buf .exit)) ⌝ }
+    ensures { λ r. ⌜ Does (λ s. sum d (rel d ∷ s)) (now (text .entry)) at (at + 1)
+        (mem m (now (names .entry)) (now (buf .entry))) r (now (names .entry)) (now (buf .exit)) ⌝ }
 {
     match sum(text, names, at, d, m, buf) {
         Step::No(q) => Step::No(q),
@@ -100,7 +102,8 @@ fn braces(
     buf: &mut [u8; 512],
 ) -> Step
     requires { ⌜ at ≤ length (now text) ⌝ }
-    ensures { λ r. ⌜ Does (λ s. condition d (want closeBrace ∷ s)) (now (text .entry)) at (at + 1) (mem m (now (names .entry)) (now (buf .entry))) r (now (names .entry)) (now (buf .exit)) ⌝ }
+    ensures { λ r. ⌜ Does (λ s. condition d (want closeBrace ∷ s)) (now (text .entry)) at (at + 1)
+        (mem m (now (names .entry)) (now (buf .entry))) r (now (names .entry)) (now (buf .exit)) ⌝ }
 {
     match condition(text, names, at, d, m, buf) {
         Step::No(q) => Step::No(q),
@@ -118,7 +121,8 @@ pub fn condition(
     buf: &mut [u8; 512],
 ) -> Step
     requires { ⌜ at ≤ length (now text) ⌝ }
-    ensures { λ r. ⌜ Does (λ s. condition d s) (now (text .entry)) at (at + 1) (mem m (now (names .entry)) (now (buf .entry))) r (now (names .entry)) (now (buf .exit)) ⌝ }
+    ensures { λ r. ⌜ Does (λ s. condition d s) (now (text .entry)) at (at + 1)
+        (mem m (now (names .entry)) (now (buf .entry))) r (now (names .entry)) (now (buf .exit)) ⌝ }
 {
     match conj(text, names, at, d, m, buf) {
         Step::No(q) => Step::No(q),
@@ -132,7 +136,8 @@ pub fn condition(
 // ["->" cond]
 fn arrow(text: &[u8], names: &[u64; 12], at: usize, d: usize, m: Tally, buf: &mut [u8; 512]) -> Step
     requires { ⌜ at ≤ length (now text) ⌝ }
-    ensures { λ r. ⌜ Does (λ s. arrow d ∷ s) (now (text .entry)) at at (mem m (now (names .entry)) (now (buf .entry))) r (now (names .entry)) (now (buf .exit)) ⌝ }
+    ensures { λ r. ⌜ Does (λ s. arrow d ∷ s) (now (text .entry)) at at
+        (mem m (now (names .entry)) (now (buf .entry))) r (now (names .entry)) (now (buf .exit)) ⌝ }
 {
     let t = token_at(text, at);
     if t.kind != ARROW_KIND {
@@ -148,7 +153,8 @@ fn arrow(text: &[u8], names: &[u64; 12], at: usize, d: usize, m: Tally, buf: &mu
 // {"||" conj}
 fn ors(text: &[u8], names: &[u64; 12], at: usize, d: usize, m: Tally, buf: &mut [u8; 512]) -> Step
     requires { ⌜ at ≤ length (now text) ⌝ }
-    ensures { λ r. ⌜ Does (λ s. ors d ∷ s) (now (text .entry)) at at (mem m (now (names .entry)) (now (buf .entry))) r (now (names .entry)) (now (buf .exit)) ⌝ }
+    ensures { λ r. ⌜ Does (λ s. ors d ∷ s) (now (text .entry)) at at
+        (mem m (now (names .entry)) (now (buf .entry))) r (now (names .entry)) (now (buf .exit)) ⌝ }
 {
     let t = token_at(text, at);
     if t.kind != BARS_KIND {
@@ -166,7 +172,8 @@ fn ors(text: &[u8], names: &[u64; 12], at: usize, d: usize, m: Tally, buf: &mut 
 // conj: unit {"&&" unit}
 fn conj(text: &[u8], names: &[u64; 12], at: usize, d: usize, m: Tally, buf: &mut [u8; 512]) -> Step
     requires { ⌜ at ≤ length (now text) ⌝ }
-    ensures { λ r. ⌜ Does (λ s. conj d s) (now (text .entry)) at (at + 1) (mem m (now (names .entry)) (now (buf .entry))) r (now (names .entry)) (now (buf .exit)) ⌝ }
+    ensures { λ r. ⌜ Does (λ s. conj d s) (now (text .entry)) at (at + 1)
+        (mem m (now (names .entry)) (now (buf .entry))) r (now (names .entry)) (now (buf .exit)) ⌝ }
 {
     match unit(text, names, at, d, m, buf) {
         Step::No(q) => Step::No(q),
@@ -177,7 +184,8 @@ fn conj(text: &[u8], names: &[u64; 12], at: usize, d: usize, m: Tally, buf: &mut
 // {"&&" unit}
 fn ands(text: &[u8], names: &[u64; 12], at: usize, d: usize, m: Tally, buf: &mut [u8; 512]) -> Step
     requires { ⌜ at ≤ length (now text) ⌝ }
-    ensures { λ r. ⌜ Does (λ s. ands d ∷ s) (now (text .entry)) at at (mem m (now (names .entry)) (now (buf .entry))) r (now (names .entry)) (now (buf .exit)) ⌝ }
+    ensures { λ r. ⌜ Does (λ s. ands d ∷ s) (now (text .entry)) at at
+        (mem m (now (names .entry)) (now (buf .entry))) r (now (names .entry)) (now (buf .exit)) ⌝ }
 {
     let t = token_at(text, at);
     if t.kind != AMPERSANDS_KIND {
@@ -195,7 +203,8 @@ fn ands(text: &[u8], names: &[u64; 12], at: usize, d: usize, m: Tally, buf: &mut
 // unit: "!" unit, or "{" cond "}", or sum rel sum
 fn unit(text: &[u8], names: &[u64; 12], at: usize, d: usize, m: Tally, buf: &mut [u8; 512]) -> Step
     requires { ⌜ at ≤ length (now text) ⌝ }
-    ensures { λ r. ⌜ Does (λ s. unit d ∷ s) (now (text .entry)) at (at + 1) (mem m (now (names .entry)) (now (buf .entry))) r (now (names .entry)) (now (buf .exit)) ⌝ }
+    ensures { λ r. ⌜ Does (λ s. unit d ∷ s) (now (text .entry)) at (at + 1)
+        (mem m (now (names .entry)) (now (buf .entry))) r (now (names .entry)) (now (buf .exit)) ⌝ }
 {
     let t = token_at(text, at);
     let e = deeper(d);

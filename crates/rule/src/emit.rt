@@ -59,7 +59,8 @@ fn emit(buf: &mut [u8; 512], m: Tally, f: Fields) -> Tally
 
 // A frame that uses its kind alone.
 pub fn emit_kind(buf: &mut [u8; 512], m: Tally, kind: u8) -> Tally
-    ensures { λ r. ⌜ ((text tb : List ℕ) → mem r tb (now (buf .exit)) ≡ acts text (out (plain kind)) (mem m tb (now (buf .entry)))) ⌝ }
+    ensures { λ r. ⌜ ((text tb : List ℕ) → mem r tb (now (buf .exit))
+        ≡ acts text (out (plain kind)) (mem m tb (now (buf .entry)))) ⌝ }
 {
     emit(
         buf,
@@ -94,7 +95,9 @@ pub fn emit_instance(buf: &mut [u8; 512], m: Tally) -> Tally
 // The frame of the literal at `p`, after its limit.
 pub fn emit_literal(text: &[u8], buf: &mut [u8; 512], m: Tally, p: Place) -> Tally
     requires { ⌜ Inside (length (now text)) p ⌝ }
-    ensures { λ r. ⌜ ((tb : List ℕ) → mem r tb (now (buf .exit)) ≡ acts (now (text .entry)) (out (lit p)) (acts (now (text .entry)) (sized Limit.OfLiteral p) (mem m tb (now (buf .entry))))) ⌝ }
+    ensures { λ r. ⌜ ((tb : List ℕ) → mem r tb (now (buf .exit))
+        ≡ acts (now (text .entry)) (out (lit p))
+        (acts (now (text .entry)) (sized Limit.OfLiteral p) (mem m tb (now (buf .entry))))) ⌝ }
 {
     let n = sized(text, Limit::OfLiteral, p, m);
     let v = number_at(text, p);
@@ -157,8 +160,10 @@ pub fn emit_reference(
     f: Scale,
     o: Shift,
 ) -> Tally
-    requires { ⌜ Inside (length (now text)) n × Inside (length (now text)) e × InsideScale (length (now text)) f × InsideShift (length (now text)) o ⌝ }
-    ensures { λ r. ⌜ mem r (now (names .entry)) (now (buf .exit)) ≡ acts (now (text .entry)) (out (ref n e f o)) (mem m (now (names .entry)) (now (buf .entry))) ⌝ }
+    requires { ⌜ Inside (length (now text)) n × Inside (length (now text)) e × InsideScale (length (now text)) f
+        × InsideShift (length (now text)) o ⌝ }
+    ensures { λ r. ⌜ mem r (now (names .entry)) (now (buf .exit))
+        ≡ acts (now (text .entry)) (out (ref n e f o)) (mem m (now (names .entry)) (now (buf .entry))) ⌝ }
 {
     let event = lookup(names, Role::Event, name_at(text, e), m);
     let note = lookup(names, Role::Note, name_at(text, n), m);

@@ -84,7 +84,8 @@ fn declared(names: &[u64; 12], role: Role, c: u64, m: Tally) -> bool
 // After the use of the name at `p`.
 pub fn named(text: &[u8], names: &[u64; 12], role: Role, p: Place, m: Tally) -> Tally
     requires { ⌜ Inside (length (now text)) p ⌝ }
-    ensures { λ r. ⌜ ((b : List ℕ) → mem r (now (names .entry)) b ≡ acts (now (text .entry)) (uses role p) (mem m (now (names .entry)) b)) ⌝ }
+    ensures { λ r. ⌜ ((b : List ℕ) → mem r (now (names .entry)) b
+        ≡ acts (now (text .entry)) (uses role p) (mem m (now (names .entry)) b)) ⌝ }
 {
     let c = name_at(text, p);
     if declared(names, role, c, m) {
@@ -95,7 +96,9 @@ pub fn named(text: &[u8], names: &[u64; 12], role: Role, p: Place, m: Tally) -> 
 
 // Whether a declaration is bad: over 12 letters, declared already, or one too many.
 fn misnamed(names: &[u64; 12], role: Role, c: u64, m: Tally) -> bool
-    ensures { λ r. ⌜ ((b : List ℕ) → r ≡ cond (leb longName c) true (cond (among c (table role (mem m (now (names .entry)) b))) true (leb (room role) (length (table role (mem m (now (names .entry)) b)))))) ⌝ }
+    ensures { λ r. ⌜ ((b : List ℕ) → r ≡ cond (leb longName c) true
+        (cond (among c (table role (mem m (now (names .entry)) b))) true
+        (leb (room role) (length (table role (mem m (now (names .entry)) b)))))) ⌝ }
 {
     if LONG_NAME <= c {
         return true;
@@ -109,7 +112,8 @@ fn misnamed(names: &[u64; 12], role: Role, c: u64, m: Tally) -> bool
 // After the declaration of an event.
 fn declare_event(text: &[u8], names: &mut [u64; 12], p: Place, m: Tally) -> Tally
     requires { ⌜ Inside (length (now text)) p × (length (now names) ≡ 12) ⌝ }
-    ensures { λ r. ⌜ ((b : List ℕ) → mem r (now (names .exit)) b ≡ acts (now (text .entry)) (declare Role.Event p) (mem m (now (names .entry)) b)) × (length (now (names .exit)) ≡ 12) ⌝ }
+    ensures { λ r. ⌜ ((b : List ℕ) → mem r (now (names .exit)) b
+        ≡ acts (now (text .entry)) (declare Role.Event p) (mem m (now (names .entry)) b)) × (length (now (names .exit)) ≡ 12) ⌝ }
 {
     let c = name_at(text, p);
     if misnamed(names, Role::Event, c, m) {
@@ -130,7 +134,8 @@ fn declare_event(text: &[u8], names: &mut [u64; 12], p: Place, m: Tally) -> Tall
 // After the declaration of a note.
 fn declare_note(text: &[u8], names: &mut [u64; 12], p: Place, m: Tally) -> Tally
     requires { ⌜ Inside (length (now text)) p × (length (now names) ≡ 12) ⌝ }
-    ensures { λ r. ⌜ ((b : List ℕ) → mem r (now (names .exit)) b ≡ acts (now (text .entry)) (declare Role.Note p) (mem m (now (names .entry)) b)) × (length (now (names .exit)) ≡ 12) ⌝ }
+    ensures { λ r. ⌜ ((b : List ℕ) → mem r (now (names .exit)) b
+        ≡ acts (now (text .entry)) (declare Role.Note p) (mem m (now (names .entry)) b)) × (length (now (names .exit)) ≡ 12) ⌝ }
 {
     let c = name_at(text, p);
     if misnamed(names, Role::Note, c, m) {
@@ -151,7 +156,8 @@ fn declare_note(text: &[u8], names: &mut [u64; 12], p: Place, m: Tally) -> Tally
 // After the declaration of the name at `p`.
 pub fn declare(text: &[u8], names: &mut [u64; 12], role: Role, p: Place, m: Tally) -> Tally
     requires { ⌜ Inside (length (now text)) p × (length (now names) ≡ 12) ⌝ }
-    ensures { λ r. ⌜ ((b : List ℕ) → mem r (now (names .exit)) b ≡ acts (now (text .entry)) (declare role p) (mem m (now (names .entry)) b)) × (length (now (names .exit)) ≡ 12) ⌝ }
+    ensures { λ r. ⌜ ((b : List ℕ) → mem r (now (names .exit)) b
+        ≡ acts (now (text .entry)) (declare role p) (mem m (now (names .entry)) b)) × (length (now (names .exit)) ≡ 12) ⌝ }
 {
     match role {
         Role::Event => declare_event(text, names, p, m),

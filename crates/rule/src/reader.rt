@@ -57,7 +57,8 @@ fn ended(text: &[u8], at: usize, m: Tally) -> Step
 // rule: "events" name {name} ";" "notes" name {name} ";" cond
 fn whole(text: &[u8], names: &mut [u64; 12], buf: &mut [u8; 512]) -> Step
     requires { ⌜ length (now names) ≡ 12 ⌝ }
-    ensures { λ r. ⌜ runFrom (now (text .entry)) start (mem unread (now (names .entry)) (now (buf .entry))) 0 ≡ answerOf r (now (names .exit)) (now (buf .exit)) ⌝ }
+    ensures { λ r. ⌜ runFrom (now (text .entry)) start (mem unread (now (names .entry)) (now (buf .entry))) 0
+        ≡ answerOf r (now (names .exit)) (now (buf .exit)) ⌝ }
 {
     let m = Tally {
         count: 0,
@@ -82,7 +83,8 @@ fn whole(text: &[u8], names: &mut [u64; 12], buf: &mut [u8; 512]) -> Step
 // Refusals 4 to 8 of what was read; else the frames are handed over.
 fn conclude(buf: &[u8], frames: &mut [u8], m: Tally) -> Reading
     requires { ⌜ (length (now buf) ≡ 512) × (length (now frames) ≡ 512) × (m .name ≤ 1025) × (m .number ≤ 1025) ⌝ }
-    ensures { λ r. ⌜ ((tb : List ℕ) → (r ≡ concluded (now (frames .entry)) (mem m tb (now (buf .entry))) .0) × (now (frames .exit) ≡ concluded (now (frames .entry)) (mem m tb (now (buf .entry))) .1)) ⌝ }
+    ensures { λ r. ⌜ ((tb : List ℕ) → (r ≡ concluded (now (frames .entry)) (mem m tb (now (buf .entry))) .0)
+        × (now (frames .exit) ≡ concluded (now (frames .entry)) (mem m tb (now (buf .entry))) .1)) ⌝ }
 {
     if m.name != 0 {
         return refuse(4, (m.name - 1) as u32);
@@ -111,7 +113,8 @@ fn conclude(buf: &[u8], frames: &mut [u8], m: Tally) -> Reading
 // Reads a rule's text into frames, for every text and every buffer: refusals 1 to 8 in this order. A refusal leaves the buffer
 // as it was; else it holds the frames, and zero after the last.
 pub fn read(text: &[u8], frames: &mut [u8]) -> Reading
-    ensures { λ r. ⌜ (r ≡ readOf (now (text .entry)) (now (frames .entry)) .0) × (now (frames .exit) ≡ readOf (now (text .entry)) (now (frames .entry)) .1) ⌝ }
+    ensures { λ r. ⌜ (r ≡ readOf (now (text .entry)) (now (frames .entry)) .0)
+        × (now (frames .exit) ≡ readOf (now (text .entry)) (now (frames .entry)) .1) ⌝ }
     ensures { λ r. ⌜ readTold r ≡ readTold (readOf (now (text .entry)) (now (frames .entry)) .0) ⌝ }
 {
     if frames.len() != limits::BUFFER_BYTES {

@@ -20,7 +20,7 @@ ghost use mathlib.Core.List.{List, _∷_};
 ghost use Prim.Native.Nat.{ℕ, _+_, _≤_};
 ghost use lib.ListN.{length};
 ghost use Rattle.rule.specs.Token.{indexKind};
-ghost use Rattle.rule.specs.Grammar.{openParen, closeParen, openBracket, closeBracket, star};
+ghost use Rattle.rule.specs.Class.{openParen, closeParen, openBracket, closeBracket, star};
 ghost use Rattle.rule.specs.Machine.{want, ref-event, ref-index, ref-shift, ref-by};
 ghost use Rattle.rule.specs.Memory.{mem};
 ghost use Rattle.rule.specs.Does.{Does, Inside, InsideScale};
@@ -37,8 +37,10 @@ fn ref_by(
     m: Tally,
     buf: &mut [u8; 512],
 ) -> Step
-    requires { ⌜ (at ≤ length (now text)) × Inside (length (now text)) n × Inside (length (now text)) e × InsideScale (length (now text)) f ⌝ }
-    ensures { λ r. ⌜ Does (λ s. ref-by n e f g ∷ s) (now (text .entry)) at (at + 1) (mem m (now (names .entry)) (now (buf .entry))) r (now (names .entry)) (now (buf .exit)) ⌝ }
+    requires { ⌜ (at ≤ length (now text)) × Inside (length (now text)) n × Inside (length (now text)) e
+        × InsideScale (length (now text)) f ⌝ }
+    ensures { λ r. ⌜ Does (λ s. ref-by n e f g ∷ s) (now (text .entry)) at (at + 1)
+        (mem m (now (names .entry)) (now (buf .entry))) r (now (names .entry)) (now (buf .exit)) ⌝ }
 {
     let t = token_at(text, at);
     if t.kind != NUMBER_KIND {
@@ -66,8 +68,10 @@ fn ref_shift(
     m: Tally,
     buf: &mut [u8; 512],
 ) -> Step
-    requires { ⌜ (at ≤ length (now text)) × Inside (length (now text)) n × Inside (length (now text)) e × InsideScale (length (now text)) f ⌝ }
-    ensures { λ r. ⌜ Does (λ s. ref-shift n e f ∷ s) (now (text .entry)) at at (mem m (now (names .entry)) (now (buf .entry))) r (now (names .entry)) (now (buf .exit)) ⌝ }
+    requires { ⌜ (at ≤ length (now text)) × Inside (length (now text)) n × Inside (length (now text)) e
+        × InsideScale (length (now text)) f ⌝ }
+    ensures { λ r. ⌜ Does (λ s. ref-shift n e f ∷ s) (now (text .entry)) at at
+        (mem m (now (names .entry)) (now (buf .entry))) r (now (names .entry)) (now (buf .exit)) ⌝ }
 {
     let t = token_at(text, at);
     if t.kind == b'+' {
@@ -93,8 +97,10 @@ fn ref_scaled(
     m: Tally,
     buf: &mut [u8; 512],
 ) -> Step
-    requires { ⌜ (at ≤ length (now text)) × Inside (length (now text)) n × Inside (length (now text)) e × Inside (length (now text)) p ⌝ }
-    ensures { λ r. ⌜ Does (λ s. want star ∷ want indexKind ∷ ref-shift n e (Scale.Times p) ∷ s) (now (text .entry)) at at (mem m (now (names .entry)) (now (buf .entry))) r (now (names .entry)) (now (buf .exit)) ⌝ }
+    requires { ⌜ (at ≤ length (now text)) × Inside (length (now text)) n × Inside (length (now text)) e
+        × Inside (length (now text)) p ⌝ }
+    ensures { λ r. ⌜ Does (λ s. want star ∷ want indexKind ∷ ref-shift n e (Scale.Times p) ∷ s) (now (text .entry)) at at
+        (mem m (now (names .entry)) (now (buf .entry))) r (now (names .entry)) (now (buf .exit)) ⌝ }
 {
     match expect(text, at, m, b'*') {
         Step::No(q) => Step::No(q),
@@ -116,7 +122,8 @@ fn ref_index(
     buf: &mut [u8; 512],
 ) -> Step
     requires { ⌜ (at ≤ length (now text)) × Inside (length (now text)) n × Inside (length (now text)) e ⌝ }
-    ensures { λ r. ⌜ Does (λ s. ref-index n e ∷ s) (now (text .entry)) at (at + 1) (mem m (now (names .entry)) (now (buf .entry))) r (now (names .entry)) (now (buf .exit)) ⌝ }
+    ensures { λ r. ⌜ Does (λ s. ref-index n e ∷ s) (now (text .entry)) at (at + 1)
+        (mem m (now (names .entry)) (now (buf .entry))) r (now (names .entry)) (now (buf .exit)) ⌝ }
 {
     let t = token_at(text, at);
     if t.kind == NUMBER_KIND {
@@ -136,7 +143,8 @@ fn ref_index(
 // "]" ")"
 fn ref_end(text: &[u8], at: usize, m: Tally) -> Step
     requires { ⌜ at ≤ length (now text) ⌝ }
-    ensures { λ r. ⌜ ((tb b : List ℕ) → Does (λ s. want closeBracket ∷ want closeParen ∷ s) (now (text .entry)) at at (mem m tb b) r tb b) ⌝ }
+    ensures { λ r. ⌜ ((tb b : List ℕ) → Does (λ s. want closeBracket ∷ want closeParen ∷ s) (now (text .entry)) at at
+        (mem m tb b) r tb b) ⌝ }
 {
     match expect(text, at, m, b']') {
         Step::No(q) => Step::No(q),
@@ -155,7 +163,8 @@ fn ref_brackets(
     buf: &mut [u8; 512],
 ) -> Step
     requires { ⌜ (at ≤ length (now text)) × Inside (length (now text)) n × Inside (length (now text)) e ⌝ }
-    ensures { λ r. ⌜ Does (λ s. want openBracket ∷ ref-index n e ∷ want closeBracket ∷ want closeParen ∷ s) (now (text .entry)) at at (mem m (now (names .entry)) (now (buf .entry))) r (now (names .entry)) (now (buf .exit)) ⌝ }
+    ensures { λ r. ⌜ Does (λ s. want openBracket ∷ ref-index n e ∷ want closeBracket ∷ want closeParen ∷ s)
+        (now (text .entry)) at at (mem m (now (names .entry)) (now (buf .entry))) r (now (names .entry)) (now (buf .exit)) ⌝ }
 {
     match expect(text, at, m, b'[') {
         Step::No(q) => Step::No(q),
@@ -176,7 +185,8 @@ fn ref_event(
     buf: &mut [u8; 512],
 ) -> Step
     requires { ⌜ (at ≤ length (now text)) × Inside (length (now text)) n ⌝ }
-    ensures { λ r. ⌜ Does (λ s. ref-event n ∷ s) (now (text .entry)) at (at + 1) (mem m (now (names .entry)) (now (buf .entry))) r (now (names .entry)) (now (buf .exit)) ⌝ }
+    ensures { λ r. ⌜ Does (λ s. ref-event n ∷ s) (now (text .entry)) at (at + 1)
+        (mem m (now (names .entry)) (now (buf .entry))) r (now (names .entry)) (now (buf .exit)) ⌝ }
 {
     let t = token_at(text, at);
     if t.kind != NAME_KIND {
@@ -200,7 +210,8 @@ pub fn reference(
     buf: &mut [u8; 512],
 ) -> Step
     requires { ⌜ (at ≤ length (now text)) × Inside (length (now text)) n ⌝ }
-    ensures { λ r. ⌜ Does (λ s. want openParen ∷ ref-event n ∷ s) (now (text .entry)) at at (mem m (now (names .entry)) (now (buf .entry))) r (now (names .entry)) (now (buf .exit)) ⌝ }
+    ensures { λ r. ⌜ Does (λ s. want openParen ∷ ref-event n ∷ s) (now (text .entry)) at at
+        (mem m (now (names .entry)) (now (buf .entry))) r (now (names .entry)) (now (buf .exit)) ⌝ }
 {
     match expect(text, at, m, b'(') {
         Step::No(q) => Step::No(q),

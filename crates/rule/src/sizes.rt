@@ -79,7 +79,8 @@ fn product_top(cells: &mut [u64; 64], k: usize) -> Size
 
 // One frame more. Called by sizes_fit, on frames that are a rule.
 fn size_step(kind: u8, value: i32, cells: &mut [u64; 64], k: usize) -> Size
-    requires { ⌜ (length (now cells) ≡ frameLimit) × ((k < frameLimit) × (Ready (kindOf kind) k × Bounded (stackOf 0 (now cells) k))) ⌝ }
+    requires { ⌜ (length (now cells) ≡ frameLimit) × ((k < frameLimit)
+        × (Ready (kindOf kind) k × Bounded (stackOf 0 (now cells) k))) ⌝ }
     ensures kept { λ r. ⌜ length (now (cells .exit)) ≡ frameLimit ⌝ }
     ensures { λ r. ⌜ loaded (now (cells .exit)) r ≡ sized (kindOf kind) value (stackOf 0 (now (cells .entry)) k) ⌝ }
 {

@@ -22,7 +22,7 @@ ghost use mathlib.Core.List.{_∷_};
 ghost use Prim.Native.Nat.{_+_, _≤_};
 ghost use lib.ListN.{length};
 ghost use Rattle.rule.specs.Frames.{Kind};
-ghost use Rattle.rule.specs.Grammar.{openParen, closeParen};
+ghost use Rattle.rule.specs.Class.{openParen, closeParen};
 ghost use Rattle.rule.specs.Draft.{alone};
 ghost use Rattle.rule.specs.Machine.{out, doing, want, factor, muls, adds, prod, sum};
 ghost use Rattle.rule.specs.Memory.{mem};
@@ -48,7 +48,8 @@ fn parens(
     buf: &mut [u8; 512],
 ) -> Step
     requires { ⌜ at ≤ length (now text) ⌝ }
-    ensures { λ r. ⌜ Does (λ s. sum d (want closeParen ∷ s)) (now (text .entry)) at (at + 1) (mem m (now (names .entry)) (now (buf .entry))) r (now (names .entry)) (now (buf .exit)) ⌝ }
+    ensures { λ r. ⌜ Does (λ s. sum d (want closeParen ∷ s)) (now (text .entry)) at (at + 1)
+        (mem m (now (names .entry)) (now (buf .entry))) r (now (names .entry)) (now (buf .exit)) ⌝ }
 {
     match sum(text, names, at, d, m, buf) {
         Step::No(q) => Step::No(q),
@@ -66,7 +67,8 @@ pub fn sum(
     buf: &mut [u8; 512],
 ) -> Step
     requires { ⌜ at ≤ length (now text) ⌝ }
-    ensures { λ r. ⌜ Does (λ s. sum d s) (now (text .entry)) at (at + 1) (mem m (now (names .entry)) (now (buf .entry))) r (now (names .entry)) (now (buf .exit)) ⌝ }
+    ensures { λ r. ⌜ Does (λ s. sum d s) (now (text .entry)) at (at + 1)
+        (mem m (now (names .entry)) (now (buf .entry))) r (now (names .entry)) (now (buf .exit)) ⌝ }
 {
     match prod(text, names, at, d, m, buf) {
         Step::No(q) => Step::No(q),
@@ -77,7 +79,8 @@ pub fn sum(
 // {("+" or "-") prod}
 fn adds(text: &[u8], names: &[u64; 12], at: usize, d: usize, m: Tally, buf: &mut [u8; 512]) -> Step
     requires { ⌜ at ≤ length (now text) ⌝ }
-    ensures { λ r. ⌜ Does (λ s. adds d ∷ s) (now (text .entry)) at at (mem m (now (names .entry)) (now (buf .entry))) r (now (names .entry)) (now (buf .exit)) ⌝ }
+    ensures { λ r. ⌜ Does (λ s. adds d ∷ s) (now (text .entry)) at at
+        (mem m (now (names .entry)) (now (buf .entry))) r (now (names .entry)) (now (buf .exit)) ⌝ }
 {
     let t = token_at(text, at);
     let kind = sign_kind(t.kind);
@@ -96,7 +99,8 @@ fn adds(text: &[u8], names: &[u64; 12], at: usize, d: usize, m: Tally, buf: &mut
 // prod: factor {"*" factor}
 fn prod(text: &[u8], names: &[u64; 12], at: usize, d: usize, m: Tally, buf: &mut [u8; 512]) -> Step
     requires { ⌜ at ≤ length (now text) ⌝ }
-    ensures { λ r. ⌜ Does (λ s. prod d s) (now (text .entry)) at (at + 1) (mem m (now (names .entry)) (now (buf .entry))) r (now (names .entry)) (now (buf .exit)) ⌝ }
+    ensures { λ r. ⌜ Does (λ s. prod d s) (now (text .entry)) at (at + 1)
+        (mem m (now (names .entry)) (now (buf .entry))) r (now (names .entry)) (now (buf .exit)) ⌝ }
 {
     match factor(text, names, at, d, m, buf) {
         Step::No(q) => Step::No(q),
@@ -107,7 +111,8 @@ fn prod(text: &[u8], names: &[u64; 12], at: usize, d: usize, m: Tally, buf: &mut
 // {"*" factor}
 fn muls(text: &[u8], names: &[u64; 12], at: usize, d: usize, m: Tally, buf: &mut [u8; 512]) -> Step
     requires { ⌜ at ≤ length (now text) ⌝ }
-    ensures { λ r. ⌜ Does (λ s. muls d ∷ s) (now (text .entry)) at at (mem m (now (names .entry)) (now (buf .entry))) r (now (names .entry)) (now (buf .exit)) ⌝ }
+    ensures { λ r. ⌜ Does (λ s. muls d ∷ s) (now (text .entry)) at at
+        (mem m (now (names .entry)) (now (buf .entry))) r (now (names .entry)) (now (buf .exit)) ⌝ }
 {
     let t = token_at(text, at);
     if t.kind != b'*' {
@@ -132,7 +137,8 @@ fn absolute(
     buf: &mut [u8; 512],
 ) -> Step
     requires { ⌜ at ≤ length (now text) ⌝ }
-    ensures { λ r. ⌜ Does (λ s. want openParen ∷ sum d (want closeParen ∷ doing (out (alone Kind.absolute)) ∷ s)) (now (text .entry)) at at (mem m (now (names .entry)) (now (buf .entry))) r (now (names .entry)) (now (buf .exit)) ⌝ }
+    ensures { λ r. ⌜ Does (λ s. want openParen ∷ sum d (want closeParen ∷ doing (out (alone Kind.absolute)) ∷ s))
+        (now (text .entry)) at at (mem m (now (names .entry)) (now (buf .entry))) r (now (names .entry)) (now (buf .exit)) ⌝ }
 {
     match expect(text, at, m, b'(') {
         Step::No(q) => Step::No(q),
@@ -153,7 +159,8 @@ fn factor(
     buf: &mut [u8; 512],
 ) -> Step
     requires { ⌜ at ≤ length (now text) ⌝ }
-    ensures { λ r. ⌜ Does (λ s. factor d ∷ s) (now (text .entry)) at (at + 1) (mem m (now (names .entry)) (now (buf .entry))) r (now (names .entry)) (now (buf .exit)) ⌝ }
+    ensures { λ r. ⌜ Does (λ s. factor d ∷ s) (now (text .entry)) at (at + 1)
+        (mem m (now (names .entry)) (now (buf .entry))) r (now (names .entry)) (now (buf .exit)) ⌝ }
 {
     let t = token_at(text, at);
     let z = t.end;

@@ -46,7 +46,7 @@ module _ (i c k : ℕ) (x : Frame) (cs : List Cond) (ss : List Sum) (h : length 
   many-by absolute = many-cond i (leb 1 k) _ _ (λ t. (h, length-one abs ss k (leb→le 1 k t) g))
   many-by (Kind.relation r) = many-cond i (eqb k 2) _ _ (λ t. many-related i r c cs ss h (g ∙ eqb→eq k 2 t))
   many-by negation =
-      many-cond i (leb 1 c && eqb k 0) _ _ 
+      many-cond i (leb 1 c && eqb k 0) _ _
       (λ t. (length-one Cond.not cs c (leb→le 1 c (and-l (leb 1 c) (eqb k 0) t)) h, g ∙ eqb→eq k 0 (and-r (leb 1 c) (eqb k 0) t)))
   many-by (Kind.connective j) =
       many-cond i (leb 2 c && eqb k 0) _ _

@@ -33,7 +33,8 @@ pub struct Top {
 fn put_reference(sums: &mut [i64; 64], top: Top, mark: u8, note: i32) -> Top
     requires { ⌜ (length (now sums) ≡ 64) × (top .sums < 64) ⌝ }
     ensures kept { λ r. ⌜ length (now (sums .exit)) ≡ 64 ⌝ }
-    ensures { λ r. ⌜ ((cs : List ℕ) → passOf (now (sums .exit)) cs r ≡ withReference (passOf (now (sums .entry)) cs top) mark note) ⌝ }
+    ensures { λ r. ⌜ ((cs : List ℕ) → passOf (now (sums .exit)) cs r
+        ≡ withReference (passOf (now (sums .entry)) cs top) mark note) ⌝ }
 {
     let at = top.sums;
     let k = stacks::put_sum(sums, at, arithmetic::widen(note));
@@ -50,7 +51,8 @@ fn put_reference(sums: &mut [i64; 64], top: Top, mark: u8, note: i32) -> Top
 fn put_relation(kind: u8, sums: &mut [i64; 64], conds: &mut [u8; 64], top: Top) -> Top
     requires { ⌜ (length (now conds) ≡ 64) × ((top .conds < 64) × (top .sums ≡ 2)) ⌝ }
     ensures kept { λ r. ⌜ (now (sums .exit) ≡ now (sums .entry)) × (length (now (conds .exit)) ≡ 64) ⌝ }
-    ensures { λ r. ⌜ passOf (now (sums .exit)) (now (conds .exit)) r ≡ withRelation (passOf (now (sums .entry)) (now (conds .entry)) top) (relationAt kind) ⌝ }
+    ensures { λ r. ⌜ passOf (now (sums .exit)) (now (conds .exit)) r
+        ≡ withRelation (passOf (now (sums .entry)) (now (conds .entry)) top) (relationAt kind) ⌝ }
 {
     let at = top.conds;
     let t = kleene::of_relation(top.missing, stacks::relate(kind, sums));
@@ -74,9 +76,11 @@ fn step(
     conds: &mut [u8; 64],
     top: Top,
 ) -> Top
-    requires { ⌜ Begun (kindOf (x .kind)) (now sums) (now conds) top (passBy (kindOf (x .kind)) (x .value) (i .0) mark note (passOf (now sums) (now conds) top)) ⌝ }
+    requires { ⌜ Begun (kindOf (x .kind)) (now sums) (now conds) top
+        (passBy (kindOf (x .kind)) (x .value) (i .0) mark note (passOf (now sums) (now conds) top)) ⌝ }
     ensures kept { λ r. ⌜ (length (now (sums .exit)) ≡ 64) × (length (now (conds .exit)) ≡ 64) ⌝ }
-    ensures { λ r. ⌜ passOf (now (sums .exit)) (now (conds .exit)) r ≡ passBy (kindOf (x .kind)) (x .value) (i .0) mark note (passOf (now (sums .entry)) (now (conds .entry)) top) ⌝ }
+    ensures { λ r. ⌜ passOf (now (sums .exit)) (now (conds .exit)) r
+        ≡ passBy (kindOf (x .kind)) (x .value) (i .0) mark note (passOf (now (sums .entry)) (now (conds .entry)) top) ⌝ }
 {
     let kind = x.kind;
     let k = top.sums;

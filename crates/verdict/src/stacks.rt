@@ -26,9 +26,11 @@ pub fn put_sum(sums: &mut [i64; 64], k: usize, v: i64) -> usize
 
 // The two values on top become one.
 pub fn join_sums(kind: u8, sums: &mut [i64; 64], k: usize) -> usize
-    requires { ⌜ (length (now sums) ≡ 64) × ((k < 64) × ((2 ≤ k) × Small (top2 (computed (arithmeticAt kind)) (stackOf (pos 0) (now sums) k)))) ⌝ }
+    requires { ⌜ (length (now sums) ≡ 64) × ((k < 64) × ((2 ≤ k)
+        × Small (top2 (computed (arithmeticAt kind)) (stackOf (pos 0) (now sums) k)))) ⌝ }
     ensures kept { λ r. ⌜ length (now (sums .exit)) ≡ 64 ⌝ }
-    ensures { λ r. ⌜ stackOf (pos 0) (now (sums .exit)) r ≡ top2 (computed (arithmeticAt kind)) (stackOf (pos 0) (now (sums .entry)) k) ⌝ }
+    ensures { λ r. ⌜ stackOf (pos 0) (now (sums .exit)) r
+        ≡ top2 (computed (arithmeticAt kind)) (stackOf (pos 0) (now (sums .entry)) k) ⌝ }
 {
     let a = sums[k - 2];
     let b = sums[k - 1];

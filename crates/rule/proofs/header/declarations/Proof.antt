@@ -2,7 +2,7 @@ use native.Mathlib.Omega.{arith}
 use mathlib.Core.List.{[], _∷_}
 use Prim.Native.Nat.{_-_}
 use denote.Ref.{now}
-use Rattle.rule.specs.Grammar.{semicolon}
+use Rattle.rule.specs.Class.{semicolon}
 use Rattle.rule.specs.Machine.{want}
 use Rattle.rule.specs.Machine as machine
 use Rattle.rule.proofs.Does.{then, stop, as-is}

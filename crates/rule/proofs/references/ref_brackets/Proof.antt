@@ -1,6 +1,6 @@
 use mathlib.Core.List.{_∷_}
 use denote.Ref.{now}
-use Rattle.rule.specs.Grammar.{closeParen, closeBracket}
+use Rattle.rule.specs.Class.{closeParen, closeBracket}
 use Rattle.rule.specs.Machine.{want}
 use Rattle.rule.specs.Machine as machine
 use Rattle.rule.proofs.Does.{then, stop, as-is}

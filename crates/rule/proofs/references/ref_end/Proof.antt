@@ -1,5 +1,5 @@
 use mathlib.Core.List.{[], _∷_}
-use Rattle.rule.specs.Grammar.{closeParen}
+use Rattle.rule.specs.Class.{closeParen}
 use Rattle.rule.specs.Machine.{want}
 use Rattle.rule.proofs.Does.{then, stop, as-is}
 use native.Mathlib.Omega.{arith}

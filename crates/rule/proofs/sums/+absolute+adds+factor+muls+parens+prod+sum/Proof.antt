@@ -6,7 +6,7 @@ use Prim.Native.Nat.{ℕ, _<_, _+_, _*_, _-_}
 use lib.ListN.{length}
 use denote.Ref.{now}
 use Rattle.rule.specs.Frames.{Arithmetic, Kind}
-use Rattle.rule.specs.Grammar.{closeParen}
+use Rattle.rule.specs.Class.{closeParen}
 use Rattle.rule.specs.Machine.{step, finish, startFactor, out, want, doing}
 use Rattle.rule.specs.Machine as machine
 use Rattle.rule.specs.Draft.{alone, plain}
