@@ -94,8 +94,8 @@ relationAt = askedIn relation (equal ∷ unequal ∷ less ∷ atMost ∷ more �
 abbrev pub connectiveAt : ℕ → Connective
 connectiveAt = askedIn connective (and ∷ or ∷ []) implies
 
--- what a frame takes and leaves: a sum of so many sums; a condition of the two sums that there are; where no sum is left, a condition
--- of so many conditions; or nothing, where no rule has it
+-- what a frame takes and leaves: a sum of so many sums; a condition of the two sums that there are; a condition of so many
+-- conditions, where no sum is left; or nothing, where no rule has it
 pub data Effect : Type 0 where
   sumOf condOf : ℕ → Effect
   relates noRule : Effect

@@ -15,8 +15,10 @@ use crate::tokens::NOTES_KIND;
 use crate::tokens::token_at;
 ghost use mathlib.Core.Path.{_≡_};
 ghost use mathlib.Core.List.{List, []};
-ghost use Prim.Native.Nat.{ℕ, _≤_};
+ghost use Prim.Native.Nat.{ℕ, _+_, _≤_};
 ghost use lib.ListN.{length};
+ghost use Rattle.rule.specs.Limits.{bufferBytes};
+ghost use Rattle.rule.specs.ReadLimits.{textLimit};
 ghost use Rattle.rule.specs.Told.{readTold};
 ghost use Rattle.rule.specs.Machine.{start};
 ghost use Rattle.rule.specs.Memory.{mem};
@@ -32,7 +34,7 @@ fn refuse(number: u8, place: u32) -> Reading
 
 // Copies all bytes.
 fn copy(from: &[u8], to: &mut [u8])
-    requires { ⌜ (length (now from) ≡ 512) × (length (now to) ≡ 512) ⌝ }
+    requires { ⌜ (length (now from) ≡ bufferBytes) × (length (now to) ≡ bufferBytes) ⌝ }
     ensures { λ _. ⌜ now (to .exit) ≡ now (from .entry) ⌝ }
 {
     let mut i: usize = 0;
@@ -82,7 +84,8 @@ fn whole(text: &[u8], names: &mut [u64; 12], buf: &mut [u8; 512]) -> Step
 
 // Refusals 4 to 8 of what was read; else the frames are handed over.
 fn conclude(buf: &[u8], frames: &mut [u8], m: Tally) -> Reading
-    requires { ⌜ (length (now buf) ≡ 512) × (length (now frames) ≡ 512) × (m .name ≤ 1025) × (m .number ≤ 1025) ⌝ }
+    requires { ⌜ (length (now buf) ≡ bufferBytes) × (length (now frames) ≡ bufferBytes)
+        × (m .name ≤ textLimit + 1) × (m .number ≤ textLimit + 1) ⌝ }
     ensures { λ r. ⌜ ((tb : List ℕ) → (r ≡ concluded (now (frames .entry)) (mem m tb (now (buf .entry))) .0)
         × (now (frames .exit) ≡ concluded (now (frames .entry)) (mem m tb (now (buf .entry))) .1)) ⌝ }
 {

@@ -7,7 +7,7 @@ use Prim.Native.Nat.{ℕ, _≤_, _<_}
 use lib.Dec.{eqb}
 use lib.IntN.{ℤ, pos, natAbs}
 use lib.ListN.{length}
-use Rattle.rule.specs.Limits.{magnitudeLimit}
+use Rattle.rule.specs.Limits.{frameLimit, magnitudeLimit}
 use Rattle.rule.specs.Frames.{Kind}
 use Rattle.rule.specs.Stack.{stackOf, Ready, ReadyC}
 use Rattle.verdict.specs.Pass.{Pass}
@@ -41,10 +41,10 @@ Small (v ∷ vs) = (natAbs v ≤ magnitudeLimit) × Small vs
 
 -- what a step requires: room, for "at most 64 frames", the sums and conditions that its kind needs, and small values after it
 pub record Begun (o : Kind) (sums : List ℤ) (conds : List ℕ) (t : Top) (next : Pass) : Type 0 where
-  pub long : length sums ≡ 64
-  pub long-c : length conds ≡ 64
-  pub room : t .sums < 64
-  pub room-c : t .conds < 64
+  pub long : length sums ≡ frameLimit
+  pub long-c : length conds ≡ frameLimit
+  pub room : t .sums < frameLimit
+  pub room-c : t .conds < frameLimit
   pub ready : Ready o (t .sums)
   pub ready-c : ReadyC o (t .conds)
   pub small : Small (next .sums)

@@ -14,6 +14,7 @@ ghost use mathlib.Core.Path.{_≡_};
 ghost use mathlib.Core.List.{List};
 ghost use Prim.Native.Nat.{ℕ, _<_};
 ghost use lib.ListN.{length};
+ghost use Rattle.rule.specs.Limits.{frameLimit};
 ghost use Rattle.rule.specs.Frames.{kindOf, relationAt};
 ghost use Rattle.verdict.specs.Marks.{Judgeable};
 ghost use Rattle.verdict.specs.Pass.{withReference, withRelation, passBy, judgementOf};
@@ -31,8 +32,8 @@ pub struct Top {
 
 // A reference with its mark and its note. Called by step.
 fn put_reference(sums: &mut [i64; 64], top: Top, mark: u8, note: i32) -> Top
-    requires { ⌜ (length (now sums) ≡ 64) × (top .sums < 64) ⌝ }
-    ensures kept { λ r. ⌜ length (now (sums .exit)) ≡ 64 ⌝ }
+    requires { ⌜ (length (now sums) ≡ frameLimit) × (top .sums < frameLimit) ⌝ }
+    ensures kept { λ r. ⌜ length (now (sums .exit)) ≡ frameLimit ⌝ }
     ensures { λ r. ⌜ ((cs : List ℕ) → passOf (now (sums .exit)) cs r
         ≡ withReference (passOf (now (sums .entry)) cs top) mark note) ⌝ }
 {
@@ -49,8 +50,8 @@ fn put_reference(sums: &mut [i64; 64], top: Top, mark: u8, note: i32) -> Top
 
 // A relation of the two sums that are there. Called by step.
 fn put_relation(kind: u8, sums: &mut [i64; 64], conds: &mut [u8; 64], top: Top) -> Top
-    requires { ⌜ (length (now conds) ≡ 64) × ((top .conds < 64) × (top .sums ≡ 2)) ⌝ }
-    ensures kept { λ r. ⌜ (now (sums .exit) ≡ now (sums .entry)) × (length (now (conds .exit)) ≡ 64) ⌝ }
+    requires { ⌜ (length (now conds) ≡ frameLimit) × ((top .conds < frameLimit) × (top .sums ≡ 2)) ⌝ }
+    ensures kept { λ r. ⌜ (now (sums .exit) ≡ now (sums .entry)) × (length (now (conds .exit)) ≡ frameLimit) ⌝ }
     ensures { λ r. ⌜ passOf (now (sums .exit)) (now (conds .exit)) r
         ≡ withRelation (passOf (now (sums .entry)) (now (conds .entry)) top) (relationAt kind) ⌝ }
 {
@@ -78,7 +79,7 @@ fn step(
 ) -> Top
     requires { ⌜ Begun (kindOf (x .kind)) (now sums) (now conds) top
         (passBy (kindOf (x .kind)) (x .value) (i .0) mark note (passOf (now sums) (now conds) top)) ⌝ }
-    ensures kept { λ r. ⌜ (length (now (sums .exit)) ≡ 64) × (length (now (conds .exit)) ≡ 64) ⌝ }
+    ensures kept { λ r. ⌜ (length (now (sums .exit)) ≡ frameLimit) × (length (now (conds .exit)) ≡ frameLimit) ⌝ }
     ensures { λ r. ⌜ passOf (now (sums .exit)) (now (conds .exit)) r
         ≡ passBy (kindOf (x .kind)) (x .value) (i .0) mark note (passOf (now (sums .entry)) (now (conds .entry)) top) ⌝ }
 {

@@ -7,6 +7,7 @@ ghost use mathlib.Core.List.{_∷_};
 ghost use Prim.Native.Nat.{_≤_, _<_};
 ghost use lib.IntN.{pos};
 ghost use lib.ListN.{length, getD};
+ghost use Rattle.rule.specs.Limits.{frameLimit};
 ghost use Rattle.rule.specs.Frames.{arithmeticAt, relationAt, connectiveAt};
 ghost use Rattle.rule.specs.Build.{top1, top2};
 ghost use Rattle.rule.specs.Stack.{stackOf};
@@ -16,8 +17,8 @@ ghost use Rattle.verdict.specs.Stacks.{truthsOf, Small};
 
 // A value onto the k that are below it.
 pub fn put_sum(sums: &mut [i64; 64], k: usize, v: i64) -> usize
-    requires { ⌜ (length (now sums) ≡ 64) × (k < 64) ⌝ }
-    ensures kept { λ r. ⌜ length (now (sums .exit)) ≡ 64 ⌝ }
+    requires { ⌜ (length (now sums) ≡ frameLimit) × (k < frameLimit) ⌝ }
+    ensures kept { λ r. ⌜ length (now (sums .exit)) ≡ frameLimit ⌝ }
     ensures { λ r. ⌜ stackOf (pos 0) (now (sums .exit)) r ≡ v ∷ stackOf (pos 0) (now (sums .entry)) k ⌝ }
 {
     sums[k] = v;
@@ -26,9 +27,9 @@ pub fn put_sum(sums: &mut [i64; 64], k: usize, v: i64) -> usize
 
 // The two values on top become one.
 pub fn join_sums(kind: u8, sums: &mut [i64; 64], k: usize) -> usize
-    requires { ⌜ (length (now sums) ≡ 64) × ((k < 64) × ((2 ≤ k)
+    requires { ⌜ (length (now sums) ≡ frameLimit) × ((k < frameLimit) × ((2 ≤ k)
         × Small (top2 (computed (arithmeticAt kind)) (stackOf (pos 0) (now sums) k)))) ⌝ }
-    ensures kept { λ r. ⌜ length (now (sums .exit)) ≡ 64 ⌝ }
+    ensures kept { λ r. ⌜ length (now (sums .exit)) ≡ frameLimit ⌝ }
     ensures { λ r. ⌜ stackOf (pos 0) (now (sums .exit)) r
         ≡ top2 (computed (arithmeticAt kind)) (stackOf (pos 0) (now (sums .entry)) k) ⌝ }
 {
@@ -41,8 +42,9 @@ pub fn join_sums(kind: u8, sums: &mut [i64; 64], k: usize) -> usize
 
 // abs of the value on top.
 pub fn size_sum(sums: &mut [i64; 64], k: usize) -> usize
-    requires { ⌜ (length (now sums) ≡ 64) × ((k < 64) × ((1 ≤ k) × Small (top1 sizeOf (stackOf (pos 0) (now sums) k)))) ⌝ }
-    ensures kept { λ r. ⌜ length (now (sums .exit)) ≡ 64 ⌝ }
+    requires { ⌜ (length (now sums) ≡ frameLimit) × ((k < frameLimit) × ((1 ≤ k)
+        × Small (top1 sizeOf (stackOf (pos 0) (now sums) k)))) ⌝ }
+    ensures kept { λ r. ⌜ length (now (sums .exit)) ≡ frameLimit ⌝ }
     ensures { λ r. ⌜ stackOf (pos 0) (now (sums .exit)) r ≡ top1 sizeOf (stackOf (pos 0) (now (sums .entry)) k) ⌝ }
 {
     let a = sums[k - 1];
@@ -63,8 +65,8 @@ pub fn relate(kind: u8, sums: &mut [i64; 64]) -> bool
 
 // A truth value onto the c that are below it.
 pub fn put_cond(conds: &mut [u8; 64], c: usize, t: Truth) -> usize
-    requires { ⌜ (length (now conds) ≡ 64) × (c < 64) ⌝ }
-    ensures kept { λ r. ⌜ length (now (conds .exit)) ≡ 64 ⌝ }
+    requires { ⌜ (length (now conds) ≡ frameLimit) × (c < frameLimit) ⌝ }
+    ensures kept { λ r. ⌜ length (now (conds .exit)) ≡ frameLimit ⌝ }
     ensures { λ r. ⌜ truthsOf (now (conds .exit)) r ≡ t ∷ truthsOf (now (conds .entry)) c ⌝ }
 {
     conds[c] = kleene::code(t);
@@ -73,8 +75,8 @@ pub fn put_cond(conds: &mut [u8; 64], c: usize, t: Truth) -> usize
 
 // Not of the truth value on top.
 pub fn not_cond(conds: &mut [u8; 64], c: usize) -> usize
-    requires { ⌜ (length (now conds) ≡ 64) × ((c < 64) × (1 ≤ c)) ⌝ }
-    ensures kept { λ r. ⌜ length (now (conds .exit)) ≡ 64 ⌝ }
+    requires { ⌜ (length (now conds) ≡ frameLimit) × ((c < frameLimit) × (1 ≤ c)) ⌝ }
+    ensures kept { λ r. ⌜ length (now (conds .exit)) ≡ frameLimit ⌝ }
     ensures { λ r. ⌜ truthsOf (now (conds .exit)) r ≡ top1 notK (truthsOf (now (conds .entry)) c) ⌝ }
 {
     let t = kleene::decoded(conds[c - 1]);
@@ -84,8 +86,8 @@ pub fn not_cond(conds: &mut [u8; 64], c: usize) -> usize
 
 // The two truth values on top become one.
 pub fn join_conds(kind: u8, conds: &mut [u8; 64], c: usize) -> usize
-    requires { ⌜ (length (now conds) ≡ 64) × ((c < 64) × (2 ≤ c)) ⌝ }
-    ensures kept { λ r. ⌜ length (now (conds .exit)) ≡ 64 ⌝ }
+    requires { ⌜ (length (now conds) ≡ frameLimit) × ((c < frameLimit) × (2 ≤ c)) ⌝ }
+    ensures kept { λ r. ⌜ length (now (conds .exit)) ≡ frameLimit ⌝ }
     ensures { λ r. ⌜ truthsOf (now (conds .exit)) r ≡ top2 (joined (connectiveAt kind)) (truthsOf (now (conds .entry)) c) ⌝ }
 {
     let p = kleene::decoded(conds[c - 2]);

@@ -13,11 +13,17 @@ token-at-requires c κs = search needs
 
 returns : tie.Need-returns
 unfolding step
-returns c = λ tb b. let ne : c .before .before .token-at .result .kind ≡ 0 → ⊥ = λ e. omega arith in let v = beyond (now (c .before .before .before .before .args .text)) (c .before .before .before .before .args .at) (c .before .before .token-at .result) (c .before .before .before .before .pre .0) (c .before .before .token-at .ensures) ne in take (c .before .before .before .before .pre .0) (c .before .before .token-at .ensures) ne (idle (omega arith) (v .1) refl) (λ s. rw (eq-eqb _ _ (c .if1 .taken)))
+returns c =
+    let a = c .before .before .before .before .args in
+    let h = c .before .before .before .before .pre in
+    λ tb b. let ne : c .before .before .token-at .result .kind ≡ 0 → ⊥ = λ e. omega arith in
+    let v = beyond (now (a .text)) (a .at) (c .before .before .token-at .result) (h .0) (c .before .before .token-at .ensures) ne in take (h .0) (c .before .before .token-at .ensures) ne (idle (omega arith) (v .1) refl) (λ s. rw (eq-eqb _ _ (c .if1 .taken)))
 
 returns-2 : tie.Need-returns-2
 unfolding step finish
-returns-2 c = λ tb b. fail (c .before .before .before .before .pre .0) (c .before .before .token-at .ensures) (λ s. rw (ne-eqb _ _ (c .if1 .left))) (λ s. refl)
+returns-2 c =
+    let h = c .before .before .before .before .pre in
+    λ tb b. fail (h .0) (c .before .before .token-at .ensures) (λ s. rw (ne-eqb _ _ (c .if1 .left))) (λ s. refl)
 
 pub expect-spec : {M : Type 1} → statement M
 expect-spec = tie.close (tie.spec token-at-requires returns returns-2)

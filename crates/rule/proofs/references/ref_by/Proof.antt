@@ -13,17 +13,31 @@ token-at-requires c κs = search needs
 
 returns : tie.Need-returns
 unfolding step finish
-returns c = fail (c .before .before .before .before .pre .0) (c .before .before .token-at .ensures) (λ s. rw (ne-eqb _ _ (c .if1 .taken))) (λ s. refl)
+returns c =
+    let h = c .before .before .before .before .pre in
+    fail (h .0) (c .before .before .token-at .ensures) (λ s. rw (ne-eqb _ _ (c .if1 .taken))) (λ s. refl)
 
 sized-requires : tie.Need-sized-requires
-sized-requires c κs = let ne : c .before .before .token-at .result .kind ≡ 0 → ⊥ = λ e. omega arith in let i = inside (now (c .before .before .before .before .args .text)) (c .before .before .before .before .args .at) (c .before .before .token-at .result) (c .before .before .before .before .pre .0) (c .before .before .token-at .ensures) ne in i
+sized-requires c κs =
+    let a = c .before .before .before .before .args in
+    let h = c .before .before .before .before .pre in
+    let ne : c .before .before .token-at .result .kind ≡ 0 → ⊥ = λ e. omega arith in
+    let i = inside (now (a .text)) (a .at) (c .before .before .token-at .result) (h .0) (c .before .before .token-at .ensures) ne in i
 
 emit-reference-requires : tie.Need-emit-reference-requires
-emit-reference-requires c κs = let ne : c .before .before .before .before .token-at .result .kind ≡ 0 → ⊥ = λ e. omega arith in let i = inside (now (c .before .before .before .before .before .before .args .text)) (c .before .before .before .before .before .before .args .at) (c .before .before .before .before .token-at .result) (c .before .before .before .before .before .before .pre .0) (c .before .before .before .before .token-at .ensures) ne in (c .before .before .before .before .before .before .pre .1, c .before .before .before .before .before .before .pre .2, c .before .before .before .before .before .before .pre .3, i)
+emit-reference-requires c κs =
+    let a = c .before .before .before .before .before .before .args in
+    let h = c .before .before .before .before .before .before .pre in
+    let ne : c .before .before .before .before .token-at .result .kind ≡ 0 → ⊥ = λ e. omega arith in
+    let i = inside (now (a .text)) (a .at) (c .before .before .before .before .token-at .result) (h .0) (c .before .before .before .before .token-at .ensures) ne in (h .1, h .2, h .3, i)
 
 returns-2 : tie.Need-returns-2
 unfolding step
-returns-2 c = let ne : c .before .before .before .before .before .token-at .result .kind ≡ 0 → ⊥ = λ e. omega arith in let v = beyond (now (c .before .before .before .before .before .before .before .args .text)) (c .before .before .before .before .before .before .before .args .at) (c .before .before .before .before .before .token-at .result) (c .before .before .before .before .before .before .before .pre .0) (c .before .before .before .before .before .token-at .ensures) ne in take (c .before .before .before .before .before .before .before .pre .0) (c .before .before .before .before .before .token-at .ensures) ne (idle (omega arith) (v .1) (rw (c .before .before .sized .ensures (now (c .before .before .before .before .before .before .before .args .names)) (now (c .before .before .before .before .before .before .before .args .buf))) at (c .emit-reference .ensures))) (λ s. rw (c .before .before .before .if1 .left))
+returns-2 c =
+    let a = c .before .before .before .before .before .before .before .args in
+    let h = c .before .before .before .before .before .before .before .pre in
+    let ne : c .before .before .before .before .before .token-at .result .kind ≡ 0 → ⊥ = λ e. omega arith in
+    let v = beyond (now (a .text)) (a .at) (c .before .before .before .before .before .token-at .result) (h .0) (c .before .before .before .before .before .token-at .ensures) ne in take (h .0) (c .before .before .before .before .before .token-at .ensures) ne (idle (omega arith) (v .1) (rw (c .before .before .sized .ensures (now (a .names)) (now (a .buf))) at (c .emit-reference .ensures))) (λ s. rw (c .before .before .before .if1 .left))
 
 pub ref-by-spec : {M : Type 1} → statement M
 ref-by-spec =

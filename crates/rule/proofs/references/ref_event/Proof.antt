@@ -13,17 +13,32 @@ token-at-requires c κs = search needs
 
 returns : tie.Need-returns
 unfolding step finish
-returns c = fail (c .before .before .before .before .pre .0) (c .before .before .token-at .ensures) (λ s. rw (ne-eqb _ _ (c .if1 .taken))) (λ s. refl)
+returns c =
+    let h = c .before .before .before .before .pre in
+    fail (h .0) (c .before .before .token-at .ensures) (λ s. rw (ne-eqb _ _ (c .if1 .taken))) (λ s. refl)
 
 named-requires : tie.Need-named-requires
-named-requires c κs = let ne : c .before .before .token-at .result .kind ≡ 0 → ⊥ = λ e. omega arith in let i = inside (now (c .before .before .before .before .args .text)) (c .before .before .before .before .args .at) (c .before .before .token-at .result) (c .before .before .before .before .pre .0) (c .before .before .token-at .ensures) ne in i
+named-requires c κs =
+    let a = c .before .before .before .before .args in
+    let h = c .before .before .before .before .pre in
+    let ne : c .before .before .token-at .result .kind ≡ 0 → ⊥ = λ e. omega arith in
+    let i = inside (now (a .text)) (a .at) (c .before .before .token-at .result) (h .0) (c .before .before .token-at .ensures) ne in i
 
 ref-brackets-requires : tie.Need-ref-brackets-requires
-ref-brackets-requires c κs = let ne : c .before .before .before .before .token-at .result .kind ≡ 0 → ⊥ = λ e. omega arith in let v = beyond (now (c .before .before .before .before .before .before .args .text)) (c .before .before .before .before .before .before .args .at) (c .before .before .before .before .token-at .result) (c .before .before .before .before .before .before .pre .0) (c .before .before .before .before .token-at .ensures) ne in let i = inside (now (c .before .before .before .before .before .before .args .text)) (c .before .before .before .before .before .before .args .at) (c .before .before .before .before .token-at .result) (c .before .before .before .before .before .before .pre .0) (c .before .before .before .before .token-at .ensures) ne in (v .1, c .before .before .before .before .before .before .pre .1, i)
+ref-brackets-requires c κs =
+    let a = c .before .before .before .before .before .before .args in
+    let h = c .before .before .before .before .before .before .pre in
+    let ne : c .before .before .before .before .token-at .result .kind ≡ 0 → ⊥ = λ e. omega arith in
+    let v = beyond (now (a .text)) (a .at) (c .before .before .before .before .token-at .result) (h .0) (c .before .before .before .before .token-at .ensures) ne in
+    let i = inside (now (a .text)) (a .at) (c .before .before .before .before .token-at .result) (h .0) (c .before .before .before .before .token-at .ensures) ne in (v .1, h .1, i)
 
 returns-2 : tie.Need-returns-2
 unfolding step
-returns-2 c = let ne : c .before .before .before .before .before .token-at .result .kind ≡ 0 → ⊥ = λ e. omega arith in let v = beyond (now (c .before .before .before .before .before .before .before .args .text)) (c .before .before .before .before .before .before .before .args .at) (c .before .before .before .before .before .token-at .result) (c .before .before .before .before .before .before .before .pre .0) (c .before .before .before .before .before .token-at .ensures) ne in take (c .before .before .before .before .before .before .before .pre .0) (c .before .before .before .before .before .token-at .ensures) ne (least (omega arith) (rw (c .before .before .named .ensures (now (c .before .before .before .before .before .before .before .args .buf))) at (c .ref-brackets .ensures))) (λ s. rw (c .before .before .before .if1 .left))
+returns-2 c =
+    let a = c .before .before .before .before .before .before .before .args in
+    let h = c .before .before .before .before .before .before .before .pre in
+    let ne : c .before .before .before .before .before .token-at .result .kind ≡ 0 → ⊥ = λ e. omega arith in
+    let v = beyond (now (a .text)) (a .at) (c .before .before .before .before .before .token-at .result) (h .0) (c .before .before .before .before .before .token-at .ensures) ne in take (h .0) (c .before .before .before .before .before .token-at .ensures) ne (least (omega arith) (rw (c .before .before .named .ensures (now (a .buf))) at (c .ref-brackets .ensures))) (λ s. rw (c .before .before .before .if1 .left))
 
 pub ref-event-spec : {M : Type 1} → statement M
 ref-event-spec =

@@ -29,16 +29,32 @@ enum-known-z : tie.Need-enum-known-z
 enum-known-z c = search needs
 
 ref-shift-requires : tie.Need-ref-shift-requires
-ref-shift-requires c κs = let d = as-is (c .before .before .before .before .before .before .before .before .expect .ensures (now (c .before .before .before .before .before .before .before .before .before .before .args .names)) (now (c .before .before .before .before .before .before .before .before .before .before .args .buf))) (c .before .before .before .before .before .before .a .given .1) in let w = d .within in let e = as-is (c .before .before .before .before .expect2 .ensures (now (c .before .before .before .before .before .before .before .before .before .before .args .names)) (now (c .before .before .before .before .before .before .before .before .before .before .args .buf))) (c .before .before .z .given .1) in let x = e .within in (x .1, c .before .before .before .before .before .before .before .before .before .before .pre .1, c .before .before .before .before .before .before .before .before .before .before .pre .2, c .before .before .before .before .before .before .before .before .before .before .pre .3)
+ref-shift-requires c κs =
+    let a = c .before .before .before .before .before .before .before .before .before .before .args in
+    let h = c .before .before .before .before .before .before .before .before .before .before .pre in
+    let d = as-is (c .before .before .before .before .before .before .before .before .expect .ensures (now (a .names)) (now (a .buf))) (c .before .before .before .before .before .before .a .given .1) in
+    let w = d .within in
+    let e = as-is (c .before .before .before .before .expect2 .ensures (now (a .names)) (now (a .buf))) (c .before .before .z .given .1) in
+    let x = e .within in (x .1, h .1, h .2, h .3)
 
 returns : tie.Need-returns
-returns c = stop (λ s. want indexKind ∷ machine.ref-shift (c .before .before .before .before .before .args .n) (c .before .before .before .before .before .args .e) (Times (c .before .before .before .before .before .args .p)) ∷ s) _ (as-is (c .before .before .before .expect .ensures (now (c .before .before .before .before .before .args .names)) (now (c .before .before .before .before .before .args .buf))) (c .before .q .given .1))
+returns c =
+    let a = c .before .before .before .before .before .args in
+    stop (λ s. want indexKind ∷ machine.ref-shift (a .n) (a .e) (Times (a .p)) ∷ s) _ (as-is (c .before .before .before .expect .ensures (now (a .names)) (now (a .buf))) (c .before .q .given .1))
 
 returns-2 : tie.Need-returns-2
-returns-2 c = let d = as-is (c .before .before .before .before .before .before .before .expect .ensures (now (c .before .before .before .before .before .before .before .before .before .args .names)) (now (c .before .before .before .before .before .before .before .before .before .args .buf))) (c .before .before .before .before .before .a .given .1) in let w = d .within in then d (stop (λ s. machine.ref-shift (c .before .before .before .before .before .before .before .before .before .args .n) (c .before .before .before .before .before .before .before .before .before .args .e) (Times (c .before .before .before .before .before .before .before .before .before .args .p)) ∷ s) (c .before .before .before .before .before .before .before .before .before .args .at) (as-is (c .before .before .before .expect2 .ensures (now (c .before .before .before .before .before .before .before .before .before .args .names)) (now (c .before .before .before .before .before .before .before .before .before .args .buf))) (c .before .q2 .given .1))) (omega arith)
+returns-2 c =
+    let a = c .before .before .before .before .before .before .before .before .before .args in
+    let d = as-is (c .before .before .before .before .before .before .before .expect .ensures (now (a .names)) (now (a .buf))) (c .before .before .before .before .before .a .given .1) in
+    let w = d .within in then d (stop (λ s. machine.ref-shift (a .n) (a .e) (Times (a .p)) ∷ s) (a .at) (as-is (c .before .before .before .expect2 .ensures (now (a .names)) (now (a .buf))) (c .before .q2 .given .1))) (omega arith)
 
 returns-3 : tie.Need-returns-3
-returns-3 c = let d = as-is (c .before .before .before .before .before .before .before .before .before .expect .ensures (now (c .before .before .before .before .before .before .before .before .before .before .before .args .names)) (now (c .before .before .before .before .before .before .before .before .before .before .before .args .buf))) (c .before .before .before .before .before .before .before .a .given .1) in let w = d .within in let e = as-is (c .before .before .before .before .before .expect2 .ensures (now (c .before .before .before .before .before .before .before .before .before .before .before .args .names)) (now (c .before .before .before .before .before .before .before .before .before .before .before .args .buf))) (c .before .before .before .z .given .1) in let x = e .within in then d (then {lo″ = c .before .before .before .before .before .before .before .before .before .before .before .args .at} e (c .ref-shift .ensures) (omega arith)) (omega arith)
+returns-3 c =
+    let a = c .before .before .before .before .before .before .before .before .before .before .before .args in
+    let d = as-is (c .before .before .before .before .before .before .before .before .before .expect .ensures (now (a .names)) (now (a .buf))) (c .before .before .before .before .before .before .before .a .given .1) in
+    let w = d .within in
+    let e = as-is (c .before .before .before .before .before .expect2 .ensures (now (a .names)) (now (a .buf))) (c .before .before .before .z .given .1) in
+    let x = e .within in then d (then {lo″ = a .at} e (c .ref-shift .ensures) (omega arith)) (omega arith)
 
 pub ref-scaled-spec : {M : Type 1} → statement M
 ref-scaled-spec =

@@ -17,13 +17,22 @@ enum-known-a : tie.Need-enum-known-a
 enum-known-a c = search needs
 
 ref-event-requires : tie.Need-ref-event-requires
-ref-event-requires c κs = let d = as-is (c .before .before .before .before .expect .ensures (now (c .before .before .before .before .before .before .args .names)) (now (c .before .before .before .before .before .before .args .buf))) (c .before .before .a .given .1) in let w = d .within in (w .1, c .before .before .before .before .before .before .pre .1)
+ref-event-requires c κs =
+    let a = c .before .before .before .before .before .before .args in
+    let h = c .before .before .before .before .before .before .pre in
+    let d = as-is (c .before .before .before .before .expect .ensures (now (a .names)) (now (a .buf))) (c .before .before .a .given .1) in
+    let w = d .within in (w .1, h .1)
 
 returns : tie.Need-returns
-returns c = stop (λ s. machine.ref-event (c .before .before .before .before .before .args .n) ∷ s) _ (as-is (c .before .before .before .expect .ensures (now (c .before .before .before .before .before .args .names)) (now (c .before .before .before .before .before .args .buf))) (c .before .q .given .1))
+returns c =
+    let a = c .before .before .before .before .before .args in
+    stop (λ s. machine.ref-event (a .n) ∷ s) _ (as-is (c .before .before .before .expect .ensures (now (a .names)) (now (a .buf))) (c .before .q .given .1))
 
 returns-2 : tie.Need-returns-2
-returns-2 c = let d = as-is (c .before .before .before .before .before .expect .ensures (now (c .before .before .before .before .before .before .before .args .names)) (now (c .before .before .before .before .before .before .before .args .buf))) (c .before .before .before .a .given .1) in let w = d .within in then d (c .ref-event .ensures) (omega arith)
+returns-2 c =
+    let a = c .before .before .before .before .before .before .before .args in
+    let d = as-is (c .before .before .before .before .before .expect .ensures (now (a .names)) (now (a .buf))) (c .before .before .before .a .given .1) in
+    let w = d .within in then d (c .ref-event .ensures) (omega arith)
 
 pub reference-spec : {M : Type 1} → statement M
 reference-spec =
