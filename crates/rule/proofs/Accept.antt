@@ -1,19 +1,18 @@
 -- Refusal 10 does not hold exactly of the bytes that are a tree's frames, within the limits. Assumes nothing.
 use mathlib.Core.Path.{_≡_, refl, sym, ap, _∙_}
 use mathlib.Core.Logic.{_↔_}
-use mathlib.Core.Bool.{Bool, true, _&&_, cond}
+use mathlib.Core.Bool.{Bool, true, cond}
 use mathlib.Core.List.{List, [], _∷_, _++_}
 use Prim.Native.Nat.{ℕ, _+_, _-_, _%_, _≤_, _<_, zero-le}
 use native.Mathlib.Omega.{arith}
-use lib.Dec.{leb, eqb}
 use lib.IntN.{natAbs}
 use lib.ListN.{length}
 use borrow.Author.Tests.{le-leb, lt-ltb}
 use Rattle.numbers.proofs.Ints.{mag-natAbs}
 use Rattle.rule.specs.Limits.{eventLimit, noteLimit, factorLimit, offsetLimit}
-use Rattle.rule.specs.Frames.{Source, Kind, kindOf, bare, fieldsOf, Bytes}
+use Rattle.rule.specs.Frames.{Source, Kind, kindOf, sumOf, condOf, bare, fieldsOf, Bytes}
 use Rattle.rule.specs.Tree.{Sum, literal, instance, reference, arithmetic, abs, Cond, relation, not, connective, LimitsS, Limits, postfixS, postfix, bytesOf, IsRule}
-use Rattle.rule.specs.Order.{stepBy, stepIn, InOrder}
+use Rattle.rule.specs.Order.{stepped, stepBy, stepIn, InOrder}
 use Rattle.rule.specs.Build.{treeOf}
 use Rattle.rule.specs.declared.Frame.{Frame}
 use Rattle.rule.specs.declared.order.Shape.the-variants.{Good, Bad}
@@ -25,13 +24,17 @@ use Rattle.rule.proofs.Parse.{ordered, fine-runs, runs-fine, unique, tr
 bare-on : (o : Kind) (c k : ℕ) → fieldsOf o (bare o) ≡ true → ordered (bare o) (Good c k) ≡ stepBy o c k
 bare-on o c k f = ap (λ (p : Kind). stepIn p (bare o) c k) (kind-byte o) ∙ ap (λ (t : Bool). cond t (stepBy o c k) Bad) f
 
-arithmetic-on : (c k : ℕ) → cond (leb 2 (k + 1 + 1)) (Good c (k + 1 + 1 - 1)) Bad ≡ Good c (k + 1)
-arithmetic-on c k = rw (le-leb 2 (k + 1 + 1) (omega arith)) (ap (Good c) (omega arith))
+-- where j is k and the sums, or the conditions, that a frame takes
+sum-on : (n c k j : ℕ) → j ≡ k + n → stepped (sumOf n) c j ≡ Good c (k + 1)
+sum-on n c k j e = rw (le-leb n j (omega arith)) (ap (Good c) (omega arith))
+
+cond-on : (n k j : ℕ) → j ≡ k + n → stepped (condOf n) j 0 ≡ Good (k + 1) 0
+cond-on n k j e = rw (le-leb n j (omega arith)) (ap (λ (x : ℕ). Good x 0) (omega arith))
 
 orderS : (t : Sum) → LimitsS t → (c k : ℕ) → runs ordered (postfixS t) (Good c k) ≡ Good c (k + 1)
 unfolding kindOf
-orderS (literal n) l c k = rw (le-leb 0 n zero-le)
-orderS instance l c k = refl
+orderS (literal n) l c k = rw (le-leb 0 n zero-le) (sum-on 0 c k k (omega arith))
+orderS instance l c k = sum-on 0 c k k (omega arith)
 orderS (reference r) l c k =
     rw (
       lt-ltb (r .event) eventLimit (l .event),
@@ -39,23 +42,20 @@ orderS (reference r) l c k =
       le-leb 1 (r .factor) (l .least),
       le-leb (r .factor) factorLimit (l .factor),
       le-leb (natAbs (r .offset)) offsetLimit (l .offset),
-    )
+    ) (sum-on 0 c k k (omega arith))
 orderS (arithmetic o a b) l c k =
     pass2 ordered (postfixS a) (postfixS b) (bare (Kind.arithmetic o)) _ _ _ (orderS a (l .0) c k) (orderS b (l .1) c (k + 1))
-    ∙ bare-on (Kind.arithmetic o) c (k + 1 + 1) refl ∙ arithmetic-on c k
+    ∙ bare-on (Kind.arithmetic o) c (k + 1 + 1) refl ∙ sum-on 2 c k (k + 1 + 1) (omega arith)
 orderS (abs a) l c k =
-    pass1 ordered (postfixS a) (bare Kind.absolute) _ _ (orderS a l c k) ∙ bare-on Kind.absolute c (k + 1) refl ∙ rw (le-leb 1 (k + 1) (omega arith))
-
-connective-on : (c : ℕ) → cond (leb 2 (c + 1 + 1) && eqb 0 0) (Good (c + 1 + 1 - 1) 0) Bad ≡ Good (c + 1) 0
-connective-on c = rw (le-leb 2 (c + 1 + 1) (omega arith)) (ap (λ (x : ℕ). Good x 0) (omega arith))
+    pass1 ordered (postfixS a) (bare Kind.absolute) _ _ (orderS a l c k) ∙ bare-on Kind.absolute c (k + 1) refl ∙ sum-on 1 c k (k + 1) refl
 
 orderC : (t : Cond) → Limits t → (c : ℕ) → runs ordered (postfix t) (Good c 0) ≡ Good (c + 1) 0
 orderC (relation r a b) l c =
     pass2 ordered (postfixS a) (postfixS b) (bare (Kind.relation r)) _ _ _ (orderS a (l .0) c 0) (orderS b (l .1) c 1) ∙ bare-on (Kind.relation r) c 2 refl
-orderC (not p) l c = pass1 ordered (postfix p) (bare Kind.negation) _ _ (orderC p l c) ∙ bare-on Kind.negation (c + 1) 0 refl ∙ rw (le-leb 1 (c + 1) (omega arith))
+orderC (not p) l c = pass1 ordered (postfix p) (bare Kind.negation) _ _ (orderC p l c) ∙ bare-on Kind.negation (c + 1) 0 refl ∙ cond-on 1 c (c + 1) refl
 orderC (connective j p q) l c =
     pass2 ordered (postfix p) (postfix q) (bare (Kind.connective j)) _ _ _ (orderC p (l .0) c) (orderC q (l .1) (c + 1))
-    ∙ bare-on (Kind.connective j) (c + 1 + 1) 0 refl ∙ connective-on c
+    ∙ bare-on (Kind.connective j) (c + 1 + 1) 0 refl ∙ cond-on 2 c (c + 1 + 1) (omega arith)
 
 pub order-rule : (t : Cond) → Limits t → runs ordered (postfix t) (Good 0 0) ≡ Good 1 0
 order-rule t l = orderC t l 0

@@ -9,7 +9,7 @@ use native.Mathlib.Omega.{arith}
 use lib.Dec.{T, eqb}
 use borrow.Author.Tests.{eqb-true}
 use Rattle.numbers.proofs.Ranges.{each, all-from, tested}
-use Rattle.rule.specs.Frames.{Source, literal, instance, reference, Arithmetic, add, subtract, multiply, Relation, equal, unequal, less, atMost, more, atLeast, Connective, and, or, implies, Kind, operand, arithmetic, absolute, relation, negation, connective, none, kindByte, kinds, kindIn, kindOf, fieldsOf, bareFields}
+use Rattle.rule.specs.Frames.{Source, literal, instance, reference, Arithmetic, add, subtract, multiply, Relation, equal, unequal, less, atMost, more, atLeast, Connective, and, or, implies, Kind, operand, arithmetic, absolute, relation, negation, connective, none, kindByte, kinds, kindIn, kindOf, arithmeticAt, relationAt, connectiveAt, fieldsOf, bareFields}
 use Rattle.rule.specs.declared.Frame.{Frame}
 
 -- ---- the byte of a kind has that kind
@@ -60,17 +60,18 @@ module _ (P : Kind → Type 0) (b : ℕ) where
   unfolding kindOf
   sum-range h k p q = each (λ x. P (kindOf x)) 17 2 b (p, (q, tt)) h k
 
-  pub arithmetic-range : 17 ≤ b → b < 20 → ((o : Arithmetic) → P (arithmetic o)) → P (kindOf b)
+module _ (b : ℕ) where
+  pub arithmetic-at : 17 ≤ b → b < 20 → kindOf b ≡ arithmetic (arithmeticAt b)
   unfolding kindOf
-  arithmetic-range h k p = each (λ x. P (kindOf x)) 17 3 b (p add, (p subtract, (p multiply, tt))) h k
+  arithmetic-at h k = each (λ x. kindOf x ≡ arithmetic (arithmeticAt x)) 17 3 b (refl, (refl, (refl, tt))) h k
 
-  pub relation-range : 33 ≤ b → b < 39 → ((r : Relation) → P (relation r)) → P (kindOf b)
+  pub relation-at : 33 ≤ b → b < 39 → kindOf b ≡ relation (relationAt b)
   unfolding kindOf
-  relation-range h k p = each (λ x. P (kindOf x)) 33 6 b (p equal, (p unequal, (p less, (p atMost, (p more, (p atLeast, tt)))))) h k
+  relation-at h k = each (λ x. kindOf x ≡ relation (relationAt x)) 33 6 b (refl, (refl, (refl, (refl, (refl, (refl, tt)))))) h k
 
-  pub connective-range : 50 ≤ b → b < 53 → ((j : Connective) → P (connective j)) → P (kindOf b)
+  pub connective-at : 50 ≤ b → b < 53 → kindOf b ≡ connective (connectiveAt b)
   unfolding kindOf
-  connective-range h k p = each (λ x. P (kindOf x)) 50 3 b (p and, (p or, (p implies, tt))) h k
+  connective-at h k = each (λ x. kindOf x ≡ connective (connectiveAt x)) 50 3 b (refl, (refl, (refl, tt))) h k
 
 -- ---- the bytes between the ranges have none
 abbrev isNone : Kind → Bool

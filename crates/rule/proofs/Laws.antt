@@ -1,7 +1,7 @@
 -- What proofs of crates above may use of this crate beside Main. Assumes nothing.
 
 -- kinds by their bytes
-pub use Rattle.rule.proofs.KindBytes.{kind-at, byte-kind, arithmetic-range, relation-range, connective-range}
+pub use Rattle.rule.proofs.KindBytes.{kind-at, byte-kind, arithmetic-at, relation-at, connective-at}
 pub use Rattle.rule.proofs.KindBytes.{none-00, none-04, none-15, none-27, none-35}
 -- an array with a count as a stack
 pub use Rattle.rule.proofs.Stack.{stack-length, stack-push, stack-one, stack-two, stack-top, stack-fold}

@@ -10,11 +10,11 @@ use lib.IntN.{ℤ}
 use lib.ListN.{length}
 use Rattle.numbers.proofs.Bools.{and-l, and-r}
 use Rattle.rule.specs.Limits.{magnitudeLimit}
-use Rattle.rule.specs.Frames.{Kind, operand, arithmetic, absolute, relation, negation, connective, none, kindOf, frameAt, frameCount, fieldsOf}
+use Rattle.rule.specs.Frames.{Kind, operand, arithmetic, absolute, relation, negation, connective, none, kindOf, Effect, sumOf, condOf, relates, noRule, effect, frameAt, frameCount, fieldsOf}
 use Rattle.rule.specs.Tree.{grown}
-use Rattle.rule.specs.Order.{stepBy, frameStep, Prefix, viable, stuck, placed, next, prefixAt, InOrder}
+use Rattle.rule.specs.Order.{stepped, stepBy, frameStep, Prefix, viable, stuck, placed, next, prefixAt, InOrder}
 use Rattle.rule.specs.Sizes.{Sizes, fits, over, topped, operandSize, sized, sizeNext, sizeAt}
-use Rattle.rule.specs.Stack.{stackOf, Ready, ReadyC, Bounded}
+use Rattle.rule.specs.Stack.{stackOf, SumsFor, CondsFor, Ready, ReadyC, Bounded}
 use Rattle.rule.specs.declared.Frame.{Frame}
 use Rattle.rule.specs.declared.order.Shape.{Shape}
 use Rattle.rule.specs.declared.order.Shape.the-variants.{Bad}
@@ -28,23 +28,13 @@ live-cond i true h l = (tt, l)
 live-cond i false h l = absurd l
 
 module _ (i c k : ℕ) where
-  ready-by : (o : Kind) → Live (placed i (stepBy o c k)) → Ready o k
-  ready-by (operand s) l = tt
-  ready-by (arithmetic o) l = leb→le 2 k (live-cond i (leb 2 k) _ l .0)
-  ready-by absolute l = leb→le 1 k (live-cond i (leb 1 k) _ l .0)
-  ready-by (relation r) l = eqb→eq k 2 (live-cond i (eqb k 2) _ l .0)
-  ready-by negation l = eqb→eq k 0 (and-r (leb 1 c) (eqb k 0) (live-cond i (leb 1 c && eqb k 0) _ l .0))
-  ready-by (connective j) l = eqb→eq k 0 (and-r (leb 2 c) (eqb k 0) (live-cond i (leb 2 c && eqb k 0) _ l .0))
-  ready-by none l = l
-
-  ready-c-by : (o : Kind) → Live (placed i (stepBy o c k)) → ReadyC o c
-  ready-c-by (operand s) l = tt
-  ready-c-by (arithmetic o) l = tt
-  ready-c-by absolute l = tt
-  ready-c-by (relation r) l = tt
-  ready-c-by negation l = leb→le 1 c (and-l (leb 1 c) (eqb k 0) (live-cond i (leb 1 c && eqb k 0) _ l .0))
-  ready-c-by (connective j) l = leb→le 2 c (and-l (leb 2 c) (eqb k 0) (live-cond i (leb 2 c && eqb k 0) _ l .0))
-  ready-c-by none l = tt
+  ready-by : (f : Effect) → Live (placed i (stepped f c k)) → SumsFor f k × CondsFor f c
+  ready-by (sumOf n) l = (leb→le n k (live-cond i (leb n k) _ l .0), tt)
+  ready-by (condOf n) l =
+      let t = live-cond i (leb n c && eqb k 0) _ l .0 in
+      (eqb→eq k 0 (and-r (leb n c) (eqb k 0) t), leb→le n c (and-l (leb n c) (eqb k 0) t))
+  ready-by relates l = (eqb→eq k 2 (live-cond i (eqb k 2) _ l .0), tt)
+  ready-by noRule l = (l, tt)
 
 -- what a frame finds
 pub record Found (x : Frame) (p : Prefix) : Type 0 where
@@ -55,7 +45,8 @@ pub record Found (x : Frame) (p : Prefix) : Type 0 where
 found-next : (i : ℕ) (x : Frame) (p : Prefix) → Live (next i x p) → Found x p
 found-next i x (viable c k) l =
     let q = live-cond i (fieldsOf (kindOf (x .kind)) x) (stepBy (kindOf (x .kind)) c k) l in
-    record { fields = q .0; sums = ready-by i c k (kindOf (x .kind)) (q .1); conds = ready-c-by i c k (kindOf (x .kind)) (q .1) }
+    let r = ready-by i c k (effect (kindOf (x .kind))) (q .1) in
+    record { fields = q .0; sums = r .0; conds = r .1 }
 found-next i x (stuck p) l = absurd l
 
 -- each frame of frames in order
@@ -80,16 +71,17 @@ same-push : (t : Bool) (c k m : ℕ) (ms : List ℕ) → suc (length ms) ≡ k �
 same-push true c k m ms h = h
 same-push false c k m ms h = tt
 
-same-top : (f : ℕ → ℕ → ℕ) (c k : ℕ) (ms : List ℕ) → 2 ≤ k → length ms ≡ k → Same (viable c (k - 1)) (topped f ms)
+same-top : (f : ℕ → ℕ → ℕ) (c k : ℕ) (ms : List ℕ) → 2 ≤ k → length ms ≡ k → Same (viable c (k - 2 + 1)) (topped f ms)
 same-top f c k [] h e = absurd (omega arith)
 same-top f c k (b ∷ []) h e = absurd (omega arith)
-same-top f c k (b ∷ (a ∷ ms)) h e = same-push (leb (f a b) magnitudeLimit) c (k - 1) (f a b) ms (omega arith)
+same-top f c k (b ∷ (a ∷ ms)) h e = same-push (leb (f a b) magnitudeLimit) c (k - 2 + 1) (f a b) ms (omega arith)
 
 module _ (i : ℕ) (v : ℤ) (c k : ℕ) (ms : List ℕ) (h : length ms ≡ k) where
   same-by : (o : Kind) → Same (placed i (stepBy o c k)) (sized o v ms)
-  same-by (operand s) = same-push (leb (operandSize s v) magnitudeLimit) c (k + 1) (operandSize s v) ms (omega arith)
+  same-by (operand s) =
+      same-cond i (leb 0 k) _ _ (λ t. same-push (leb (operandSize s v) magnitudeLimit) c (k - 0 + 1) (operandSize s v) ms (omega arith))
   same-by (arithmetic o) = same-cond i (leb 2 k) _ (topped (grown o) ms) (λ t. same-top (grown o) c k ms (leb→le 2 k t) h)
-  same-by absolute = same-cond i (leb 1 k) _ (fits ms) (λ t. h)
+  same-by absolute = same-cond i (leb 1 k) _ (fits ms) (λ t. let w : 1 ≤ k = leb→le 1 k t in omega arith)
   same-by (relation r) = same-cond i (eqb k 2) _ (fits []) (λ t. refl)
   same-by negation = same-cond i (leb 1 c && eqb k 0) _ (fits ms) (λ t. h ∙ eqb→eq k 0 (and-r (leb 1 c) (eqb k 0) t))
   same-by (connective j) = same-cond i (leb 2 c && eqb k 0) _ (fits ms) (λ t. h ∙ eqb→eq k 0 (and-r (leb 2 c) (eqb k 0) t))

@@ -14,10 +14,10 @@ use mir.Val.{SFits}
 use Rattle.numbers.proofs.Bools.{and-l, and-r, T-true}
 use Rattle.numbers.proofs.Ints.{not-negative}
 use Rattle.rule.specs.Limits.{eventLimit, noteLimit, factorLimit, offsetLimit, literalLimit}
-use Rattle.rule.specs.Frames.{Source, Arithmetic, Relation, Connective, Kind, kindByte, kindOf, frame, bare, frameAt, frameCount, unused, literalFields, referenceFields, bareFields}
+use Rattle.rule.specs.Frames.{Source, Arithmetic, Relation, Connective, Kind, kindByte, kindOf, sumOf, condOf, relates, frame, bare, frameAt, frameCount, unused, literalFields, referenceFields, bareFields}
 use Rattle.rule.specs.Tree.{Sum, literal, instance, reference, arithmetic, abs, Cond, relation, not, connective, LimitsR, LimitsS, Limits, postfixS, postfix}
 use Rattle.rule.specs.References.{referenceCount, referenceOf}
-use Rattle.rule.specs.Order.{stepBy, stepIn, frameStep, Prefix, viable, stuck, placed, next, prefixAt, ended, orderOf, InOrder}
+use Rattle.rule.specs.Order.{stepped, stepIn, frameStep, Prefix, viable, stuck, placed, next, prefixAt, ended, orderOf, InOrder}
 use Rattle.rule.specs.Build.{Trees, trees, top1, top2, related, builtBy, built, treesAt, firstC, treeOf}
 use Rattle.rule.specs.declared.Frame.{Frame}
 use Rattle.rule.specs.declared.order.Ordered.the-variants.{Fine}
@@ -158,104 +158,91 @@ reg-rel f a b x = rw (append-nil (f ++ ((a ++ b) ++ x))) (append-assoc f (a ++ b
 
 -- one frame more, by what it does
 module _ (pre : List Frame) (c k : ℕ) (x : Frame) (c′ k′ : ℕ) where
-  leaf-step : (cs : List Cond) (ss : List Sum) → Held pre c k cs ss → (t : Sum) → x ∷ [] ≡ postfixS t → LimitsS t → Good c (k + 1) ≡ Good c′ k′ → Held (pre ++ (x ∷ [])) c′ k′ cs (t ∷ ss)
+  -- what a good step took and left
+  took : (n : ℕ) → stepped (sumOf n) c k ≡ Good c′ k′ → (n ≤ k) × (c ≡ c′) × (k - n + 1 ≡ k′)
+  took n g = let d = passed (leb n k) _ g in let e : Good c (k - n + 1) ≡ Good c′ k′ = d .1 in (leb→le n k (d .0), cc, cc)
+
+  took-c : (n : ℕ) → stepped (condOf n) c k ≡ Good c′ k′ → (n ≤ c) × (k ≡ 0) × (c - n + 1 ≡ c′) × (0 ≡ k′)
+  took-c n g =
+      let d = passed (leb n c && eqb k 0) _ g in
+      let e : Good (c - n + 1) 0 ≡ Good c′ k′ = d .1 in
+      (leb→le n c (and-l (leb n c) (eqb k 0) (d .0)), eqb→eq k 0 (and-r (leb n c) (eqb k 0) (d .0)), cc, cc)
+
+  took-two : stepped relates c k ≡ Good c′ k′ → (k ≡ 2) × (c + 1 ≡ c′) × (0 ≡ k′)
+  took-two g = let d = passed (eqb k 2) _ g in let e : Good (c + 1) 0 ≡ Good c′ k′ = d .1 in (eqb→eq k 2 (d .0), cc, cc)
+
+  leaf-step : (cs : List Cond) (ss : List Sum) → Held pre c k cs ss → (t : Sum) → x ∷ [] ≡ postfixS t → LimitsS t → stepped (sumOf 0) c k ≡ Good c′ k′ → Held (pre ++ (x ∷ [])) c′ k′ cs (t ∷ ss)
   leaf-step cs ss h t e l g =
-      let p : c ≡ c′ = cc in
-      let q : k + 1 ≡ k′ = cc in
-      let r : length ss ≡ k = h .sums in
+      let d = took 0 g in
       record {
-        conds = h .conds ∙ p;
-        sums = omega arith;
+        conds = h .conds ∙ d .1;
+        sums = omega (arith, h .sums, d .2);
         all-c = h .all-c;
         all-s = (l, h .all-s);
         are = ap (λ (y : List Frame). y ++ (x ∷ [])) (h .are) ∙ append-assoc (flatC cs) (flatS ss) (x ∷ []) ∙ ap (λ (y : List Frame). flatC cs ++ (flatS ss ++ y)) e;
       }
 
-  arithmetic-step : (o : Arithmetic) → bare (Kind.arithmetic o) ≡ x → (cs : List Cond) (ss : List Sum) → Held pre c k cs ss → cond (leb 2 k) (Good c (k - 1)) Bad ≡ Good c′ k′ → Held (pre ++ (x ∷ [])) c′ k′ cs (top2 (arithmetic o) ss)
-  arithmetic-step o e cs [] h g =
-      let w : 2 ≤ k = leb→le 2 k (passed (leb 2 k) _ g .0) in let z : 0 ≡ k = h .sums in absurd (omega arith)
-  arithmetic-step o e cs (b ∷ []) h g =
-      let w : 2 ≤ k = leb→le 2 k (passed (leb 2 k) _ g .0) in let z : 1 ≡ k = h .sums in absurd (omega arith)
+  arithmetic-step : (o : Arithmetic) → bare (Kind.arithmetic o) ≡ x → (cs : List Cond) (ss : List Sum) → Held pre c k cs ss → stepped (sumOf 2) c k ≡ Good c′ k′ → Held (pre ++ (x ∷ [])) c′ k′ cs (top2 (arithmetic o) ss)
+  arithmetic-step o e cs [] h g = absurd (omega (arith, h .sums, took 2 g .0))
+  arithmetic-step o e cs (b ∷ []) h g = absurd (omega (arith, h .sums, took 2 g .0))
   arithmetic-step o e cs (b ∷ (a ∷ ss)) h g =
-      let d : Good c (k - 1) ≡ Good c′ k′ = passed (leb 2 k) _ g .1 in
-      let p : c ≡ c′ = cc in
-      let q : k - 1 ≡ k′ = cc in
-      let r : suc (suc (length ss)) ≡ k = h .sums in
+      let d = took 2 g in
       record {
-        conds = h .conds ∙ p;
-        sums = omega arith;
+        conds = h .conds ∙ d .1;
+        sums = omega (arith, h .sums, d .2);
         all-c = h .all-c;
         all-s = ((h .all-s .1 .0, h .all-s .0), h .all-s .1 .1);
         are = rw (← e) (ap (λ (y : List Frame). y ++ (bare (Kind.arithmetic o) ∷ [])) (h .are) ∙ reg2 (flatC cs) (flatS ss) (postfixS a) (postfixS b) (bare (Kind.arithmetic o) ∷ []));
       }
 
-  absolute-step : bare Kind.absolute ≡ x → (cs : List Cond) (ss : List Sum) → Held pre c k cs ss → cond (leb 1 k) (Good c k) Bad ≡ Good c′ k′ → Held (pre ++ (x ∷ [])) c′ k′ cs (top1 abs ss)
-  absolute-step e cs [] h g =
-      let w : 1 ≤ k = leb→le 1 k (passed (leb 1 k) _ g .0) in let z : 0 ≡ k = h .sums in absurd (omega arith)
+  absolute-step : bare Kind.absolute ≡ x → (cs : List Cond) (ss : List Sum) → Held pre c k cs ss → stepped (sumOf 1) c k ≡ Good c′ k′ → Held (pre ++ (x ∷ [])) c′ k′ cs (top1 abs ss)
+  absolute-step e cs [] h g = absurd (omega (arith, h .sums, took 1 g .0))
   absolute-step e cs (a ∷ ss) h g =
-      let d : Good c k ≡ Good c′ k′ = passed (leb 1 k) _ g .1 in
-      let p : c ≡ c′ = cc in
-      let q : k ≡ k′ = cc in
+      let d = took 1 g in
       record {
-        conds = h .conds ∙ p;
-        sums = h .sums ∙ q;
+        conds = h .conds ∙ d .1;
+        sums = omega (arith, h .sums, d .2);
         all-c = h .all-c;
         all-s = h .all-s;
         are = rw (← e) (ap (λ (y : List Frame). y ++ (bare Kind.absolute ∷ [])) (h .are) ∙ reg1 (flatC cs) (flatS ss) (postfixS a) (bare Kind.absolute ∷ []));
       }
 
-  relation-step : (r : Relation) → bare (Kind.relation r) ≡ x → (cs : List Cond) (ss : List Sum) → Held pre c k cs ss → cond (eqb k 2) (Good (c + 1) 0) Bad ≡ Good c′ k′ → HeldT (pre ++ (x ∷ [])) c′ k′ (related r cs ss)
-  relation-step r e cs [] h g =
-      let w : k ≡ 2 = eqb→eq k 2 (passed (eqb k 2) _ g .0) in let z : 0 ≡ k = h .sums in absurd (omega arith)
-  relation-step r e cs (b ∷ []) h g =
-      let w : k ≡ 2 = eqb→eq k 2 (passed (eqb k 2) _ g .0) in let z : 1 ≡ k = h .sums in absurd (omega arith)
+  relation-step : (r : Relation) → bare (Kind.relation r) ≡ x → (cs : List Cond) (ss : List Sum) → Held pre c k cs ss → stepped relates c k ≡ Good c′ k′ → HeldT (pre ++ (x ∷ [])) c′ k′ (related r cs ss)
+  relation-step r e cs [] h g = absurd (omega (arith, h .sums, took-two g .0))
+  relation-step r e cs (b ∷ []) h g = absurd (omega (arith, h .sums, took-two g .0))
   relation-step r e cs (b ∷ (a ∷ [])) h g =
-      let d : Good (c + 1) 0 ≡ Good c′ k′ = passed (eqb k 2) _ g .1 in
-      let p : c + 1 ≡ c′ = cc in
-      let q : 0 ≡ k′ = cc in
-      let u : length cs ≡ c = h .conds in
+      let d = took-two g in
       record {
-        conds = omega arith;
-        sums = q;
+        conds = omega (arith, h .conds, d .1);
+        sums = d .2;
         all-c = ((h .all-s .1 .0, h .all-s .0), h .all-c);
         all-s = tt;
         are = rw (← e) (ap (λ (y : List Frame). y ++ (bare (Kind.relation r) ∷ [])) (h .are) ∙ reg-rel (flatC cs) (postfixS a) (postfixS b) (bare (Kind.relation r) ∷ []));
       }
-  relation-step r e cs (b ∷ (a ∷ (y ∷ ss))) h g =
-      let w : k ≡ 2 = eqb→eq k 2 (passed (eqb k 2) _ g .0) in let z : suc (suc (suc (length ss))) ≡ k = h .sums in absurd (omega arith)
+  relation-step r e cs (b ∷ (a ∷ (y ∷ ss))) h g = absurd (omega (arith, h .sums, took-two g .0))
 
-  negation-step : bare Kind.negation ≡ x → (cs : List Cond) (ss : List Sum) → Held pre c k cs ss → cond (leb 1 c && eqb k 0) (Good c 0) Bad ≡ Good c′ k′ → Held (pre ++ (x ∷ [])) c′ k′ (top1 not cs) ss
-  negation-step e [] ss h g =
-      let w : 1 ≤ c = leb→le 1 c (and-l (leb 1 c) (eqb k 0) (passed (leb 1 c && eqb k 0) _ g .0)) in let z : 0 ≡ c = h .conds in absurd (omega arith)
-  negation-step e (p ∷ cs) (b ∷ ss) h g =
-      let w : k ≡ 0 = eqb→eq k 0 (and-r (leb 1 c) (eqb k 0) (passed (leb 1 c && eqb k 0) _ g .0)) in let z : suc (length ss) ≡ k = h .sums in absurd (omega arith)
+  negation-step : bare Kind.negation ≡ x → (cs : List Cond) (ss : List Sum) → Held pre c k cs ss → stepped (condOf 1) c k ≡ Good c′ k′ → Held (pre ++ (x ∷ [])) c′ k′ (top1 not cs) ss
+  negation-step e [] ss h g = absurd (omega (arith, h .conds, took-c 1 g .0))
+  negation-step e (p ∷ cs) (b ∷ ss) h g = absurd (omega (arith, h .sums, took-c 1 g .1))
   negation-step e (p ∷ cs) [] h g =
-      let d : Good c 0 ≡ Good c′ k′ = passed (leb 1 c && eqb k 0) _ g .1 in
-      let u : c ≡ c′ = cc in
-      let q : 0 ≡ k′ = cc in
+      let d = took-c 1 g in
       record {
-        conds = h .conds ∙ u;
-        sums = q;
+        conds = omega (arith, h .conds, d .2);
+        sums = d .3;
         all-c = h .all-c;
         all-s = tt;
         are = rw (← e) (ap (λ (y : List Frame). y ++ (bare Kind.negation ∷ [])) (h .are) ∙ reg-not (flatC cs) (postfix p) (bare Kind.negation ∷ []));
       }
 
-  connective-step : (j : Connective) → bare (Kind.connective j) ≡ x → (cs : List Cond) (ss : List Sum) → Held pre c k cs ss → cond (leb 2 c && eqb k 0) (Good (c - 1) 0) Bad ≡ Good c′ k′ → Held (pre ++ (x ∷ [])) c′ k′ (top2 (connective j) cs) ss
-  connective-step j e [] ss h g =
-      let w : 2 ≤ c = leb→le 2 c (and-l (leb 2 c) (eqb k 0) (passed (leb 2 c && eqb k 0) _ g .0)) in let z : 0 ≡ c = h .conds in absurd (omega arith)
-  connective-step j e (q ∷ []) ss h g =
-      let w : 2 ≤ c = leb→le 2 c (and-l (leb 2 c) (eqb k 0) (passed (leb 2 c && eqb k 0) _ g .0)) in let z : 1 ≡ c = h .conds in absurd (omega arith)
-  connective-step j e (q ∷ (p ∷ cs)) (b ∷ ss) h g =
-      let w : k ≡ 0 = eqb→eq k 0 (and-r (leb 2 c) (eqb k 0) (passed (leb 2 c && eqb k 0) _ g .0)) in let z : suc (length ss) ≡ k = h .sums in absurd (omega arith)
+  connective-step : (j : Connective) → bare (Kind.connective j) ≡ x → (cs : List Cond) (ss : List Sum) → Held pre c k cs ss → stepped (condOf 2) c k ≡ Good c′ k′ → Held (pre ++ (x ∷ [])) c′ k′ (top2 (connective j) cs) ss
+  connective-step j e [] ss h g = absurd (omega (arith, h .conds, took-c 2 g .0))
+  connective-step j e (q ∷ []) ss h g = absurd (omega (arith, h .conds, took-c 2 g .0))
+  connective-step j e (q ∷ (p ∷ cs)) (b ∷ ss) h g = absurd (omega (arith, h .sums, took-c 2 g .1))
   connective-step j e (q ∷ (p ∷ cs)) [] h g =
-      let d : Good (c - 1) 0 ≡ Good c′ k′ = passed (leb 2 c && eqb k 0) _ g .1 in
-      let u : c - 1 ≡ c′ = cc in
-      let v : 0 ≡ k′ = cc in
-      let r : suc (suc (length cs)) ≡ c = h .conds in
+      let d = took-c 2 g in
       record {
-        conds = omega arith;
-        sums = v;
+        conds = omega (arith, h .conds, d .2);
+        sums = d .3;
         all-c = ((h .all-c .1 .0, h .all-c .0), h .all-c .1 .1);
         all-s = tt;
         are = rw (← e) (ap (λ (y : List Frame). y ++ (bare (Kind.connective j) ∷ [])) (h .are) ∙ reg-join (flatC cs) (postfix p) (postfix q) (bare (Kind.connective j) ∷ []));
@@ -316,29 +303,29 @@ reference-limits x t =
 module _ (x : Frame) (ok : Octets x) (pre : List Frame) (c k : ℕ) (cs : List Cond) (ss : List Sum) (h : Held pre c k cs ss) (c′ k′ : ℕ) where
   step : (o : Kind) → x .kind ≡ kindByte o → stepIn o x c k ≡ Good c′ k′ → HeldT (pre ++ (x ∷ [])) c′ k′ (builtBy o x cs ss)
   step (Kind.operand Source.literal) e g =
-      let u = passed (literalFields x) (Good c (k + 1)) g in
+      let u = passed (literalFields x) _ g in
       leaf-step pre c k x c′ k′ cs ss h (literal (natAbs (x .value))) (ap (λ (y : Frame). y ∷ []) (is-literal x e (u .0)))
       (literal-limit (x .value) (ok .value) (literal-value x (u .0))) (u .1)
   step (Kind.operand Source.instance) e g =
-      let u = passed (bareFields x) (Good c (k + 1)) g in
+      let u = passed (bareFields x) _ g in
       leaf-step pre c k x c′ k′ cs ss h instance (ap (λ (y : Frame). y ∷ []) (sym (is-bare (Kind.operand Source.instance) x e (u .0)))) tt (u .1)
   step (Kind.operand Source.reference) e g =
-      let u = passed (referenceFields x) (Good c (k + 1)) g in
+      let u = passed (referenceFields x) _ g in
       leaf-step pre c k x c′ k′ cs ss h (reference (referenceOf x)) (ap (λ (y : Frame). y ∷ []) (frame-is e refl refl refl refl)) (reference-limits x (u .0)) (u .1)
   step (Kind.arithmetic o) e g =
-      let u = passed (bareFields x) (stepBy (Kind.arithmetic o) c k) g in
+      let u = passed (bareFields x) _ g in
       arithmetic-step pre c k x c′ k′ o (is-bare (Kind.arithmetic o) x e (u .0)) cs ss h (u .1)
   step Kind.absolute e g =
-      let u = passed (bareFields x) (stepBy Kind.absolute c k) g in
+      let u = passed (bareFields x) _ g in
       absolute-step pre c k x c′ k′ (is-bare Kind.absolute x e (u .0)) cs ss h (u .1)
   step (Kind.relation r) e g =
-      let u = passed (bareFields x) (stepBy (Kind.relation r) c k) g in
+      let u = passed (bareFields x) _ g in
       relation-step pre c k x c′ k′ r (is-bare (Kind.relation r) x e (u .0)) cs ss h (u .1)
   step Kind.negation e g =
-      let u = passed (bareFields x) (stepBy Kind.negation c k) g in
+      let u = passed (bareFields x) _ g in
       negation-step pre c k x c′ k′ (is-bare Kind.negation x e (u .0)) cs ss h (u .1)
   step (Kind.connective j) e g =
-      let u = passed (bareFields x) (stepBy (Kind.connective j) c k) g in
+      let u = passed (bareFields x) _ g in
       connective-step pre c k x c′ k′ j (is-bare (Kind.connective j) x e (u .0)) cs ss h (u .1)
   step Kind.none e g = absurd (bad-good (passed (bareFields x) Bad g .1))
 

@@ -9,9 +9,9 @@ use native.Mathlib.Omega.{arith}
 use lib.Dec.{leb, eqb}
 use borrow.Author.Tests.{eqb-true}
 use Rattle.numbers.proofs.Bools.{and-true}
-use Rattle.rule.specs.Frames.{Kind, operand, arithmetic, absolute, relation, negation, connective, none, kindOf, frameAt, frameCount, fieldsOf}
+use Rattle.rule.specs.Frames.{kindOf, Effect, sumOf, condOf, relates, noRule, effect, frameAt, frameCount, fieldsOf}
 use Rattle.rule.specs.References.{referenceByte, referencesTo, oneMore, referenceCount}
-use Rattle.rule.specs.Order.{stepBy, frameStep, Prefix, viable, stuck, placed, next, prefixAt, ended, orderOf, InOrder}
+use Rattle.rule.specs.Order.{stepped, stepBy, frameStep, Prefix, viable, stuck, placed, next, prefixAt, ended, orderOf, InOrder}
 use Rattle.rule.specs.declared.Frame.{Frame}
 use Rattle.rule.specs.declared.order.Ordered.the-variants.{Fine, At}
 use Rattle.rule.specs.declared.order.Shape.{Shape}
@@ -38,14 +38,11 @@ one-more : (i x y m : ℕ) (t : Bool) → x + y ≤ m → total (placed i (cond 
 one-more i x y m true h = h
 one-more i x y m false h = zero-le
 
-step-total : (i : ℕ) (o : Kind) (c k m : ℕ) → c + k ≤ m → total (placed i (stepBy o c k)) ≤ suc m
-step-total i (operand s) c k m h = omega arith
-step-total i (arithmetic o) c k m h = one-more i c (k - 1) (suc m) (leb 2 k) (omega arith)
-step-total i absolute c k m h = one-more i c k (suc m) (leb 1 k) (omega arith)
-step-total i (relation r) c k m h = one-more i (c + 1) 0 (suc m) (eqb k 2) (omega arith)
-step-total i negation c k m h = one-more i c 0 (suc m) (leb 1 c && eqb k 0) (omega arith)
-step-total i (connective j) c k m h = one-more i (c - 1) 0 (suc m) (leb 2 c && eqb k 0) (omega arith)
-step-total i none c k m h = zero-le
+step-total : (i : ℕ) (f : Effect) (c k m : ℕ) → c + k ≤ m → total (placed i (stepped f c k)) ≤ suc m
+step-total i (sumOf n) c k m h = one-more i c (k - n + 1) (suc m) (leb n k) (omega arith)
+step-total i (condOf n) c k m h = one-more i (c - n + 1) 0 (suc m) (leb n c && eqb k 0) (omega arith)
+step-total i relates c k m h = one-more i (c + 1) 0 (suc m) (eqb k 2) (omega arith)
+step-total i noRule c k m h = zero-le
 
 tested-total : (i : ℕ) (t : Bool) (h : Shape) (m : ℕ) → total (placed i h) ≤ m → total (placed i (cond t h Bad)) ≤ m
 tested-total i true h m l = l
@@ -53,7 +50,7 @@ tested-total i false h m l = zero-le
 
 next-total : (i : ℕ) (x : Frame) (p : Prefix) (m : ℕ) → total p ≤ m → total (next i x p) ≤ suc m
 next-total i x (viable c k) m h =
-    tested-total i (fieldsOf (kindOf (x .kind)) x) (stepBy (kindOf (x .kind)) c k) (suc m) (step-total i (kindOf (x .kind)) c k m h)
+    tested-total i (fieldsOf (kindOf (x .kind)) x) (stepBy (kindOf (x .kind)) c k) (suc m) (step-total i (effect (kindOf (x .kind))) c k m h)
 next-total i x (stuck p) m h = zero-le
 
 prefix-total : (s : List ℕ) (i : ℕ) → total (prefixAt s i) ≤ i

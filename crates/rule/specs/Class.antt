@@ -22,6 +22,55 @@ mark = 4
 abbrev pub foreign : ℕ
 foreign = 0
 
+-- ---- the bytes of the quoted marks: ; ! { } ( ) [ ] * + - = < >, and | and &, which stand only in the marks of two bytes
+abbrev pub semicolon : ℕ
+semicolon = 59
+
+abbrev pub bang : ℕ
+bang = 33
+
+abbrev pub openBrace : ℕ
+openBrace = 123
+
+abbrev pub closeBrace : ℕ
+closeBrace = 125
+
+abbrev pub openParen : ℕ
+openParen = 40
+
+abbrev pub closeParen : ℕ
+closeParen = 41
+
+abbrev pub openBracket : ℕ
+openBracket = 91
+
+abbrev pub closeBracket : ℕ
+closeBracket = 93
+
+abbrev pub star : ℕ
+star = 42
+
+abbrev pub plusMark : ℕ
+plusMark = 43
+
+abbrev pub minusMark : ℕ
+minusMark = 45
+
+abbrev pub equalMark : ℕ
+equalMark = 61
+
+abbrev pub lessMark : ℕ
+lessMark = 60
+
+abbrev pub moreMark : ℕ
+moreMark = 62
+
+abbrev pub bar : ℕ
+bar = 124
+
+abbrev pub ampersand : ℕ
+ampersand = 38
+
 -- b is one of the list
 abbrev pub among : List ℕ → ℕ → Bool
 among [] b = false
@@ -29,11 +78,13 @@ among (x ∷ xs) b = eqb b x || among xs b
 
 -- "marks (those quoted below)": those of one byte, ; ! { } = < > + - * ( ) [ ]
 abbrev pub oneByteMarks : List ℕ
-oneByteMarks = 59 ∷ 33 ∷ 123 ∷ 125 ∷ 61 ∷ 60 ∷ 62 ∷ 43 ∷ 45 ∷ 42 ∷ 40 ∷ 41 ∷ 91 ∷ 93 ∷ []
+oneByteMarks =
+    semicolon ∷ bang ∷ openBrace ∷ closeBrace ∷ equalMark ∷ lessMark ∷ moreMark ∷ plusMark ∷ minusMark ∷ star
+    ∷ openParen ∷ closeParen ∷ openBracket ∷ closeBracket ∷ []
 
--- a byte of a quoted mark; | and & stand only in the marks of two bytes
+-- a byte of a quoted mark
 abbrev pub isMarkByte : ℕ → Bool
-isMarkByte b = among oneByteMarks b || (eqb b 124 || eqb b 38)
+isMarkByte b = among oneByteMarks b || (eqb b bar || eqb b ampersand)
 
 -- "Every one of the 256 byte values has one class"
 unfoldable pub classOf : ℕ → ℕ

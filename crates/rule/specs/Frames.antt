@@ -76,6 +76,40 @@ kindIn (k ∷ ks) b = cond (eqb b (kindByte k)) k (kindIn ks b)
 unfoldable pub kindOf : ℕ → Kind
 kindOf b = kindIn kinds b
 
+-- what a byte asks for among operations of one sort: the first that has the byte, or else the last
+module _ {A : Type 0} (kind : A → Kind) where
+  abbrev pub askedIn : List A → A → ℕ → A
+  askedIn [] last b = last
+  askedIn (x ∷ xs) last b = cond (eqb b (kindByte (kind x))) x (askedIn xs last b)
+
+-- "11 add, 12 subtract, 13 multiply"
+abbrev pub arithmeticAt : ℕ → Arithmetic
+arithmeticAt = askedIn arithmetic (add ∷ subtract ∷ []) multiply
+
+-- "21 to 26 the relations as listed"
+abbrev pub relationAt : ℕ → Relation
+relationAt = askedIn relation (equal ∷ unequal ∷ less ∷ atMost ∷ more ∷ []) atLeast
+
+-- "32 and, 33 or, 34 implies"
+abbrev pub connectiveAt : ℕ → Connective
+connectiveAt = askedIn connective (and ∷ or ∷ []) implies
+
+-- what a frame takes and leaves: a sum of so many sums; a condition of the two sums that there are; a condition of so many
+-- conditions, where no sum is left; or nothing, where no rule has it
+pub data Effect : Type 0 where
+  sumOf condOf : ℕ → Effect
+  relates noRule : Effect
+
+-- 10: "each operand a sum or a condition as the grammar has it"
+abbrev pub effect : Kind → Effect
+effect (operand s) = sumOf 0
+effect (arithmetic o) = sumOf 2
+effect absolute = sumOf 1
+effect (relation r) = relates
+effect negation = condOf 1
+effect (connective j) = condOf 2
+effect none = noRule
+
 -- ---- frames
 -- a frame of its fields
 abbrev pub frame : ℕ → ℕ → ℕ → ℕ → ℤ → Frame
@@ -88,8 +122,10 @@ bare k = frame (kindByte k) 0 0 0 (pos 0)
 -- the k-th frame: "0 kind, 1 event, 2 note, 3 factor, 4 to 7 offset or literal, signed, big-endian"
 abbrev pub frameAt : List ℕ → ℕ → Frame
 frameAt s k =
-    frame (getD s (k * frameBytes) 0) (getD s (k * frameBytes + 1) 0) (getD s (k * frameBytes + 2) 0) (getD s (k * frameBytes + 3) 0)
-    (signedWord (getD s (k * frameBytes + 4) 0) (getD s (k * frameBytes + 5) 0) (getD s (k * frameBytes + 6) 0) (getD s (k * frameBytes + 7) 0))
+    frame (getD s (k * frameBytes) 0) (getD s (k * frameBytes + 1) 0)
+    (getD s (k * frameBytes + 2) 0) (getD s (k * frameBytes + 3) 0)
+    (signedWord (getD s (k * frameBytes + 4) 0) (getD s (k * frameBytes + 5) 0)
+    (getD s (k * frameBytes + 6) 0) (getD s (k * frameBytes + 7) 0))
 
 -- how many whole frames the bytes hold
 abbrev pub frameCount : List ℕ → ℕ

@@ -6,6 +6,8 @@ use mathlib.Core.Bool.{cond}
 use mathlib.Core.List.{List, [], _∷_, _++_}
 use lib.Dec.{eqb}
 use Rattle.rule.specs.Token.{nameKind, numberKind, eventsKind, notesKind, indexKind, absKind, arrowKind, barsKind, ampersandsKind, unequalKind, atMostKind, atLeastKind}
+pub use Rattle.rule.specs.Class.{semicolon, bang, openBrace, closeBrace, openParen, closeParen, openBracket, closeBracket}
+pub use Rattle.rule.specs.Class.{star, plusMark, minusMark, equalMark, lessMark, moreMark}
 use Rattle.rule.specs.declared.Token.{Token}
 use Rattle.rule.specs.declared.parts.Place.{Place}
 use Rattle.rule.specs.declared.parts.Sign.{Sign}
@@ -14,49 +16,6 @@ use Rattle.rule.specs.declared.parts.Scale.{Scale}
 use Rattle.rule.specs.declared.parts.Scale.the-variants.{Once, Times}
 use Rattle.rule.specs.declared.parts.Shift.{Shift}
 use Rattle.rule.specs.declared.parts.Shift.the-variants.{Unshifted, By}
-
--- ---- the quoted marks of one byte, which is their kind: ; ! { } ( ) [ ] * + - = < >
-abbrev pub semicolon : ℕ
-semicolon = 59
-
-abbrev pub bang : ℕ
-bang = 33
-
-abbrev pub openBrace : ℕ
-openBrace = 123
-
-abbrev pub closeBrace : ℕ
-closeBrace = 125
-
-abbrev pub openParen : ℕ
-openParen = 40
-
-abbrev pub closeParen : ℕ
-closeParen = 41
-
-abbrev pub openBracket : ℕ
-openBracket = 91
-
-abbrev pub closeBracket : ℕ
-closeBracket = 93
-
-abbrev pub star : ℕ
-star = 42
-
-abbrev pub plusMark : ℕ
-plusMark = 43
-
-abbrev pub minusMark : ℕ
-minusMark = 45
-
-abbrev pub equalMark : ℕ
-equalMark = 61
-
-abbrev pub lessMark : ℕ
-lessMark = 60
-
-abbrev pub moreMark : ℕ
-moreMark = 62
 
 -- ---- trees
 -- rel: `= != < <= > >=`

@@ -6,7 +6,7 @@ use mathlib.Core.Bool.{_&&_, cond}
 use mathlib.Core.List.{List}
 use Prim.Native.Nat.{ℕ, zero, suc, _+_, _-_}
 use lib.Dec.{leb, eqb}
-use Rattle.rule.specs.Frames.{Kind, operand, arithmetic, absolute, relation, negation, connective, none, kindOf, frameAt, frameCount, fieldsOf}
+use Rattle.rule.specs.Frames.{Kind, kindOf, Effect, sumOf, condOf, relates, noRule, effect, frameAt, frameCount, fieldsOf}
 use Rattle.rule.specs.References.{referenceCount}
 use Rattle.rule.specs.declared.Frame.{Frame}
 use Rattle.rule.specs.declared.order.Ordered.{Ordered}
@@ -14,15 +14,16 @@ use Rattle.rule.specs.declared.order.Ordered.the-variants.{Fine, At}
 use Rattle.rule.specs.declared.order.Shape.{Shape}
 use Rattle.rule.specs.declared.order.Shape.the-variants.{Good, Bad}
 
--- the counts with a frame of a kind more: "each operand a sum or a condition as the grammar has it"
+-- the counts with a frame more, by what it takes and leaves
+abbrev pub stepped : Effect → ℕ → ℕ → Shape
+stepped (sumOf n) c k = cond (leb n k) (Good c (k - n + 1)) Bad
+stepped (condOf n) c k = cond (leb n c && eqb k 0) (Good (c - n + 1) 0) Bad
+stepped relates c k = cond (eqb k 2) (Good (c + 1) 0) Bad
+stepped noRule c k = Bad
+
+-- by its kind: "each operand a sum or a condition as the grammar has it"
 abbrev pub stepBy : Kind → ℕ → ℕ → Shape
-stepBy (operand s) c k = Good c (k + 1)
-stepBy (arithmetic o) c k = cond (leb 2 k) (Good c (k - 1)) Bad
-stepBy absolute c k = cond (leb 1 k) (Good c k) Bad
-stepBy (relation r) c k = cond (eqb k 2) (Good (c + 1) 0) Bad
-stepBy negation c k = cond (leb 1 c && eqb k 0) (Good c 0) Bad
-stepBy (connective j) c k = cond (leb 2 c && eqb k 0) (Good (c - 1) 0) Bad
-stepBy none c k = Bad
+stepBy o = stepped (effect o)
 
 -- and no rule where the fields are not the kind's
 abbrev pub stepIn : Kind → Frame → ℕ → ℕ → Shape

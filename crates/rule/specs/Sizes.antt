@@ -4,10 +4,12 @@ use mathlib.Core.Bool.{Bool, true, false, cond}
 use mathlib.Core.List.{List, [], _∷_}
 use Prim.Native.Nat.{ℕ, zero, suc}
 use lib.Dec.{leb}
-use lib.IntN.{ℤ, natAbs}
-use Rattle.rule.specs.Limits.{instanceMagnitude, referenceMagnitude, magnitudeLimit}
-use Rattle.rule.specs.Frames.{Source, literal, instance, reference, Kind, operand, arithmetic, absolute, relation, negation, connective, none, kindOf, frameAt, frameCount}
-use Rattle.rule.specs.Tree.{grown}
+use lib.IntN.{ℤ}
+use Rattle.rule.specs.Limits.{magnitudeLimit}
+use Rattle.rule.specs.Frames.{Source, Kind, operand, arithmetic, absolute, relation, negation, connective, none, kindOf}
+use Rattle.rule.specs.Frames.{frame, frameAt, frameCount}
+use Rattle.rule.specs.Tree.{grown, magnitude}
+use Rattle.rule.specs.Build.{leaf}
 use Rattle.rule.specs.declared.Frame.{Frame}
 
 -- the magnitudes of the sums so far, the last first; or that one was over the limit
@@ -25,11 +27,9 @@ topped f [] = fits []
 topped f (b ∷ []) = fits (b ∷ [])
 topped f (b ∷ (a ∷ ms)) = pushed (f a b) ms
 
--- "a literal its own value, i 2^20, a reference 2^31"
+-- the magnitude of an operand whose value is v
 abbrev pub operandSize : Source → ℤ → ℕ
-operandSize literal v = natAbs v
-operandSize instance v = instanceMagnitude
-operandSize reference v = referenceMagnitude
+operandSize s v = magnitude (leaf s (frame 0 0 0 0 v))
 
 -- a frame of a kind more; a relation takes the two sums that are there
 abbrev pub sized : Kind → ℤ → List ℕ → Sizes

@@ -7,7 +7,7 @@ use Prim.Native.Nat.{ℕ, zero, suc, _+_, _≤_}
 use lib.Dec.{leb}
 use lib.ListN.{getD}
 use Rattle.rule.specs.Limits.{magnitudeLimit}
-use Rattle.rule.specs.Frames.{Kind, operand, arithmetic, absolute, relation, negation, connective, none}
+use Rattle.rule.specs.Frames.{Kind, Effect, sumOf, condOf, relates, noRule, effect}
 use Rattle.rule.specs.Sizes.{Sizes, fits, over}
 use Rattle.rule.specs.declared.sizes.Size.{Size}
 use Rattle.rule.specs.declared.sizes.Size.the-variants.{Fits, Over}
@@ -27,25 +27,27 @@ loaded cells Over = over
 abbrev pub capped : ℕ → ℕ
 capped m = cond (leb m magnitudeLimit) m (magnitudeLimit + 1)
 
--- a frame of a kind needs so many sums
-abbrev pub Ready : Kind → ℕ → Type 0
-Ready (operand s) k = Unit {0}
-Ready (arithmetic o) k = 2 ≤ k
-Ready absolute k = 1 ≤ k
-Ready (relation r) k = k ≡ 2
-Ready negation k = k ≡ 0
-Ready (connective j) k = k ≡ 0
-Ready none k = ⊥
+-- a frame needs the sums that it takes
+abbrev pub SumsFor : Effect → ℕ → Type 0
+SumsFor (sumOf n) k = n ≤ k
+SumsFor (condOf n) k = k ≡ 0
+SumsFor relates k = k ≡ 2
+SumsFor noRule k = ⊥
 
--- and so many conditions
+-- and the conditions
+abbrev pub CondsFor : Effect → ℕ → Type 0
+CondsFor (sumOf n) c = Unit {0}
+CondsFor (condOf n) c = n ≤ c
+CondsFor relates c = Unit {0}
+CondsFor noRule c = Unit {0}
+
+-- by its kind
+abbrev pub Ready : Kind → ℕ → Type 0
+Ready o = SumsFor (effect o)
+
+-- and of conditions
 abbrev pub ReadyC : Kind → ℕ → Type 0
-ReadyC (operand s) c = Unit {0}
-ReadyC (arithmetic o) c = Unit {0}
-ReadyC absolute c = Unit {0}
-ReadyC (relation r) c = Unit {0}
-ReadyC negation c = 1 ≤ c
-ReadyC (connective j) c = 2 ≤ c
-ReadyC none c = Unit {0}
+ReadyC o = CondsFor (effect o)
 
 -- every magnitude is within the limit
 abbrev pub Bounded : List ℕ → Type 0

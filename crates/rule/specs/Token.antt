@@ -6,6 +6,7 @@ use mathlib.Core.List.{List, [], _∷_}
 use lib.ListN.{length, getD, take, drop}
 use lib.Dec.{leb, eqb}
 use Rattle.rule.specs.Class.{letter, digit, blank, mark, among, oneByteMarks, classOf, span}
+use Rattle.rule.specs.Class.{minusMark, moreMark, bar, ampersand, bang, equalMark, lessMark}
 use Rattle.rule.specs.declared.Token.{Token}
 
 -- Kinds of tokens; a mark of one byte has that byte for its kind.
@@ -92,12 +93,12 @@ IsWord k = (0 < k) × (k ≤ absKind) × (k ≡ numberKind → ⊥)
 -- the quoted marks of two bytes, -> || && != <= >=; 0 where the two bytes are none
 abbrev pub twoByteMark : ℕ → ℕ → ℕ
 twoByteMark b n =
-    cond (eqb b 45 && eqb n 62) arrowKind
-    (cond (eqb b 124 && eqb n 124) barsKind
-    (cond (eqb b 38 && eqb n 38) ampersandsKind
-    (cond (eqb b 33 && eqb n 61) unequalKind
-    (cond (eqb b 60 && eqb n 61) atMostKind
-    (cond (eqb b 62 && eqb n 61) atLeastKind 0)))))
+    cond (eqb b minusMark && eqb n moreMark) arrowKind
+    (cond (eqb b bar && eqb n bar) barsKind
+    (cond (eqb b ampersand && eqb n ampersand) ampersandsKind
+    (cond (eqb b bang && eqb n equalMark) unequalKind
+    (cond (eqb b lessMark && eqb n equalMark) atMostKind
+    (cond (eqb b moreMark && eqb n equalMark) atLeastKind 0)))))
 
 -- "a mark byte in no quoted mark is a token that no rule has"
 abbrev pub oneByteMark : ℕ → ℕ

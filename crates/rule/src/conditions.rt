@@ -1,66 +1,52 @@
 // Readers of conditions: cond, disj, conj and unit. Each takes its part off the stack of specs/Machine.
 use crate::emit::emit_kind;
+use crate::expect::expect;
+use crate::kinds;
 use crate::memory::Step;
 use crate::memory::Tally;
 use crate::memory::deeper;
 use crate::memory::entered;
-use crate::sums::expect;
 use crate::sums::sum;
-use crate::tokens::AMPERSANDS;
-use crate::tokens::ARROW;
-use crate::tokens::AT_LEAST;
-use crate::tokens::AT_MOST;
-use crate::tokens::BARS;
-use crate::tokens::UNEQUAL;
+use crate::tokens::AMPERSANDS_KIND;
+use crate::tokens::ARROW_KIND;
+use crate::tokens::AT_LEAST_KIND;
+use crate::tokens::AT_MOST_KIND;
+use crate::tokens::BARS_KIND;
+use crate::tokens::UNEQUAL_KIND;
 use crate::tokens::token_at;
 ghost use mathlib.Core.Path.{_≡_};
 ghost use mathlib.Core.List.{_∷_};
 ghost use Prim.Native.Nat.{_+_, _≤_};
 ghost use lib.ListN.{length};
+ghost use Rattle.rule.specs.Class.{closeBrace};
 ghost use Rattle.rule.specs.Machine.{want, rel, unit, ands, ors, arrow, conj, sum, condition};
 ghost use Rattle.rule.specs.Memory.{mem};
 ghost use Rattle.rule.specs.Does.{relByte, Does};
-
-const EQUAL: u8 = 0x21;
-
-const OTHER: u8 = 0x22;
-
-const LESS: u8 = 0x23;
-
-const NOT_MORE: u8 = 0x24;
-
-const MORE: u8 = 0x25;
-
-const NOT_LESS: u8 = 0x26;
-
-const NOT: u8 = 0x31;
-
-const AND: u8 = 0x32;
-
-const OR: u8 = 0x33;
-
-const IMPLIES: u8 = 0x34;
 
 // The kind of frame of a relation, 0 of any other token.
 fn rel_kind(k: u8) -> u8
     ensures { λ r. ⌜ r ≡ relByte k ⌝ }
 {
     if k == b'=' {
-        return EQUAL;
+        return kinds::EQUAL_BYTE;
     }
-    if k == UNEQUAL {
-        return OTHER;
+    if k == UNEQUAL_KIND {
+        return kinds::UNEQUAL_BYTE;
     }
     if k == b'<' {
-        return LESS;
+        return kinds::LESS_BYTE;
     }
-    if k == AT_MOST {
-        return NOT_MORE;
+    if k == AT_MOST_KIND {
+        return kinds::AT_MOST_BYTE;
     }
     if k == b'>' {
-        return MORE;
+        return kinds::MORE_BYTE;
     }
-    if k == AT_LEAST { NOT_LESS } else { 0 }
+    if k == AT_LEAST_KIND {
+        kinds::AT_LEAST_BYTE
+    } else {
+        0
+    }
 }
 
 // rel sum, and the frame of the relation.
@@ -73,7 +59,8 @@ fn compare(
     buf: &mut [u8; 512],
 ) -> Step
     requires { ⌜ at ≤ length (now text) ⌝ }
-    ensures { λ r. ⌜ Does (λ s. rel d ∷ s) (now (text .entry)) at (at + 1) (mem m (now (names .entry)) (now (buf .entry))) r (now (names .entry)) (now (buf .exit)) ⌝ }
+    ensures { λ r. ⌜ Does (λ s. rel d ∷ s) (now (text .entry)) at (at + 1)
+        (mem m (now (names .entry)) (now (buf .entry))) r (now (names .entry)) (now (buf .exit)) ⌝ }
 {
     let t = token_at(text, at);
     let kind = rel_kind(t.kind);
@@ -96,7 +83,8 @@ fn relation(
     buf: &mut [u8; 512],
 ) -> Step
     requires { ⌜ at ≤ length (now text) ⌝ }
-    ensures { λ r. ⌜ Does (λ s. sum d (rel d ∷ s)) (now (text .entry)) at (at + 1) (mem m (now (names .entry)) (now (buf .entry))) r (now (names .entry)) (now (buf .exit)) ⌝ }
+    ensures { λ r. ⌜ Does (λ s. sum d (rel d ∷ s)) (now (text .entry)) at (at + 1)
+        (mem m (now (names .entry)) (now (buf .entry))) r (now (names .entry)) (now (buf .exit)) ⌝ }
 {
     match sum(text, names, at, d, m, buf) {
         Step::No(q) => Step::No(q),
@@ -114,7 +102,8 @@ fn braces(
     buf: &mut [u8; 512],
 ) -> Step
     requires { ⌜ at ≤ length (now text) ⌝ }
-    ensures { λ r. ⌜ Does (λ s. condition d (want 125 ∷ s)) (now (text .entry)) at (at + 1) (mem m (now (names .entry)) (now (buf .entry))) r (now (names .entry)) (now (buf .exit)) ⌝ }
+    ensures { λ r. ⌜ Does (λ s. condition d (want closeBrace ∷ s)) (now (text .entry)) at (at + 1)
+        (mem m (now (names .entry)) (now (buf .entry))) r (now (names .entry)) (now (buf .exit)) ⌝ }
 {
     match condition(text, names, at, d, m, buf) {
         Step::No(q) => Step::No(q),
@@ -132,7 +121,8 @@ pub fn condition(
     buf: &mut [u8; 512],
 ) -> Step
     requires { ⌜ at ≤ length (now text) ⌝ }
-    ensures { λ r. ⌜ Does (λ s. condition d s) (now (text .entry)) at (at + 1) (mem m (now (names .entry)) (now (buf .entry))) r (now (names .entry)) (now (buf .exit)) ⌝ }
+    ensures { λ r. ⌜ Does (λ s. condition d s) (now (text .entry)) at (at + 1)
+        (mem m (now (names .entry)) (now (buf .entry))) r (now (names .entry)) (now (buf .exit)) ⌝ }
 {
     match conj(text, names, at, d, m, buf) {
         Step::No(q) => Step::No(q),
@@ -146,32 +136,34 @@ pub fn condition(
 // ["->" cond]
 fn arrow(text: &[u8], names: &[u64; 12], at: usize, d: usize, m: Tally, buf: &mut [u8; 512]) -> Step
     requires { ⌜ at ≤ length (now text) ⌝ }
-    ensures { λ r. ⌜ Does (λ s. arrow d ∷ s) (now (text .entry)) at at (mem m (now (names .entry)) (now (buf .entry))) r (now (names .entry)) (now (buf .exit)) ⌝ }
+    ensures { λ r. ⌜ Does (λ s. arrow d ∷ s) (now (text .entry)) at at
+        (mem m (now (names .entry)) (now (buf .entry))) r (now (names .entry)) (now (buf .exit)) ⌝ }
 {
     let t = token_at(text, at);
-    if t.kind != ARROW {
+    if t.kind != ARROW_KIND {
         return Step::Go(at, m);
     }
     let e = deeper(d);
     match condition(text, names, t.end, e, entered(e, m), buf) {
         Step::No(q) => Step::No(q),
-        Step::Go(a, n) => Step::Go(a, emit_kind(buf, n, IMPLIES)),
+        Step::Go(a, n) => Step::Go(a, emit_kind(buf, n, kinds::IMPLIES_BYTE)),
     }
 }
 
 // {"||" conj}
 fn ors(text: &[u8], names: &[u64; 12], at: usize, d: usize, m: Tally, buf: &mut [u8; 512]) -> Step
     requires { ⌜ at ≤ length (now text) ⌝ }
-    ensures { λ r. ⌜ Does (λ s. ors d ∷ s) (now (text .entry)) at at (mem m (now (names .entry)) (now (buf .entry))) r (now (names .entry)) (now (buf .exit)) ⌝ }
+    ensures { λ r. ⌜ Does (λ s. ors d ∷ s) (now (text .entry)) at at
+        (mem m (now (names .entry)) (now (buf .entry))) r (now (names .entry)) (now (buf .exit)) ⌝ }
 {
     let t = token_at(text, at);
-    if t.kind != BARS {
+    if t.kind != BARS_KIND {
         return Step::Go(at, m);
     }
     match conj(text, names, t.end, d, m, buf) {
         Step::No(q) => Step::No(q),
         Step::Go(a, n) => {
-            let k = emit_kind(buf, n, OR);
+            let k = emit_kind(buf, n, kinds::OR_BYTE);
             ors(text, names, a, d, k, buf)
         }
     }
@@ -180,7 +172,8 @@ fn ors(text: &[u8], names: &[u64; 12], at: usize, d: usize, m: Tally, buf: &mut 
 // conj: unit {"&&" unit}
 fn conj(text: &[u8], names: &[u64; 12], at: usize, d: usize, m: Tally, buf: &mut [u8; 512]) -> Step
     requires { ⌜ at ≤ length (now text) ⌝ }
-    ensures { λ r. ⌜ Does (λ s. conj d s) (now (text .entry)) at (at + 1) (mem m (now (names .entry)) (now (buf .entry))) r (now (names .entry)) (now (buf .exit)) ⌝ }
+    ensures { λ r. ⌜ Does (λ s. conj d s) (now (text .entry)) at (at + 1)
+        (mem m (now (names .entry)) (now (buf .entry))) r (now (names .entry)) (now (buf .exit)) ⌝ }
 {
     match unit(text, names, at, d, m, buf) {
         Step::No(q) => Step::No(q),
@@ -191,16 +184,17 @@ fn conj(text: &[u8], names: &[u64; 12], at: usize, d: usize, m: Tally, buf: &mut
 // {"&&" unit}
 fn ands(text: &[u8], names: &[u64; 12], at: usize, d: usize, m: Tally, buf: &mut [u8; 512]) -> Step
     requires { ⌜ at ≤ length (now text) ⌝ }
-    ensures { λ r. ⌜ Does (λ s. ands d ∷ s) (now (text .entry)) at at (mem m (now (names .entry)) (now (buf .entry))) r (now (names .entry)) (now (buf .exit)) ⌝ }
+    ensures { λ r. ⌜ Does (λ s. ands d ∷ s) (now (text .entry)) at at
+        (mem m (now (names .entry)) (now (buf .entry))) r (now (names .entry)) (now (buf .exit)) ⌝ }
 {
     let t = token_at(text, at);
-    if t.kind != AMPERSANDS {
+    if t.kind != AMPERSANDS_KIND {
         return Step::Go(at, m);
     }
     match unit(text, names, t.end, d, m, buf) {
         Step::No(q) => Step::No(q),
         Step::Go(a, n) => {
-            let k = emit_kind(buf, n, AND);
+            let k = emit_kind(buf, n, kinds::AND_BYTE);
             ands(text, names, a, d, k, buf)
         }
     }
@@ -209,7 +203,8 @@ fn ands(text: &[u8], names: &[u64; 12], at: usize, d: usize, m: Tally, buf: &mut
 // unit: "!" unit, or "{" cond "}", or sum rel sum
 fn unit(text: &[u8], names: &[u64; 12], at: usize, d: usize, m: Tally, buf: &mut [u8; 512]) -> Step
     requires { ⌜ at ≤ length (now text) ⌝ }
-    ensures { λ r. ⌜ Does (λ s. unit d ∷ s) (now (text .entry)) at (at + 1) (mem m (now (names .entry)) (now (buf .entry))) r (now (names .entry)) (now (buf .exit)) ⌝ }
+    ensures { λ r. ⌜ Does (λ s. unit d ∷ s) (now (text .entry)) at (at + 1)
+        (mem m (now (names .entry)) (now (buf .entry))) r (now (names .entry)) (now (buf .exit)) ⌝ }
 {
     let t = token_at(text, at);
     let e = deeper(d);
@@ -221,6 +216,6 @@ fn unit(text: &[u8], names: &[u64; 12], at: usize, d: usize, m: Tally, buf: &mut
     }
     match unit(text, names, t.end, e, entered(e, m), buf) {
         Step::No(q) => Step::No(q),
-        Step::Go(a, n) => Step::Go(a, emit_kind(buf, n, NOT)),
+        Step::Go(a, n) => Step::Go(a, emit_kind(buf, n, kinds::NOT_BYTE)),
     }
 }

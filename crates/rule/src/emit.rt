@@ -1,5 +1,6 @@
 // Frames go out to a buffer of 64 frames of 8 bytes.
-use crate::frames::FRAME_BYTES;
+use crate::kinds;
+use crate::limits;
 use crate::lookup::lookup;
 use crate::memory::Fields;
 use crate::memory::Tally;
@@ -21,21 +22,13 @@ ghost use Rattle.rule.specs.Machine.{out, sized};
 ghost use Rattle.rule.specs.Memory.{codeAt, valueAt, factorOf, offsetOf, negated, written, acts, mem};
 ghost use Rattle.rule.specs.Does.{Inside, InsideScale, InsideShift};
 
-const FRAMES: usize = 64;
-
-const LITERAL: u8 = 0x01;
-
-const INSTANCE: u8 = 0x02;
-
-pub const REFERENCE: u8 = 0x03;
-
 // Puts a frame at its place, if there is room, and counts it.
 fn emit(buf: &mut [u8; 512], m: Tally, f: Fields) -> Tally
     ensures { λ r. ⌜ ((tb : List ℕ) → mem r tb (now (buf .exit)) ≡ written f (mem m tb (now (buf .entry)))) ⌝ }
 {
     let n = m.count;
-    if n < FRAMES {
-        let p = n * FRAME_BYTES;
+    if n < limits::FRAME_LIMIT {
+        let p = n * limits::FRAME_BYTES;
         let w = f.word;
         buf[p] = f.kind;
         buf[p + 1] = f.event;
@@ -55,7 +48,7 @@ fn emit(buf: &mut [u8; 512], m: Tally, f: Fields) -> Tally
         };
     }
     Tally {
-        count: FRAMES + 1,
+        count: limits::FRAME_LIMIT + 1,
         deep: m.deep,
         number: m.number,
         name: m.name,
@@ -66,7 +59,8 @@ fn emit(buf: &mut [u8; 512], m: Tally, f: Fields) -> Tally
 
 // A frame that uses its kind alone.
 pub fn emit_kind(buf: &mut [u8; 512], m: Tally, kind: u8) -> Tally
-    ensures { λ r. ⌜ ((text tb : List ℕ) → mem r tb (now (buf .exit)) ≡ acts text (out (plain kind)) (mem m tb (now (buf .entry)))) ⌝ }
+    ensures { λ r. ⌜ ((text tb : List ℕ) → mem r tb (now (buf .exit))
+        ≡ acts text (out (plain kind)) (mem m tb (now (buf .entry)))) ⌝ }
 {
     emit(
         buf,
@@ -89,7 +83,7 @@ pub fn emit_instance(buf: &mut [u8; 512], m: Tally) -> Tally
         buf,
         m,
         Fields {
-            kind: INSTANCE,
+            kind: kinds::INSTANCE_BYTE,
             event: 0,
             note: 0,
             factor: 0,
@@ -101,7 +95,9 @@ pub fn emit_instance(buf: &mut [u8; 512], m: Tally) -> Tally
 // The frame of the literal at `p`, after its limit.
 pub fn emit_literal(text: &[u8], buf: &mut [u8; 512], m: Tally, p: Place) -> Tally
     requires { ⌜ Inside (length (now text)) p ⌝ }
-    ensures { λ r. ⌜ ((tb : List ℕ) → mem r tb (now (buf .exit)) ≡ acts (now (text .entry)) (out (lit p)) (acts (now (text .entry)) (sized Limit.OfLiteral p) (mem m tb (now (buf .entry))))) ⌝ }
+    ensures { λ r. ⌜ ((tb : List ℕ) → mem r tb (now (buf .exit))
+        ≡ acts (now (text .entry)) (out (lit p))
+        (acts (now (text .entry)) (sized Limit.OfLiteral p) (mem m tb (now (buf .entry))))) ⌝ }
 {
     let n = sized(text, Limit::OfLiteral, p, m);
     let v = number_at(text, p);
@@ -109,7 +105,7 @@ pub fn emit_literal(text: &[u8], buf: &mut [u8; 512], m: Tally, p: Place) -> Tal
         buf,
         n,
         Fields {
-            kind: LITERAL,
+            kind: kinds::LITERAL_BYTE,
             event: 0,
             note: 0,
             factor: 0,
@@ -164,8 +160,10 @@ pub fn emit_reference(
     f: Scale,
     o: Shift,
 ) -> Tally
-    requires { ⌜ Inside (length (now text)) n × Inside (length (now text)) e × InsideScale (length (now text)) f × InsideShift (length (now text)) o ⌝ }
-    ensures { λ r. ⌜ mem r (now (names .entry)) (now (buf .exit)) ≡ acts (now (text .entry)) (out (ref n e f o)) (mem m (now (names .entry)) (now (buf .entry))) ⌝ }
+    requires { ⌜ Inside (length (now text)) n × Inside (length (now text)) e × InsideScale (length (now text)) f
+        × InsideShift (length (now text)) o ⌝ }
+    ensures { λ r. ⌜ mem r (now (names .entry)) (now (buf .exit))
+        ≡ acts (now (text .entry)) (out (ref n e f o)) (mem m (now (names .entry)) (now (buf .entry))) ⌝ }
 {
     let event = lookup(names, Role::Event, name_at(text, e), m);
     let note = lookup(names, Role::Note, name_at(text, n), m);
@@ -175,7 +173,7 @@ pub fn emit_reference(
         buf,
         m,
         Fields {
-            kind: REFERENCE,
+            kind: kinds::REFERENCE_BYTE,
             event,
             note,
             factor,

@@ -1,5 +1,7 @@
 // A frame's fields: decoding, and which a kind may have.
 use crate::Frame;
+use crate::kinds;
+use crate::limits;
 ghost use mathlib.Core.Path.{_≡_};
 ghost use Prim.Native.Nat.{_+_, _*_, _≤_};
 ghost use lib.Dec.{leb, eqb};
@@ -8,30 +10,12 @@ ghost use lib.ListN.{length};
 ghost use Rattle.rule.specs.Limits.{frameBytes, offsetLimit};
 ghost use Rattle.rule.specs.Frames.{kindOf, frameAt, unused, literalFields, referenceFields, bareFields, fieldsOf};
 
-// A frame has 8 bytes.
-pub const FRAME_BYTES: usize = 8;
-
-// At most 8 events, numbered from 0.
-const EVENTS: u8 = 8;
-
-// At most 4 notes, numbered from 0.
-const NOTES: u8 = 4;
-
-// The factor of i is 1 to 9.
-const FACTOR: u8 = 9;
-
-// The offset is −9,999 to 9,999.
-const OFFSET: i32 = 9999;
-
-// Literals are not negative.
-const LEAST_LITERAL: i32 = 0;
-
 // The k-th frame. Called where it lies within the slice: by the passes of order.rt and sizes.rt, and by crates above.
 pub fn frame_at(frames: &[u8], k: usize) -> Frame
     requires { ⌜ k * frameBytes + frameBytes ≤ length (now frames) ⌝ }
     ensures { λ r. ⌜ r ≡ frameAt (now (frames .entry)) k ⌝ }
 {
-    let at = k * FRAME_BYTES;
+    let at = k * limits::FRAME_BYTES;
     let value = numbers::word(
         frames[at + 4],
         frames[at + 5],
@@ -64,21 +48,21 @@ fn zero(v: i32) -> bool
 fn near(v: i32) -> bool
     ensures { λ r. ⌜ r ≡ leb (natAbs v) offsetLimit ⌝ }
 {
-    (-OFFSET <= v) & (v <= OFFSET)
+    (-limits::OFFSET_LIMIT <= v) & (v <= limits::OFFSET_LIMIT)
 }
 
 // The fields of a literal, of a reference, and of any other kind.
 fn of_literal(x: Frame) -> bool
     ensures { λ r. ⌜ r ≡ literalFields x ⌝ }
 {
-    no_operand(x) & (LEAST_LITERAL <= x.value)
+    no_operand(x) & (limits::LEAST_LITERAL <= x.value)
 }
 
 fn of_reference(x: Frame) -> bool
     ensures { λ r. ⌜ r ≡ referenceFields x ⌝ }
 {
-    ((x.event < EVENTS) & (x.note < NOTES))
-        & ((1 <= x.factor) & (x.factor <= FACTOR))
+    ((x.event < limits::EVENT_LIMIT) & (x.note < limits::NOTE_LIMIT))
+        & ((1 <= x.factor) & (x.factor <= limits::FACTOR_LIMIT))
         & near(x.value)
 }
 
@@ -94,8 +78,8 @@ pub fn fields(x: Frame) -> bool
 {
     let kind = x.kind;
     match kind {
-        0x01 => of_literal(x),
-        0x03 => of_reference(x),
+        kinds::LITERAL_BYTE => of_literal(x),
+        kinds::REFERENCE_BYTE => of_reference(x),
         _ => of_bare(x),
     }
 }

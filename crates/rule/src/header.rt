@@ -1,16 +1,17 @@
 // Readers of the declarations. Each takes its part off the stack of specs/Machine.
+use crate::expect::expect;
 use crate::lookup::declare;
 use crate::memory::Step;
 use crate::memory::Tally;
 use crate::parts::Place;
 use crate::parts::Role;
-use crate::sums::expect;
-use crate::tokens::NAME;
+use crate::tokens::NAME_KIND;
 use crate::tokens::token_at;
 ghost use mathlib.Core.Path.{_≡_};
 ghost use mathlib.Core.List.{List, _∷_};
 ghost use Prim.Native.Nat.{ℕ, _+_, _≤_, _<_};
 ghost use lib.ListN.{length};
+ghost use Rattle.rule.specs.Class.{semicolon};
 ghost use Rattle.rule.specs.Machine.{want, name-of, names-of};
 ghost use Rattle.rule.specs.Memory.{mem};
 ghost use Rattle.rule.specs.Does.{Does};
@@ -18,10 +19,11 @@ ghost use Rattle.rule.specs.Does.{Does};
 // A name, which is declared.
 fn name_of(text: &[u8], names: &mut [u64; 12], at: usize, role: Role, m: Tally) -> Step
     requires { ⌜ (at ≤ length (now text)) × (length (now names) ≡ 12) ⌝ }
-    ensures { λ r. ⌜ ((b : List ℕ) → Does (λ s. name-of role ∷ s) (now (text .entry)) at (at + 1) (mem m (now (names .entry)) b) r (now (names .exit)) b) × (length (now (names .exit)) ≡ 12) ⌝ }
+    ensures { λ r. ⌜ ((b : List ℕ) → Does (λ s. name-of role ∷ s) (now (text .entry)) at (at + 1)
+        (mem m (now (names .entry)) b) r (now (names .exit)) b) × (length (now (names .exit)) ≡ 12) ⌝ }
 {
     let t = token_at(text, at);
-    if t.kind != NAME {
+    if t.kind != NAME_KIND {
         return Step::No(t.start);
     }
     let p = Place {
@@ -34,10 +36,11 @@ fn name_of(text: &[u8], names: &mut [u64; 12], at: usize, role: Role, m: Tally) 
 // {name}
 fn names_of(text: &[u8], names: &mut [u64; 12], at: usize, role: Role, m: Tally) -> Step
     requires { ⌜ (at ≤ length (now text)) × (length (now names) ≡ 12) ⌝ }
-    ensures { λ r. ⌜ ((b : List ℕ) → Does (λ s. names-of role ∷ s) (now (text .entry)) at at (mem m (now (names .entry)) b) r (now (names .exit)) b) × (length (now (names .exit)) ≡ 12) ⌝ }
+    ensures { λ r. ⌜ ((b : List ℕ) → Does (λ s. names-of role ∷ s) (now (text .entry)) at at
+        (mem m (now (names .entry)) b) r (now (names .exit)) b) × (length (now (names .exit)) ≡ 12) ⌝ }
 {
     let t = token_at(text, at);
-    if t.kind != NAME {
+    if t.kind != NAME_KIND {
         return Step::Go(at, m);
     }
     let p = Place {
@@ -51,7 +54,8 @@ fn names_of(text: &[u8], names: &mut [u64; 12], at: usize, role: Role, m: Tally)
 // name {name} ";"
 fn name_list(text: &[u8], names: &mut [u64; 12], at: usize, role: Role, m: Tally) -> Step
     requires { ⌜ (at ≤ length (now text)) × (length (now names) ≡ 12) ⌝ }
-    ensures { λ r. ⌜ ((b : List ℕ) → Does (λ s. name-of role ∷ names-of role ∷ want 59 ∷ s) (now (text .entry)) at at (mem m (now (names .entry)) b) r (now (names .exit)) b) × (length (now (names .exit)) ≡ 12) ⌝ }
+    ensures { λ r. ⌜ ((b : List ℕ) → Does (λ s. name-of role ∷ names-of role ∷ want semicolon ∷ s) (now (text .entry)) at at
+        (mem m (now (names .entry)) b) r (now (names .exit)) b) × (length (now (names .exit)) ≡ 12) ⌝ }
 {
     match name_of(text, names, at, role, m) {
         Step::No(q) => Step::No(q),
@@ -72,7 +76,8 @@ pub fn declarations(
     m: Tally,
 ) -> Step
     requires { ⌜ (at ≤ length (now text)) × (length (now names) ≡ 12) × (0 < word) ⌝ }
-    ensures { λ r. ⌜ ((b : List ℕ) → Does (λ s. want word ∷ name-of role ∷ names-of role ∷ want 59 ∷ s) (now (text .entry)) at at (mem m (now (names .entry)) b) r (now (names .exit)) b) × (length (now (names .exit)) ≡ 12) ⌝ }
+    ensures { λ r. ⌜ ((b : List ℕ) → Does (λ s. want word ∷ name-of role ∷ names-of role ∷ want semicolon ∷ s)
+        (now (text .entry)) at at (mem m (now (names .entry)) b) r (now (names .exit)) b) × (length (now (names .exit)) ≡ 12) ⌝ }
 {
     match expect(text, at, m, word) {
         Step::No(q) => Step::No(q),

@@ -1,4 +1,6 @@
 // Rules: text, tokens, frames and their checks. Nothing here knows of logs.
+pub mod limits; // limits.rt: the limits of a rule
+pub mod kinds; // kinds.rt: the kinds of frames
 mod classes; // classes.rt: the class of a byte
 mod tokens; // tokens.rt: the next token of a text
 mod parts; // parts.rt: what the grammar's readers hand on
@@ -7,7 +9,9 @@ mod numerals; // numerals.rt: the value of a run of digits
 mod memory; // memory.rt: what the reader remembers; refusals 5 and 6
 mod lookup; // lookup.rt: declared names; refusal 4
 mod emit; // emit.rt: a frame is put into the buffer
-mod sums; // sums.rt: readers of sums and references
+mod expect; // expect.rt: a token of one kind
+mod references; // references.rt: readers of references
+mod sums; // sums.rt: readers of sums
 mod conditions; // conditions.rt: readers of conditions
 mod header; // header.rt: readers of the declarations
 mod reader; // reader.rt: the reader of a whole rule; refusals 1 to 8
@@ -15,9 +19,9 @@ mod frames; // frames.rt: a frame's fields
 mod order; // order.rt: refusal 10, and how many references there are
 mod sizes; // sizes.rt: refusal 8
 
-pub use emit::REFERENCE;
-pub use frames::FRAME_BYTES;
 pub use frames::frame_at;
+pub use kinds::REFERENCE_BYTE as REFERENCE;
+pub use limits::FRAME_BYTES;
 use order::Ordered;
 pub use order::reference_count;
 pub use reader::read;
@@ -60,14 +64,11 @@ pub enum Checked {
     Refused(Refusal),
 }
 
-// At most 64 frames of 8 bytes.
-const LONGEST: usize = 512;
-
 // 8 to 512 bytes in steps of 8.
 fn whole_frames(n: usize) -> bool
     ensures { λ r. ⌜ r ≡ wholeFrames n ⌝ }
 {
-    ((frames::FRAME_BYTES <= n) & (n <= LONGEST)) & (n % frames::FRAME_BYTES == 0)
+    ((limits::FRAME_BYTES <= n) & (n <= limits::BUFFER_BYTES)) & (n % limits::FRAME_BYTES == 0)
 }
 
 fn refuse(number: u8, place: u32) -> Checked

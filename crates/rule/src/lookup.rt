@@ -1,4 +1,5 @@
 // Declared names: a table of 12 numbers of names, events from 0 on and notes from 8 on.
+use crate::limits;
 use crate::memory::Tally;
 use crate::memory::blamed;
 use crate::memory::name_at;
@@ -16,10 +17,6 @@ ghost use Rattle.rule.specs.Spelling.{room};
 ghost use Rattle.rule.specs.Machine.{declare, uses};
 ghost use Rattle.rule.specs.Memory.{table, position, acts, listed, mem, among};
 ghost use Rattle.rule.specs.Does.{Inside};
-
-const EVENTS: u8 = 8;
-
-const NOTES: u8 = 4;
 
 fn least(a: u8, b: u8) -> u8
     ensures { λ r. ⌜ r ≡ min a b ⌝ }
@@ -47,8 +44,8 @@ fn most(role: Role) -> u8
     ensures { λ r. ⌜ r ≡ room role ⌝ }
 {
     match role {
-        Role::Event => EVENTS,
-        Role::Note => NOTES,
+        Role::Event => limits::EVENT_LIMIT,
+        Role::Note => limits::NOTE_LIMIT,
     }
 }
 
@@ -57,8 +54,8 @@ fn held(role: Role, m: Tally) -> u8
     ensures { λ r. ⌜ ((tb b : List ℕ) → r ≡ length (table role (mem m tb b))) ⌝ }
 {
     match role {
-        Role::Event => least(EVENTS, m.events),
-        Role::Note => least(NOTES, m.notes),
+        Role::Event => least(limits::EVENT_LIMIT, m.events),
+        Role::Note => least(limits::NOTE_LIMIT, m.notes),
     }
 }
 
@@ -67,8 +64,13 @@ pub fn lookup(names: &[u64; 12], role: Role, c: u64, m: Tally) -> u8
     ensures { λ r. ⌜ ((b : List ℕ) → r ≡ position c (table role (mem m (now (names .entry)) b))) ⌝ }
 {
     match role {
-        Role::Event => find(names, 0, least(EVENTS, m.events), c),
-        Role::Note => find(names, EVENTS, least(NOTES, m.notes), c),
+        Role::Event => find(names, 0, least(limits::EVENT_LIMIT, m.events), c),
+        Role::Note => find(
+            names,
+            limits::EVENT_LIMIT,
+            least(limits::NOTE_LIMIT, m.notes),
+            c,
+        ),
     }
 }
 
@@ -82,7 +84,8 @@ fn declared(names: &[u64; 12], role: Role, c: u64, m: Tally) -> bool
 // After the use of the name at `p`.
 pub fn named(text: &[u8], names: &[u64; 12], role: Role, p: Place, m: Tally) -> Tally
     requires { ⌜ Inside (length (now text)) p ⌝ }
-    ensures { λ r. ⌜ ((b : List ℕ) → mem r (now (names .entry)) b ≡ acts (now (text .entry)) (uses role p) (mem m (now (names .entry)) b)) ⌝ }
+    ensures { λ r. ⌜ ((b : List ℕ) → mem r (now (names .entry)) b
+        ≡ acts (now (text .entry)) (uses role p) (mem m (now (names .entry)) b)) ⌝ }
 {
     let c = name_at(text, p);
     if declared(names, role, c, m) {
@@ -93,7 +96,9 @@ pub fn named(text: &[u8], names: &[u64; 12], role: Role, p: Place, m: Tally) -> 
 
 // Whether a declaration is bad: over 12 letters, declared already, or one too many.
 fn misnamed(names: &[u64; 12], role: Role, c: u64, m: Tally) -> bool
-    ensures { λ r. ⌜ ((b : List ℕ) → r ≡ cond (leb longName c) true (cond (among c (table role (mem m (now (names .entry)) b))) true (leb (room role) (length (table role (mem m (now (names .entry)) b)))))) ⌝ }
+    ensures { λ r. ⌜ ((b : List ℕ) → r ≡ cond (leb longName c) true
+        (cond (among c (table role (mem m (now (names .entry)) b))) true
+        (leb (room role) (length (table role (mem m (now (names .entry)) b)))))) ⌝ }
 {
     if LONG_NAME <= c {
         return true;
@@ -107,7 +112,8 @@ fn misnamed(names: &[u64; 12], role: Role, c: u64, m: Tally) -> bool
 // After the declaration of an event.
 fn declare_event(text: &[u8], names: &mut [u64; 12], p: Place, m: Tally) -> Tally
     requires { ⌜ Inside (length (now text)) p × (length (now names) ≡ 12) ⌝ }
-    ensures { λ r. ⌜ ((b : List ℕ) → mem r (now (names .exit)) b ≡ acts (now (text .entry)) (declare Role.Event p) (mem m (now (names .entry)) b)) × (length (now (names .exit)) ≡ 12) ⌝ }
+    ensures { λ r. ⌜ ((b : List ℕ) → mem r (now (names .exit)) b
+        ≡ acts (now (text .entry)) (declare Role.Event p) (mem m (now (names .entry)) b)) × (length (now (names .exit)) ≡ 12) ⌝ }
 {
     let c = name_at(text, p);
     if misnamed(names, Role::Event, c, m) {
@@ -128,14 +134,15 @@ fn declare_event(text: &[u8], names: &mut [u64; 12], p: Place, m: Tally) -> Tall
 // After the declaration of a note.
 fn declare_note(text: &[u8], names: &mut [u64; 12], p: Place, m: Tally) -> Tally
     requires { ⌜ Inside (length (now text)) p × (length (now names) ≡ 12) ⌝ }
-    ensures { λ r. ⌜ ((b : List ℕ) → mem r (now (names .exit)) b ≡ acts (now (text .entry)) (declare Role.Note p) (mem m (now (names .entry)) b)) × (length (now (names .exit)) ≡ 12) ⌝ }
+    ensures { λ r. ⌜ ((b : List ℕ) → mem r (now (names .exit)) b
+        ≡ acts (now (text .entry)) (declare Role.Note p) (mem m (now (names .entry)) b)) × (length (now (names .exit)) ≡ 12) ⌝ }
 {
     let c = name_at(text, p);
     if misnamed(names, Role::Note, c, m) {
         return blamed(p, m);
     }
     let n = m.notes;
-    names[(EVENTS + n) as usize] = c;
+    names[(limits::EVENT_LIMIT + n) as usize] = c;
     Tally {
         count: m.count,
         deep: m.deep,
@@ -149,7 +156,8 @@ fn declare_note(text: &[u8], names: &mut [u64; 12], p: Place, m: Tally) -> Tally
 // After the declaration of the name at `p`.
 pub fn declare(text: &[u8], names: &mut [u64; 12], role: Role, p: Place, m: Tally) -> Tally
     requires { ⌜ Inside (length (now text)) p × (length (now names) ≡ 12) ⌝ }
-    ensures { λ r. ⌜ ((b : List ℕ) → mem r (now (names .exit)) b ≡ acts (now (text .entry)) (declare role p) (mem m (now (names .entry)) b)) × (length (now (names .exit)) ≡ 12) ⌝ }
+    ensures { λ r. ⌜ ((b : List ℕ) → mem r (now (names .exit)) b
+        ≡ acts (now (text .entry)) (declare role p) (mem m (now (names .entry)) b)) × (length (now (names .exit)) ≡ 12) ⌝ }
 {
     match role {
         Role::Event => declare_event(text, names, p, m),

@@ -1,4 +1,5 @@
 // What the reader remembers while it reads a text, and what depths and numbers do to that.
+use crate::limits;
 use crate::names::name_code;
 use crate::numerals::number_value;
 use crate::parts::Limit;
@@ -11,14 +12,6 @@ ghost use Rattle.rule.specs.Spelling.{beyond};
 ghost use Rattle.rule.specs.Machine.{deeper, enter, sized};
 ghost use Rattle.rule.specs.Memory.{first, blame, codeAt, valueAt, acts, mem};
 ghost use Rattle.rule.specs.Does.{Inside};
-
-const DEPTH: usize = 16;
-
-const LITERAL: u32 = 2147483647;
-
-const FACTOR: u32 = 9;
-
-const OFFSET: u32 = 9999;
 
 // Registers: frames so far, at most 65; whether a depth was over 16; the first bad number's place plus 1, and the first bad
 // name's, 0 for none; how many events and notes are declared.
@@ -50,14 +43,14 @@ pub enum Step {
 pub fn deeper(d: usize) -> usize
     ensures { λ r. ⌜ r ≡ deeper d ⌝ }
 {
-    if d <= DEPTH { d + 1 } else { d }
+    if d <= limits::DEPTH_LIMIT { d + 1 } else { d }
 }
 
 // After entering depth `d`.
 pub fn entered(d: usize, m: Tally) -> Tally
     ensures { λ r. ⌜ ((text tb b : List ℕ) → mem r tb b ≡ acts text (enter d) (mem m tb b)) ⌝ }
 {
-    if d <= DEPTH {
+    if d <= limits::DEPTH_LIMIT {
         return m;
     }
     Tally {
@@ -118,9 +111,13 @@ fn over(limit: Limit, v: u32) -> bool
     ensures { λ r. ⌜ r ≡ beyond limit v ⌝ }
 {
     match limit {
-        Limit::OfLiteral => LITERAL < v,
-        Limit::OfFactor => if v == 0 { true } else { FACTOR < v },
-        Limit::OfOffset => OFFSET < v,
+        Limit::OfLiteral => limits::LITERAL_LIMIT < v,
+        Limit::OfFactor => if v == 0 {
+            true
+        } else {
+            limits::FACTOR_NUMBER_LIMIT < v
+        },
+        Limit::OfOffset => limits::OFFSET_NUMBER_LIMIT < v,
     }
 }
 

@@ -1,9 +1,9 @@
 // Names as numbers: two names of at most 12 letters are equal exactly if their numbers are.
+use crate::limits;
 ghost use mathlib.Core.Path.{_≡_};
 ghost use Prim.Native.Nat.{_-_};
 ghost use Rattle.rule.specs.Name.{nameCode};
 
-const NAME_LETTERS: usize = 12;
 // 27^12: the number of every name of over 12 letters.
 pub const LONG_NAME: u64 = 150094635296999121;
 
@@ -22,7 +22,7 @@ pub fn name_code(word: &[u8]) -> u64
     ensures { λ r. ⌜ r ≡ nameCode (now (word .entry)) ⌝ }
 {
     let n = word.len();
-    if NAME_LETTERS < n {
+    if limits::NAME_LETTERS < n {
         return LONG_NAME;
     }
     let mut v: u64 = 0;

@@ -1,6 +1,8 @@
 // Refusal 10: frames that are no rule in postfix order, with the place of the first. One pass; it counts the references too.
 use crate::Frame;
 use crate::frames;
+use crate::kinds;
+use crate::limits;
 ghost use mathlib.Core.Path.{_≡_};
 ghost use mathlib.Core.Bool.{cond};
 ghost use Prim.Native.Nat.{_+_, _^_, _<_};
@@ -27,36 +29,36 @@ fn step(kind: u8, c: usize, k: usize) -> Shape
     ensures { λ r. ⌜ r ≡ stepBy (kindOf kind) c k ⌝ }
 {
     match kind {
-        0x01..=0x03 => Shape::Good(c, k + 1),
-        0x11..=0x13 => {
+        kinds::LITERAL_BYTE..=kinds::REFERENCE_BYTE => Shape::Good(c, k + 1),
+        kinds::ADD_BYTE..=kinds::MULTIPLY_BYTE => {
             if 2 <= k {
                 Shape::Good(c, k - 1)
             } else {
                 Shape::Bad
             }
         }
-        0x14 => {
+        kinds::ABSOLUTE_BYTE => {
             if 1 <= k {
                 Shape::Good(c, k)
             } else {
                 Shape::Bad
             }
         }
-        0x21..=0x26 => {
+        kinds::EQUAL_BYTE..=kinds::AT_LEAST_BYTE => {
             if k == 2 {
                 Shape::Good(c + 1, 0)
             } else {
                 Shape::Bad
             }
         }
-        0x31 => {
+        kinds::NOT_BYTE => {
             if (1 <= c) & (k == 0) {
                 Shape::Good(c, 0)
             } else {
                 Shape::Bad
             }
         }
-        0x32..=0x34 => {
+        kinds::AND_BYTE..=kinds::IMPLIES_BYTE => {
             if (2 <= c) & (k == 0) {
                 Shape::Good(c - 1, 0)
             } else {
@@ -84,14 +86,18 @@ fn counted(kind: u8, m: usize) -> usize
     requires { ⌜ m < 2 ^ 63 ⌝ }
     ensures { λ r. ⌜ r ≡ cond (eqb kind referenceByte) (m + 1) m ⌝ }
 {
-    if kind == 0x03 { m + 1 } else { m }
+    if kind == kinds::REFERENCE_BYTE {
+        m + 1
+    } else {
+        m
+    }
 }
 
 // Whether the frames are a rule: after i of them, c conditions, k sums, and m references on the way.
 pub fn order(frames: &[u8]) -> Ordered
     ensures { λ r. ⌜ r ≡ orderOf (now (frames .entry)) ⌝ }
 {
-    let n = frames.len() / frames::FRAME_BYTES;
+    let n = frames.len() / limits::FRAME_BYTES;
     let mut i = 0;
     let mut c = 0;
     let mut k = 0;
@@ -122,11 +128,11 @@ pub fn order(frames: &[u8]) -> Ordered
 pub fn reference_count(frames: &[u8]) -> usize
     ensures { λ r. ⌜ r ≡ referenceCount (now (frames .entry)) ⌝ }
 {
-    let n = frames.len() / frames::FRAME_BYTES;
+    let n = frames.len() / limits::FRAME_BYTES;
     let mut m = 0;
     let mut i = 0;
     while i < n {
-        m = counted(frames[i * frames::FRAME_BYTES], m);
+        m = counted(frames[i * limits::FRAME_BYTES], m);
         i += 1;
     }
     m

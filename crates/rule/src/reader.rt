@@ -4,31 +4,27 @@ use crate::Reading;
 use crate::Refusal;
 use crate::check;
 use crate::conditions::condition;
-use crate::frames::FRAME_BYTES;
 use crate::header::declarations;
+use crate::limits;
 use crate::memory::Step;
 use crate::memory::Tally;
 use crate::parts::Role;
-use crate::tokens::END;
-use crate::tokens::EVENTS;
-use crate::tokens::NOTES;
+use crate::tokens::END_KIND;
+use crate::tokens::EVENTS_KIND;
+use crate::tokens::NOTES_KIND;
 use crate::tokens::token_at;
 ghost use mathlib.Core.Path.{_≡_};
 ghost use mathlib.Core.List.{List, []};
-ghost use Prim.Native.Nat.{ℕ, _≤_};
+ghost use Prim.Native.Nat.{ℕ, _+_, _≤_};
 ghost use lib.ListN.{length};
+ghost use Rattle.rule.specs.Limits.{bufferBytes};
+ghost use Rattle.rule.specs.ReadLimits.{textLimit};
 ghost use Rattle.rule.specs.Told.{readTold};
 ghost use Rattle.rule.specs.Machine.{start};
 ghost use Rattle.rule.specs.Memory.{mem};
 ghost use Rattle.rule.specs.Does.{runFrom};
 ghost use Rattle.rule.specs.Reading.{concluded, readOf, unread, answerOf};
 ghost use Rattle.rule.specs.Answers.{refusedAs};
-
-const BUFFER: usize = 512;
-
-const LONGEST: usize = 1024;
-
-const FRAMES: usize = 64;
 
 fn refuse(number: u8, place: u32) -> Reading
     ensures { λ r. ⌜ r ≡ refusedAs number place ⌝ }
@@ -38,11 +34,11 @@ fn refuse(number: u8, place: u32) -> Reading
 
 // Copies all bytes.
 fn copy(from: &[u8], to: &mut [u8])
-    requires { ⌜ (length (now from) ≡ 512) × (length (now to) ≡ 512) ⌝ }
+    requires { ⌜ (length (now from) ≡ bufferBytes) × (length (now to) ≡ bufferBytes) ⌝ }
     ensures { λ _. ⌜ now (to .exit) ≡ now (from .entry) ⌝ }
 {
     let mut i: usize = 0;
-    while i < BUFFER {
+    while i < limits::BUFFER_BYTES {
         to[i] = from[i];
         i += 1;
     }
@@ -54,7 +50,7 @@ fn ended(text: &[u8], at: usize, m: Tally) -> Step
     ensures { λ r. ⌜ ((tb b : List ℕ) → runFrom (now (text .entry)) [] (mem m tb b) at ≡ answerOf r tb b) ⌝ }
 {
     let t = token_at(text, at);
-    if t.kind != END {
+    if t.kind != END_KIND {
         return Step::No(t.start);
     }
     Step::Go(at, m)
@@ -63,7 +59,8 @@ fn ended(text: &[u8], at: usize, m: Tally) -> Step
 // rule: "events" name {name} ";" "notes" name {name} ";" cond
 fn whole(text: &[u8], names: &mut [u64; 12], buf: &mut [u8; 512]) -> Step
     requires { ⌜ length (now names) ≡ 12 ⌝ }
-    ensures { λ r. ⌜ runFrom (now (text .entry)) start (mem unread (now (names .entry)) (now (buf .entry))) 0 ≡ answerOf r (now (names .exit)) (now (buf .exit)) ⌝ }
+    ensures { λ r. ⌜ runFrom (now (text .entry)) start (mem unread (now (names .entry)) (now (buf .entry))) 0
+        ≡ answerOf r (now (names .exit)) (now (buf .exit)) ⌝ }
 {
     let m = Tally {
         count: 0,
@@ -73,9 +70,9 @@ fn whole(text: &[u8], names: &mut [u64; 12], buf: &mut [u8; 512]) -> Step
         events: 0,
         notes: 0,
     };
-    match declarations(text, names, 0, EVENTS, Role::Event, m) {
+    match declarations(text, names, 0, EVENTS_KIND, Role::Event, m) {
         Step::No(q) => Step::No(q),
-        Step::Go(a, n) => match declarations(text, names, a, NOTES, Role::Note, n) {
+        Step::Go(a, n) => match declarations(text, names, a, NOTES_KIND, Role::Note, n) {
             Step::No(q) => Step::No(q),
             Step::Go(z, l) => match condition(text, names, z, 0, l, buf) {
                 Step::No(q) => Step::No(q),
@@ -87,8 +84,10 @@ fn whole(text: &[u8], names: &mut [u64; 12], buf: &mut [u8; 512]) -> Step
 
 // Refusals 4 to 8 of what was read; else the frames are handed over.
 fn conclude(buf: &[u8], frames: &mut [u8], m: Tally) -> Reading
-    requires { ⌜ (length (now buf) ≡ 512) × (length (now frames) ≡ 512) × (m .name ≤ 1025) × (m .number ≤ 1025) ⌝ }
-    ensures { λ r. ⌜ ((tb : List ℕ) → (r ≡ concluded (now (frames .entry)) (mem m tb (now (buf .entry))) .0) × (now (frames .exit) ≡ concluded (now (frames .entry)) (mem m tb (now (buf .entry))) .1)) ⌝ }
+    requires { ⌜ (length (now buf) ≡ bufferBytes) × (length (now frames) ≡ bufferBytes)
+        × (m .name ≤ textLimit + 1) × (m .number ≤ textLimit + 1) ⌝ }
+    ensures { λ r. ⌜ ((tb : List ℕ) → (r ≡ concluded (now (frames .entry)) (mem m tb (now (buf .entry))) .0)
+        × (now (frames .exit) ≡ concluded (now (frames .entry)) (mem m tb (now (buf .entry))) .1)) ⌝ }
 {
     if m.name != 0 {
         return refuse(4, (m.name - 1) as u32);
@@ -99,11 +98,11 @@ fn conclude(buf: &[u8], frames: &mut [u8], m: Tally) -> Reading
     if m.deep {
         return refuse(6, 0);
     }
-    if FRAMES < m.count {
+    if limits::FRAME_LIMIT < m.count {
         return refuse(6, 0);
     }
     let n = m.count;
-    let e = n * FRAME_BYTES;
+    let e = n * limits::FRAME_BYTES;
     let answer = check(&buf[..e]);
     match answer {
         Checked::Refused(r) => Reading::Refused(r),
@@ -117,16 +116,17 @@ fn conclude(buf: &[u8], frames: &mut [u8], m: Tally) -> Reading
 // Reads a rule's text into frames, for every text and every buffer: refusals 1 to 8 in this order. A refusal leaves the buffer
 // as it was; else it holds the frames, and zero after the last.
 pub fn read(text: &[u8], frames: &mut [u8]) -> Reading
-    ensures { λ r. ⌜ (r ≡ readOf (now (text .entry)) (now (frames .entry)) .0) × (now (frames .exit) ≡ readOf (now (text .entry)) (now (frames .entry)) .1) ⌝ }
+    ensures { λ r. ⌜ (r ≡ readOf (now (text .entry)) (now (frames .entry)) .0)
+        × (now (frames .exit) ≡ readOf (now (text .entry)) (now (frames .entry)) .1) ⌝ }
     ensures { λ r. ⌜ readTold r ≡ readTold (readOf (now (text .entry)) (now (frames .entry)) .0) ⌝ }
 {
-    if frames.len() != BUFFER {
+    if frames.len() != limits::BUFFER_BYTES {
         return refuse(1, 0);
     }
     if text.len() == 0 {
         return refuse(2, 0);
     }
-    if LONGEST < text.len() {
+    if limits::TEXT_LIMIT < text.len() {
         return refuse(2, 0);
     }
     let mut names = [0u64; 12];

@@ -1,5 +1,7 @@
 // Refusal 8: magnitudes over 2^62, in one pass over frames that are a rule. Magnitude is the document's term for a bound on a sum.
 use crate::frames;
+use crate::kinds;
+use crate::limits;
 ghost use mathlib.Core.Path.{_≡_};
 ghost use Prim.Native.Nat.{_+_, _*_, _≤_, _<_};
 ghost use lib.IntN.{natAbs};
@@ -9,15 +11,6 @@ ghost use Rattle.rule.specs.Frames.{kindOf};
 ghost use Rattle.rule.specs.Order.{InOrder};
 ghost use Rattle.rule.specs.Sizes.{pushed, topped, sized, sizesFit};
 ghost use Rattle.rule.specs.Stack.{stackOf, loaded, capped, Ready, Bounded};
-
-// No magnitude exceeds 2^62.
-const LIMIT: u64 = 0x4000_0000_0000_0000;
-
-// The magnitude of i, 2^20.
-const INSTANCE: u64 = 0x10_0000;
-
-// The magnitude of a reference, 2^31.
-const REFERENCE: u64 = 0x8000_0000;
 
 // How many magnitudes the array holds, or that one is over the limit.
 pub enum Size {
@@ -31,10 +24,10 @@ fn times(a: u64, b: u64) -> u64
 {
     if b == 0 {
         0
-    } else if a <= LIMIT / b {
+    } else if a <= limits::MAGNITUDE_LIMIT / b {
         a * b
     } else {
-        LIMIT + 1
+        limits::MAGNITUDE_LIMIT + 1
     }
 }
 
@@ -55,7 +48,7 @@ fn push(cells: &mut [u64; 64], k: usize, m: u64) -> Size
     ensures kept { λ r. ⌜ length (now (cells .exit)) ≡ frameLimit ⌝ }
     ensures { λ r. ⌜ loaded (now (cells .exit)) r ≡ pushed m (stackOf 0 (now (cells .entry)) k) ⌝ }
 {
-    if m <= LIMIT {
+    if m <= limits::MAGNITUDE_LIMIT {
         cells[k] = m;
         Size::Fits(k + 1)
     } else {
@@ -86,17 +79,18 @@ fn product_top(cells: &mut [u64; 64], k: usize) -> Size
 
 // One frame more. Called by sizes_fit, on frames that are a rule.
 fn size_step(kind: u8, value: i32, cells: &mut [u64; 64], k: usize) -> Size
-    requires { ⌜ (length (now cells) ≡ frameLimit) × ((k < frameLimit) × (Ready (kindOf kind) k × Bounded (stackOf 0 (now cells) k))) ⌝ }
+    requires { ⌜ (length (now cells) ≡ frameLimit) × ((k < frameLimit)
+        × (Ready (kindOf kind) k × Bounded (stackOf 0 (now cells) k))) ⌝ }
     ensures kept { λ r. ⌜ length (now (cells .exit)) ≡ frameLimit ⌝ }
     ensures { λ r. ⌜ loaded (now (cells .exit)) r ≡ sized (kindOf kind) value (stackOf 0 (now (cells .entry)) k) ⌝ }
 {
     match kind {
-        0x01 => push(cells, k, own(value)),
-        0x02 => push(cells, k, INSTANCE),
-        0x03 => push(cells, k, REFERENCE),
-        0x11 | 0x12 => sum_top(cells, k),
-        0x13 => product_top(cells, k),
-        0x21..=0x26 => Size::Fits(0),
+        kinds::LITERAL_BYTE => push(cells, k, own(value)),
+        kinds::INSTANCE_BYTE => push(cells, k, limits::INSTANCE_MAGNITUDE),
+        kinds::REFERENCE_BYTE => push(cells, k, limits::REFERENCE_MAGNITUDE),
+        kinds::ADD_BYTE | kinds::SUBTRACT_BYTE => sum_top(cells, k),
+        kinds::MULTIPLY_BYTE => product_top(cells, k),
+        kinds::EQUAL_BYTE..=kinds::AT_LEAST_BYTE => Size::Fits(0),
         _ => Size::Fits(k),
     }
 }
@@ -106,7 +100,7 @@ pub fn sizes_fit(frames: &[u8]) -> bool
     requires { ⌜ InOrder (now frames) × (length (now frames) ≤ frameLimit * frameBytes) ⌝ }
     ensures { λ r. ⌜ r ≡ sizesFit (now (frames .entry)) ⌝ }
 {
-    let n = frames.len() / frames::FRAME_BYTES;
+    let n = frames.len() / limits::FRAME_BYTES;
     let mut cells = [0u64; 64];
     let mut k = 0;
     let mut i = 0;

@@ -12,33 +12,33 @@ ghost use Rattle.rule.specs.Class.{span};
 ghost use Rattle.rule.specs.Token.{same, wordKind, markOf, markWidth, tokenAt};
 
 // Kinds of tokens; a mark of one byte has that byte for its kind.
-pub const END: u8 = 0;
+pub const END_KIND: u8 = 0;
 
-pub const NAME: u8 = 1;
+pub const NAME_KIND: u8 = 1;
 
-pub const NUMBER: u8 = 2;
+pub const NUMBER_KIND: u8 = 2;
 
-pub const EVENTS: u8 = 3;
+pub const EVENTS_KIND: u8 = 3;
 
-pub const NOTES: u8 = 4;
+pub const NOTES_KIND: u8 = 4;
 
-pub const INDEX: u8 = 5;
+pub const INDEX_KIND: u8 = 5;
 
-pub const ABS: u8 = 6;
+pub const ABS_KIND: u8 = 6;
 
-pub const ARROW: u8 = 130;
+pub const ARROW_KIND: u8 = 130;
 
-pub const BARS: u8 = 131;
+pub const BARS_KIND: u8 = 131;
 
-pub const AMPERSANDS: u8 = 132;
+pub const AMPERSANDS_KIND: u8 = 132;
 
-pub const UNEQUAL: u8 = 133;
+pub const UNEQUAL_KIND: u8 = 133;
 
-pub const AT_MOST: u8 = 134;
+pub const AT_MOST_KIND: u8 = 134;
 
-pub const AT_LEAST: u8 = 135;
+pub const AT_LEAST_KIND: u8 = 135;
 
-const FOREIGN: u8 = 255;
+const FOREIGN_KIND: u8 = 255;
 
 // Where the run of bytes of one class that begins at `at` ends.
 fn run_end(text: &[u8], at: usize, class: u8) -> usize
@@ -84,18 +84,18 @@ fn word_kind(word: &[u8]) -> u8
     ensures { λ r. ⌜ r ≡ wordKind (now (word .entry)) ⌝ }
 {
     if same_bytes(word, b"events") {
-        return EVENTS;
+        return EVENTS_KIND;
     }
     if same_bytes(word, b"notes") {
-        return NOTES;
+        return NOTES_KIND;
     }
     if same_bytes(word, b"i") {
-        return INDEX;
+        return INDEX_KIND;
     }
     if same_bytes(word, b"abs") {
-        return ABS;
+        return ABS_KIND;
     }
-    NAME
+    NAME_KIND
 }
 
 // The kind of the mark that begins with `b`, with `n` after it: the longest match.
@@ -103,13 +103,17 @@ fn mark_of(b: u8, n: u8) -> u8
     ensures { λ r. ⌜ r ≡ markOf b n ⌝ }
 {
     match b {
-        b'-' => if n == b'>' { ARROW } else { b },
-        b'|' => if n == b'|' { BARS } else { FOREIGN },
-        b'&' => if n == b'&' { AMPERSANDS } else { FOREIGN },
-        b'!' => if n == b'=' { UNEQUAL } else { b },
-        b'<' => if n == b'=' { AT_MOST } else { b },
-        b'>' => if n == b'=' { AT_LEAST } else { b },
-        _ => if class_of(b) == MARK { b } else { FOREIGN },
+        b'-' => if n == b'>' { ARROW_KIND } else { b },
+        b'|' => if n == b'|' { BARS_KIND } else { FOREIGN_KIND },
+        b'&' => if n == b'&' {
+            AMPERSANDS_KIND
+        } else {
+            FOREIGN_KIND
+        },
+        b'!' => if n == b'=' { UNEQUAL_KIND } else { b },
+        b'<' => if n == b'=' { AT_MOST_KIND } else { b },
+        b'>' => if n == b'=' { AT_LEAST_KIND } else { b },
+        _ => if class_of(b) == MARK { b } else { FOREIGN_KIND },
     }
 }
 
@@ -117,10 +121,10 @@ fn mark_of(b: u8, n: u8) -> u8
 fn mark_width(kind: u8) -> usize
     ensures { λ r. ⌜ r ≡ markWidth kind ⌝ }
 {
-    if kind < ARROW {
+    if kind < ARROW_KIND {
         return 1;
     }
-    if kind <= AT_LEAST { 2 } else { 1 }
+    if kind <= AT_LEAST_KIND { 2 } else { 1 }
 }
 
 // The next token from `at` on; past the last one, the end.
@@ -131,7 +135,7 @@ pub fn token_at(text: &[u8], at: usize) -> Token
     let s = run_end(text, at, BLANK);
     if text.len() <= s {
         return Token {
-            kind: END,
+            kind: END_KIND,
             start: s,
             end: s,
         };
@@ -148,7 +152,7 @@ pub fn token_at(text: &[u8], at: usize) -> Token
     }
     if c == DIGIT {
         return Token {
-            kind: NUMBER,
+            kind: NUMBER_KIND,
             start: s,
             end: run_end(text, s + 1, DIGIT),
         };
@@ -162,7 +166,7 @@ pub fn token_at(text: &[u8], at: usize) -> Token
         };
     }
     Token {
-        kind: FOREIGN,
+        kind: FOREIGN_KIND,
         start: s,
         end: s + 1,
     }

@@ -148,13 +148,15 @@ module _ (v : ℤ) (i mark : ℕ) (note : ℤ) (p : Pass) (at c k : ℕ) (h : le
   same-operand reference = h
 
   same-by : (o : Kind) → SameC (placed at (stepBy o c k)) (passBy o v i mark note p .conds)
-  same-by (operand s) = same-operand s
-  same-by (arithmetic o) = same-cond at (leb 2 k) (Good c (k - 1)) (p .conds) (λ t. h)
-  same-by absolute = same-cond at (leb 1 k) (Good c k) (p .conds) (λ t. h)
+  same-by (operand s) = same-cond at (leb 0 k) (Good c (k - 0 + 1)) (operandBy s v i mark note p .conds) (λ t. same-operand s)
+  same-by (arithmetic o) = same-cond at (leb 2 k) (Good c (k - 2 + 1)) (p .conds) (λ t. h)
+  same-by absolute = same-cond at (leb 1 k) (Good c (k - 1 + 1)) (p .conds) (λ t. h)
   same-by (relation r) = same-cond at (eqb k 2) (Good (c + 1) 0) (passBy (relation r) v i mark note p .conds) (λ t. omega arith)
-  same-by negation = same-cond at (leb 1 c && eqb k 0) (Good c 0) (top1 notK (p .conds)) (λ t. length-one notK (p .conds) ∙ h)
+  same-by negation =
+      same-cond at (leb 1 c && eqb k 0) (Good (c - 1 + 1) 0) (top1 notK (p .conds))
+      (λ t. length-one notK (p .conds) c (leb→le 1 c (and-l (leb 1 c) (eqb k 0) t)) h)
   same-by (connective j) =
-      same-cond at (leb 2 c && eqb k 0) (Good (c - 1) 0) (top2 (joined j) (p .conds))
+      same-cond at (leb 2 c && eqb k 0) (Good (c - 2 + 1) 0) (top2 (joined j) (p .conds))
       (λ t. length-two (joined j) (p .conds) c (leb→le 2 c (and-l (leb 2 c) (eqb k 0) t)) h)
   same-by none = tt
 

@@ -24,11 +24,11 @@ many-cond i true h z f = f tt
 many-cond i false h z f = tt
 
 module _ {A : Type 0} where
-  pub length-one : (f : A → A) (l : List A) → length (top1 f l) ≡ length l
-  length-one f [] = refl
-  length-one f (a ∷ l) = refl
+  pub length-one : (f : A → A) (l : List A) (n : ℕ) → 1 ≤ n → length l ≡ n → length (top1 f l) ≡ n - 1 + 1
+  length-one f [] n h e = absurd (omega arith)
+  length-one f (a ∷ l) n h e = omega arith
 
-  pub length-two : (f : A → A → A) (l : List A) (n : ℕ) → 2 ≤ n → length l ≡ n → length (top2 f l) ≡ n - 1
+  pub length-two : (f : A → A → A) (l : List A) (n : ℕ) → 2 ≤ n → length l ≡ n → length (top2 f l) ≡ n - 2 + 1
   length-two f [] n h e = absurd (omega arith)
   length-two f (b ∷ []) n h e = absurd (omega arith)
   length-two f (b ∷ (a ∷ l)) n h e = omega arith
@@ -41,12 +41,13 @@ many-related i r c cs (b ∷ (a ∷ (d ∷ ss))) h g = absurd (omega arith)
 
 module _ (i c k : ℕ) (x : Frame) (cs : List Cond) (ss : List Sum) (h : length cs ≡ c) (g : length ss ≡ k) where
   many-by : (o : Kind) → AsMany (placed i (stepBy o c k)) (builtBy o x cs ss)
-  many-by (operand s) = (h, omega arith)
+  many-by (operand s) = many-cond i (leb 0 k) _ _ (λ t. (h, omega arith))
   many-by (Kind.arithmetic o) = many-cond i (leb 2 k) _ _ (λ t. (h, length-two (arithmetic o) ss k (leb→le 2 k t) g))
-  many-by absolute = many-cond i (leb 1 k) _ _ (λ t. (h, length-one abs ss ∙ g))
+  many-by absolute = many-cond i (leb 1 k) _ _ (λ t. (h, length-one abs ss k (leb→le 1 k t) g))
   many-by (Kind.relation r) = many-cond i (eqb k 2) _ _ (λ t. many-related i r c cs ss h (g ∙ eqb→eq k 2 t))
   many-by negation =
-      many-cond i (leb 1 c && eqb k 0) _ _ (λ t. (length-one Cond.not cs ∙ h, g ∙ eqb→eq k 0 (and-r (leb 1 c) (eqb k 0) t)))
+      many-cond i (leb 1 c && eqb k 0) _ _
+      (λ t. (length-one Cond.not cs c (leb→le 1 c (and-l (leb 1 c) (eqb k 0) t)) h, g ∙ eqb→eq k 0 (and-r (leb 1 c) (eqb k 0) t)))
   many-by (Kind.connective j) =
       many-cond i (leb 2 c && eqb k 0) _ _
       (λ t. (length-two (connective j) cs c (leb→le 2 c (and-l (leb 2 c) (eqb k 0) t)) h, g ∙ eqb→eq k 0 (and-r (leb 2 c) (eqb k 0) t)))

@@ -1,52 +1,19 @@
 -- The evaluator's arrays as stacks: what inner functions say of them. No public contract cites it.
 -- Assumes nothing: definitions.
 use mathlib.Core.Path.{_≡_}
-use mathlib.Core.Bool.{Bool, false, cond}
+use mathlib.Core.Bool.{cond}
 use mathlib.Core.List.{List, [], _∷_, map}
 use Prim.Native.Nat.{ℕ, _≤_, _<_}
 use lib.Dec.{eqb}
 use lib.IntN.{ℤ, pos, natAbs}
 use lib.ListN.{length}
-use Rattle.rule.specs.Limits.{magnitudeLimit}
-use Rattle.rule.specs.Frames.{Kind, operand, arithmetic, absolute, relation, negation, connective, none}
+use Rattle.rule.specs.Limits.{frameLimit, magnitudeLimit}
+use Rattle.rule.specs.Frames.{Kind}
 use Rattle.rule.specs.Stack.{stackOf, Ready, ReadyC}
-use Rattle.verdict.specs.Kleene.{joined}
-use Rattle.verdict.specs.Value.{computed, holds}
 use Rattle.verdict.specs.Pass.{Pass}
 use Rattle.verdict.specs.declared.Truth.{Truth}
 use Rattle.verdict.specs.declared.Truth.the-variants.{True, False, Unknown}
 use Rattle.verdict.specs.declared.evaluate.Top.{Top}
-
--- ---- what a kind asks for; some value where it asks for nothing of the sort
--- "11 add, 12 subtract, 13 multiply" of two sums
-abbrev pub computedBy : Kind → ℤ → ℤ → ℤ
-computedBy (operand s) x y = x
-computedBy (arithmetic o) x y = computed o x y
-computedBy absolute x y = x
-computedBy (relation r) x y = x
-computedBy negation x y = x
-computedBy (connective j) x y = x
-computedBy none x y = x
-
--- "21 to 26 the relations as listed" of two sums
-abbrev pub holdsBy : Kind → ℤ → ℤ → Bool
-holdsBy (operand s) x y = false
-holdsBy (arithmetic o) x y = false
-holdsBy absolute x y = false
-holdsBy (relation r) x y = holds r x y
-holdsBy negation x y = false
-holdsBy (connective j) x y = false
-holdsBy none x y = false
-
--- "32 and, 33 or, 34 implies" of two conditions
-abbrev pub joinedBy : Kind → Truth → Truth → Truth
-joinedBy (operand s) p q = p
-joinedBy (arithmetic o) p q = p
-joinedBy absolute p q = p
-joinedBy (relation r) p q = p
-joinedBy negation p q = p
-joinedBy (connective j) p q = joined j p q
-joinedBy none p q = p
 
 -- ---- conditions as bytes, of "three values": 0 false, 1 true, else unknown
 abbrev pub truthOf : ℕ → Truth
@@ -74,10 +41,10 @@ Small (v ∷ vs) = (natAbs v ≤ magnitudeLimit) × Small vs
 
 -- what a step requires: room, for "at most 64 frames", the sums and conditions that its kind needs, and small values after it
 pub record Begun (o : Kind) (sums : List ℤ) (conds : List ℕ) (t : Top) (next : Pass) : Type 0 where
-  pub long : length sums ≡ 64
-  pub long-c : length conds ≡ 64
-  pub room : t .sums < 64
-  pub room-c : t .conds < 64
+  pub long : length sums ≡ frameLimit
+  pub long-c : length conds ≡ frameLimit
+  pub room : t .sums < frameLimit
+  pub room-c : t .conds < frameLimit
   pub ready : Ready o (t .sums)
   pub ready-c : ReadyC o (t .conds)
   pub small : Small (next .sums)

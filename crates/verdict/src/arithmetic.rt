@@ -1,13 +1,13 @@
 // Sums and relations of 64-bit numbers.
+use rule::kinds;
 ghost use mathlib.Core.Path.{_≡_};
-ghost use Prim.Native.Nat.{_≤_, _<_};
+ghost use Prim.Native.Nat.{_≤_};
 ghost use lib.IntN.{natAbs};
 ghost use mir.Syntax.{w64};
 ghost use mir.Val.{SFits};
 ghost use Rattle.rule.specs.Limits.{magnitudeLimit};
-ghost use Rattle.rule.specs.Frames.{kindOf};
-ghost use Rattle.verdict.specs.Value.{sizeOf};
-ghost use Rattle.verdict.specs.Stacks.{computedBy, holdsBy};
+ghost use Rattle.rule.specs.Frames.{arithmeticAt, relationAt};
+ghost use Rattle.verdict.specs.Value.{computed, sizeOf, holds};
 
 // A 32-bit number as one of 64 bits.
 pub fn widen(a: i32) -> i64
@@ -24,29 +24,28 @@ pub fn size(a: i64) -> i64
     if 0 <= a { a } else { 0 - a }
 }
 
-// Add, subtract, multiply, by the kind byte. Called by stacks::join_sums, where the result fits.
+// Add, subtract or else multiply, by the kind byte. Called by stacks::join_sums, where the result fits.
 pub fn compute(kind: u8, a: i64, b: i64) -> i64
-    requires { ⌜ (0x11 ≤ kind) × ((kind < 0x14) × SFits w64 (computedBy (kindOf kind) a b)) ⌝ }
-    ensures { λ r. ⌜ r ≡ computedBy (kindOf kind) a b ⌝ }
+    requires { ⌜ SFits w64 (computed (arithmeticAt kind) a b) ⌝ }
+    ensures { λ r. ⌜ r ≡ computed (arithmeticAt kind) a b ⌝ }
 {
     match kind {
-        0x11 => a + b,
-        0x12 => a - b,
+        kinds::ADD_BYTE => a + b,
+        kinds::SUBTRACT_BYTE => a - b,
         _ => a * b,
     }
 }
 
 // Whether a relation holds, by the kind byte. Called by stacks::relate.
 pub fn compare(kind: u8, a: i64, b: i64) -> bool
-    requires { ⌜ (0x21 ≤ kind) × (kind < 0x27) ⌝ }
-    ensures { λ r. ⌜ r ≡ holdsBy (kindOf kind) a b ⌝ }
+    ensures { λ r. ⌜ r ≡ holds (relationAt kind) a b ⌝ }
 {
     match kind {
-        0x21 => a == b,
-        0x22 => a != b,
-        0x23 => a < b,
-        0x24 => a <= b,
-        0x25 => a > b,
+        kinds::EQUAL_BYTE => a == b,
+        kinds::UNEQUAL_BYTE => a != b,
+        kinds::LESS_BYTE => a < b,
+        kinds::AT_MOST_BYTE => a <= b,
+        kinds::MORE_BYTE => a > b,
         _ => a >= b,
     }
 }

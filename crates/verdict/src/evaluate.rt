@@ -9,14 +9,15 @@ use crate::kleene;
 use crate::stacks;
 use rule::FRAME_BYTES;
 use rule::Frame;
+use rule::kinds;
 ghost use mathlib.Core.Path.{_≡_};
 ghost use mathlib.Core.List.{List};
-ghost use Prim.Native.Nat.{ℕ, _≤_, _<_};
-ghost use lib.IntN.{ℤ};
+ghost use Prim.Native.Nat.{ℕ, _<_};
 ghost use lib.ListN.{length};
-ghost use Rattle.rule.specs.Frames.{kindOf};
+ghost use Rattle.rule.specs.Limits.{frameLimit};
+ghost use Rattle.rule.specs.Frames.{kindOf, relationAt};
 ghost use Rattle.verdict.specs.Marks.{Judgeable};
-ghost use Rattle.verdict.specs.Pass.{withReference, passBy, judgementOf};
+ghost use Rattle.verdict.specs.Pass.{withReference, withRelation, passBy, judgementOf};
 ghost use Rattle.verdict.specs.Stacks.{passOf, Begun};
 
 // What a step carries on beside the arrays: the numbers of sums and of conditions; whether a reference since the last relation is
@@ -31,9 +32,10 @@ pub struct Top {
 
 // A reference with its mark and its note. Called by step.
 fn put_reference(sums: &mut [i64; 64], top: Top, mark: u8, note: i32) -> Top
-    requires { ⌜ (length (now sums) ≡ 64) × (top .sums < 64) ⌝ }
-    ensures kept { λ r. ⌜ length (now (sums .exit)) ≡ 64 ⌝ }
-    ensures { λ r. ⌜ ((cs : List ℕ) → passOf (now (sums .exit)) cs r ≡ withReference (passOf (now (sums .entry)) cs top) mark note) ⌝ }
+    requires { ⌜ (length (now sums) ≡ frameLimit) × (top .sums < frameLimit) ⌝ }
+    ensures kept { λ r. ⌜ length (now (sums .exit)) ≡ frameLimit ⌝ }
+    ensures { λ r. ⌜ ((cs : List ℕ) → passOf (now (sums .exit)) cs r
+        ≡ withReference (passOf (now (sums .entry)) cs top) mark note) ⌝ }
 {
     let at = top.sums;
     let k = stacks::put_sum(sums, at, arithmetic::widen(note));
@@ -48,9 +50,10 @@ fn put_reference(sums: &mut [i64; 64], top: Top, mark: u8, note: i32) -> Top
 
 // A relation of the two sums that are there. Called by step.
 fn put_relation(kind: u8, sums: &mut [i64; 64], conds: &mut [u8; 64], top: Top) -> Top
-    requires { ⌜ ((0x21 ≤ kind) × (kind < 0x27)) × ((length (now conds) ≡ 64) × ((top .conds < 64) × (top .sums ≡ 2))) ⌝ }
-    ensures kept { λ r. ⌜ (now (sums .exit) ≡ now (sums .entry)) × (length (now (conds .exit)) ≡ 64) ⌝ }
-    ensures { λ r. ⌜ ((v : ℤ) (i mark : ℕ) (note : ℤ) → passOf (now (sums .exit)) (now (conds .exit)) r ≡ passBy (kindOf kind) v i mark note (passOf (now (sums .entry)) (now (conds .entry)) top)) ⌝ }
+    requires { ⌜ (length (now conds) ≡ frameLimit) × ((top .conds < frameLimit) × (top .sums ≡ 2)) ⌝ }
+    ensures kept { λ r. ⌜ (now (sums .exit) ≡ now (sums .entry)) × (length (now (conds .exit)) ≡ frameLimit) ⌝ }
+    ensures { λ r. ⌜ passOf (now (sums .exit)) (now (conds .exit)) r
+        ≡ withRelation (passOf (now (sums .entry)) (now (conds .entry)) top) (relationAt kind) ⌝ }
 {
     let at = top.conds;
     let t = kleene::of_relation(top.missing, stacks::relate(kind, sums));
@@ -74,38 +77,40 @@ fn step(
     conds: &mut [u8; 64],
     top: Top,
 ) -> Top
-    requires { ⌜ Begun (kindOf (x .kind)) (now sums) (now conds) top (passBy (kindOf (x .kind)) (x .value) (i .0) mark note (passOf (now sums) (now conds) top)) ⌝ }
-    ensures kept { λ r. ⌜ (length (now (sums .exit)) ≡ 64) × (length (now (conds .exit)) ≡ 64) ⌝ }
-    ensures { λ r. ⌜ passOf (now (sums .exit)) (now (conds .exit)) r ≡ passBy (kindOf (x .kind)) (x .value) (i .0) mark note (passOf (now (sums .entry)) (now (conds .entry)) top) ⌝ }
+    requires { ⌜ Begun (kindOf (x .kind)) (now sums) (now conds) top
+        (passBy (kindOf (x .kind)) (x .value) (i .0) mark note (passOf (now sums) (now conds) top)) ⌝ }
+    ensures kept { λ r. ⌜ (length (now (sums .exit)) ≡ frameLimit) × (length (now (conds .exit)) ≡ frameLimit) ⌝ }
+    ensures { λ r. ⌜ passOf (now (sums .exit)) (now (conds .exit)) r
+        ≡ passBy (kindOf (x .kind)) (x .value) (i .0) mark note (passOf (now (sums .entry)) (now (conds .entry)) top) ⌝ }
 {
     let kind = x.kind;
     let k = top.sums;
     let c = top.conds;
     let mut next = top;
     match kind {
-        0x01 => {
+        kinds::LITERAL_BYTE => {
             next.sums = stacks::put_sum(sums, k, arithmetic::widen(x.value));
             next
         }
-        0x02 => {
+        kinds::INSTANCE_BYTE => {
             next.sums = stacks::put_sum(sums, k, i.0 as i64); // only here an instance number is a value
             next
         }
-        0x03 => put_reference(sums, top, mark, note),
-        0x11..=0x13 => {
+        kinds::REFERENCE_BYTE => put_reference(sums, top, mark, note),
+        kinds::ADD_BYTE..=kinds::MULTIPLY_BYTE => {
             next.sums = stacks::join_sums(kind, sums, k);
             next
         }
-        0x14 => {
+        kinds::ABSOLUTE_BYTE => {
             next.sums = stacks::size_sum(sums, k);
             next
         }
-        0x21..=0x26 => put_relation(kind, sums, conds, top),
-        0x31 => {
+        kinds::EQUAL_BYTE..=kinds::AT_LEAST_BYTE => put_relation(kind, sums, conds, top),
+        kinds::NOT_BYTE => {
             next.conds = stacks::not_cond(conds, c);
             next
         }
-        0x32..=0x34 => {
+        kinds::AND_BYTE..=kinds::IMPLIES_BYTE => {
             next.conds = stacks::join_conds(kind, conds, c);
             next
         }

@@ -1,11 +1,11 @@
 // Kleene's tables, and truth values as bytes on the stack of conditions.
 use crate::Truth;
+use rule::kinds;
 ghost use mathlib.Core.Path.{_≡_};
 ghost use mathlib.Core.Bool.{cond};
-ghost use Prim.Native.Nat.{_≤_, _<_};
-ghost use Rattle.rule.specs.Frames.{kindOf};
-ghost use Rattle.verdict.specs.Kleene.{notK, andK, orK, truth};
-ghost use Rattle.verdict.specs.Stacks.{joinedBy, truthOf};
+ghost use Rattle.rule.specs.Frames.{connectiveAt};
+ghost use Rattle.verdict.specs.Kleene.{notK, andK, orK, joined, truth};
+ghost use Rattle.verdict.specs.Stacks.{truthOf};
 
 // Not.
 pub fn negated(p: Truth) -> Truth
@@ -48,14 +48,13 @@ fn either(p: Truth, q: Truth) -> Truth
     }
 }
 
-// And, or, implies, by the kind byte. Called by stacks::join_conds.
+// And, or, or else implies, by the kind byte. Called by stacks::join_conds.
 pub fn connect(kind: u8, p: Truth, q: Truth) -> Truth
-    requires { ⌜ (0x32 ≤ kind) × (kind < 0x35) ⌝ }
-    ensures { λ r. ⌜ r ≡ joinedBy (kindOf kind) p q ⌝ }
+    ensures { λ r. ⌜ r ≡ joined (connectiveAt kind) p q ⌝ }
 {
     match kind {
-        0x32 => both(p, q),
-        0x33 => either(p, q),
+        kinds::AND_BYTE => both(p, q),
+        kinds::OR_BYTE => either(p, q),
         _ => either(negated(p), q),
     }
 }

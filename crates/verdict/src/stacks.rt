@@ -7,17 +7,18 @@ ghost use mathlib.Core.List.{_∷_};
 ghost use Prim.Native.Nat.{_≤_, _<_};
 ghost use lib.IntN.{pos};
 ghost use lib.ListN.{length, getD};
-ghost use Rattle.rule.specs.Frames.{kindOf};
+ghost use Rattle.rule.specs.Limits.{frameLimit};
+ghost use Rattle.rule.specs.Frames.{arithmeticAt, relationAt, connectiveAt};
 ghost use Rattle.rule.specs.Build.{top1, top2};
 ghost use Rattle.rule.specs.Stack.{stackOf};
-ghost use Rattle.verdict.specs.Kleene.{notK};
-ghost use Rattle.verdict.specs.Value.{sizeOf};
-ghost use Rattle.verdict.specs.Stacks.{computedBy, holdsBy, joinedBy, truthsOf, Small};
+ghost use Rattle.verdict.specs.Kleene.{notK, joined};
+ghost use Rattle.verdict.specs.Value.{computed, sizeOf, holds};
+ghost use Rattle.verdict.specs.Stacks.{truthsOf, Small};
 
 // A value onto the k that are below it.
 pub fn put_sum(sums: &mut [i64; 64], k: usize, v: i64) -> usize
-    requires { ⌜ (length (now sums) ≡ 64) × (k < 64) ⌝ }
-    ensures kept { λ r. ⌜ length (now (sums .exit)) ≡ 64 ⌝ }
+    requires { ⌜ (length (now sums) ≡ frameLimit) × (k < frameLimit) ⌝ }
+    ensures kept { λ r. ⌜ length (now (sums .exit)) ≡ frameLimit ⌝ }
     ensures { λ r. ⌜ stackOf (pos 0) (now (sums .exit)) r ≡ v ∷ stackOf (pos 0) (now (sums .entry)) k ⌝ }
 {
     sums[k] = v;
@@ -26,9 +27,11 @@ pub fn put_sum(sums: &mut [i64; 64], k: usize, v: i64) -> usize
 
 // The two values on top become one.
 pub fn join_sums(kind: u8, sums: &mut [i64; 64], k: usize) -> usize
-    requires { ⌜ (length (now sums) ≡ 64) × ((k < 64) × ((2 ≤ k) × ((0x11 ≤ kind) × ((kind < 0x14) × Small (top2 (computedBy (kindOf kind)) (stackOf (pos 0) (now sums) k)))))) ⌝ }
-    ensures kept { λ r. ⌜ length (now (sums .exit)) ≡ 64 ⌝ }
-    ensures { λ r. ⌜ stackOf (pos 0) (now (sums .exit)) r ≡ top2 (computedBy (kindOf kind)) (stackOf (pos 0) (now (sums .entry)) k) ⌝ }
+    requires { ⌜ (length (now sums) ≡ frameLimit) × ((k < frameLimit) × ((2 ≤ k)
+        × Small (top2 (computed (arithmeticAt kind)) (stackOf (pos 0) (now sums) k)))) ⌝ }
+    ensures kept { λ r. ⌜ length (now (sums .exit)) ≡ frameLimit ⌝ }
+    ensures { λ r. ⌜ stackOf (pos 0) (now (sums .exit)) r
+        ≡ top2 (computed (arithmeticAt kind)) (stackOf (pos 0) (now (sums .entry)) k) ⌝ }
 {
     let a = sums[k - 2];
     let b = sums[k - 1];
@@ -39,8 +42,9 @@ pub fn join_sums(kind: u8, sums: &mut [i64; 64], k: usize) -> usize
 
 // abs of the value on top.
 pub fn size_sum(sums: &mut [i64; 64], k: usize) -> usize
-    requires { ⌜ (length (now sums) ≡ 64) × ((k < 64) × ((1 ≤ k) × Small (top1 sizeOf (stackOf (pos 0) (now sums) k)))) ⌝ }
-    ensures kept { λ r. ⌜ length (now (sums .exit)) ≡ 64 ⌝ }
+    requires { ⌜ (length (now sums) ≡ frameLimit) × ((k < frameLimit) × ((1 ≤ k)
+        × Small (top1 sizeOf (stackOf (pos 0) (now sums) k)))) ⌝ }
+    ensures kept { λ r. ⌜ length (now (sums .exit)) ≡ frameLimit ⌝ }
     ensures { λ r. ⌜ stackOf (pos 0) (now (sums .exit)) r ≡ top1 sizeOf (stackOf (pos 0) (now (sums .entry)) k) ⌝ }
 {
     let a = sums[k - 1];
@@ -51,9 +55,8 @@ pub fn size_sum(sums: &mut [i64; 64], k: usize) -> usize
 
 // Whether the relation of the two sums that are there holds.
 pub fn relate(kind: u8, sums: &mut [i64; 64]) -> bool
-    requires { ⌜ (0x21 ≤ kind) × (kind < 0x27) ⌝ }
     ensures kept { λ r. ⌜ now (sums .exit) ≡ now (sums .entry) ⌝ }
-    ensures { λ r. ⌜ r ≡ holdsBy (kindOf kind) (getD (now (sums .entry)) 0 (pos 0)) (getD (now (sums .entry)) 1 (pos 0)) ⌝ }
+    ensures { λ r. ⌜ r ≡ holds (relationAt kind) (getD (now (sums .entry)) 0 (pos 0)) (getD (now (sums .entry)) 1 (pos 0)) ⌝ }
 {
     let a = sums[0];
     let b = sums[1];
@@ -62,8 +65,8 @@ pub fn relate(kind: u8, sums: &mut [i64; 64]) -> bool
 
 // A truth value onto the c that are below it.
 pub fn put_cond(conds: &mut [u8; 64], c: usize, t: Truth) -> usize
-    requires { ⌜ (length (now conds) ≡ 64) × (c < 64) ⌝ }
-    ensures kept { λ r. ⌜ length (now (conds .exit)) ≡ 64 ⌝ }
+    requires { ⌜ (length (now conds) ≡ frameLimit) × (c < frameLimit) ⌝ }
+    ensures kept { λ r. ⌜ length (now (conds .exit)) ≡ frameLimit ⌝ }
     ensures { λ r. ⌜ truthsOf (now (conds .exit)) r ≡ t ∷ truthsOf (now (conds .entry)) c ⌝ }
 {
     conds[c] = kleene::code(t);
@@ -72,8 +75,8 @@ pub fn put_cond(conds: &mut [u8; 64], c: usize, t: Truth) -> usize
 
 // Not of the truth value on top.
 pub fn not_cond(conds: &mut [u8; 64], c: usize) -> usize
-    requires { ⌜ (length (now conds) ≡ 64) × ((c < 64) × (1 ≤ c)) ⌝ }
-    ensures kept { λ r. ⌜ length (now (conds .exit)) ≡ 64 ⌝ }
+    requires { ⌜ (length (now conds) ≡ frameLimit) × ((c < frameLimit) × (1 ≤ c)) ⌝ }
+    ensures kept { λ r. ⌜ length (now (conds .exit)) ≡ frameLimit ⌝ }
     ensures { λ r. ⌜ truthsOf (now (conds .exit)) r ≡ top1 notK (truthsOf (now (conds .entry)) c) ⌝ }
 {
     let t = kleene::decoded(conds[c - 1]);
@@ -83,9 +86,9 @@ pub fn not_cond(conds: &mut [u8; 64], c: usize) -> usize
 
 // The two truth values on top become one.
 pub fn join_conds(kind: u8, conds: &mut [u8; 64], c: usize) -> usize
-    requires { ⌜ (length (now conds) ≡ 64) × ((c < 64) × ((2 ≤ c) × ((0x32 ≤ kind) × (kind < 0x35)))) ⌝ }
-    ensures kept { λ r. ⌜ length (now (conds .exit)) ≡ 64 ⌝ }
-    ensures { λ r. ⌜ truthsOf (now (conds .exit)) r ≡ top2 (joinedBy (kindOf kind)) (truthsOf (now (conds .entry)) c) ⌝ }
+    requires { ⌜ (length (now conds) ≡ frameLimit) × ((c < frameLimit) × (2 ≤ c)) ⌝ }
+    ensures kept { λ r. ⌜ length (now (conds .exit)) ≡ frameLimit ⌝ }
+    ensures { λ r. ⌜ truthsOf (now (conds .exit)) r ≡ top2 (joined (connectiveAt kind)) (truthsOf (now (conds .entry)) c) ⌝ }
 {
     let p = kleene::decoded(conds[c - 2]);
     let q = kleene::decoded(conds[c - 1]);

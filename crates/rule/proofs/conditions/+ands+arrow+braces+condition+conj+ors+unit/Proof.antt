@@ -5,9 +5,11 @@ use mathlib.Core.List.{_∷_}
 use Prim.Native.Nat.{ℕ, _<_, _+_, _*_, _-_}
 use lib.ListN.{length}
 use denote.Ref.{now}
+use Rattle.rule.specs.Frames.{Connective, Kind}
+use Rattle.rule.specs.Class.{closeBrace}
 use Rattle.rule.specs.Machine.{step, finish, out, want, doing}
 use Rattle.rule.specs.Machine as machine
-use Rattle.rule.specs.Draft.{plain}
+use Rattle.rule.specs.Draft.{alone}
 use Rattle.rule.proofs.Does.{then, stop, then-does, idle, as-is, least, same, take, beyond}
 use borrow.Author.Needs.{needs}
 use borrow.Fn.Kinds.{In}
@@ -36,7 +38,7 @@ use Rattle.rule.proofs.conditions.+ands+arrow+braces+condition+conj+ors
 use Rattle.rule.proofs.memory.deeper.Reads as deeper-reads
 use Rattle.rule.proofs.emit.emit_kind.Reads as emit-kind-reads
 use Rattle.rule.proofs.memory.entered.Reads as entered-reads
-use Rattle.rule.proofs.sums.expect.Reads as expect-reads
+use Rattle.rule.proofs.expect.expect.Reads as expect-reads
 use Rattle.rule.proofs.conditions.relation.Reads as relation-reads
 use Rattle.rule.proofs.tokens.token_at.Reads as token-at-reads
 use Rattle.rule.proofs.conditions.+ands+arrow+braces+condition+conj+ors+unit.{statement}
@@ -151,11 +153,11 @@ ands-ands-requires t c κs = let ne : c .before .before .before .before .before 
 
 ands-returns-2 : (t : ℕ) → ands-lts.Need-returns-2 (ands-calls t) (ands-at t) ands.Post
 unfolding step
-ands-returns-2 t c = let ne : c .before .before .before .before .before .before .before .token-at .result .kind ≡ 0 → ⊥ = λ e. omega arith in let v = beyond (now (c .before .before .before .before .before .before .before .before .before .args .text)) (c .before .before .before .before .before .before .before .before .before .args .at) (c .before .before .before .before .before .before .before .token-at .result) (c .before .before .before .before .before .before .before .before .before .pre .1) (c .before .before .before .before .before .before .before .token-at .ensures) ne in take (c .before .before .before .before .before .before .before .before .before .pre .1) (c .before .before .before .before .before .before .before .token-at .ensures) ne (stop (λ s. doing (out (plain 0x32)) ∷ machine.ands (c .before .before .before .before .before .before .before .before .before .args .d) ∷ s) _ (as-is (c .before .before .before .unit .ensures) (c .before .q .given .1))) (λ s. rw (c .before .before .before .before .before .if1 .left))
+ands-returns-2 t c = let ne : c .before .before .before .before .before .before .before .token-at .result .kind ≡ 0 → ⊥ = λ e. omega arith in let v = beyond (now (c .before .before .before .before .before .before .before .before .before .args .text)) (c .before .before .before .before .before .before .before .before .before .args .at) (c .before .before .before .before .before .before .before .token-at .result) (c .before .before .before .before .before .before .before .before .before .pre .1) (c .before .before .before .before .before .before .before .token-at .ensures) ne in take (c .before .before .before .before .before .before .before .before .before .pre .1) (c .before .before .before .before .before .before .before .token-at .ensures) ne (stop (λ s. doing (out (alone (Kind.connective Connective.and))) ∷ machine.ands (c .before .before .before .before .before .before .before .before .before .args .d) ∷ s) _ (as-is (c .before .before .before .unit .ensures) (c .before .q .given .1))) (λ s. rw (c .before .before .before .before .before .if1 .left))
 
 ands-returns-3 : (t : ℕ) → ands-lts.Need-returns-3 (ands-calls t) (ands-at t) ands.Post
 unfolding step
-ands-returns-3 t c = let ne : c .before .before .before .before .before .before .before .before .before .before .before .token-at .result .kind ≡ 0 → ⊥ = λ e. omega arith in let v = beyond (now (c .before .before .before .before .before .before .before .before .before .before .before .before .before .args .text)) (c .before .before .before .before .before .before .before .before .before .before .before .before .before .args .at) (c .before .before .before .before .before .before .before .before .before .before .before .token-at .result) (c .before .before .before .before .before .before .before .before .before .before .before .before .before .pre .1) (c .before .before .before .before .before .before .before .before .before .before .before .token-at .ensures) ne in let d = as-is (c .before .before .before .before .before .before .before .unit .ensures) (c .before .before .before .before .before .a .given .1) in let w = d .within in take (c .before .before .before .before .before .before .before .before .before .before .before .before .before .pre .1) (c .before .before .before .before .before .before .before .before .before .before .before .token-at .ensures) ne (then (then-does (out (plain 0x32)) d (c .before .before .emit-kind .ensures (now (c .before .before .before .before .before .before .before .before .before .before .before .before .before .args .text)) (now (c .before .before .before .before .before .before .before .before .before .before .before .before .before .args .names)))) (c .ands .ensures) (omega arith)) (λ s. rw (c .before .before .before .before .before .before .before .before .before .if1 .left))
+ands-returns-3 t c = let ne : c .before .before .before .before .before .before .before .before .before .before .before .token-at .result .kind ≡ 0 → ⊥ = λ e. omega arith in let v = beyond (now (c .before .before .before .before .before .before .before .before .before .before .before .before .before .args .text)) (c .before .before .before .before .before .before .before .before .before .before .before .before .before .args .at) (c .before .before .before .before .before .before .before .before .before .before .before .token-at .result) (c .before .before .before .before .before .before .before .before .before .before .before .before .before .pre .1) (c .before .before .before .before .before .before .before .before .before .before .before .token-at .ensures) ne in let d = as-is (c .before .before .before .before .before .before .before .unit .ensures) (c .before .before .before .before .before .a .given .1) in let w = d .within in take (c .before .before .before .before .before .before .before .before .before .before .before .before .before .pre .1) (c .before .before .before .before .before .before .before .before .before .before .before .token-at .ensures) ne (then (then-does (out (alone (Kind.connective Connective.and))) d (c .before .before .emit-kind .ensures (now (c .before .before .before .before .before .before .before .before .before .before .before .before .before .args .text)) (now (c .before .before .before .before .before .before .before .before .before .before .before .before .before .args .names)))) (c .ands .ensures) (omega arith)) (λ s. rw (c .before .before .before .before .before .before .before .before .before .if1 .left))
 
 arrow-token-at-requires : (t : ℕ) → arrow-lts.Need-token-at-requires (arrow-calls t) (arrow-at t) arrow.Post
 arrow-token-at-requires t c κs = search needs
@@ -184,11 +186,11 @@ arrow-emit-kind-requires t c κs = search needs
 
 arrow-returns-2 : (t : ℕ) → arrow-lts.Need-returns-2 (arrow-calls t) (arrow-at t) arrow.Post
 unfolding step
-arrow-returns-2 t c = let ne : c .before .before .before .before .before .before .before .before .before .token-at .result .kind ≡ 0 → ⊥ = λ e. omega arith in let v = beyond (now (c .before .before .before .before .before .before .before .before .before .before .before .args .text)) (c .before .before .before .before .before .before .before .before .before .before .before .args .at) (c .before .before .before .before .before .before .before .before .before .token-at .result) (c .before .before .before .before .before .before .before .before .before .before .before .pre .1) (c .before .before .before .before .before .before .before .before .before .token-at .ensures) ne in take (c .before .before .before .before .before .before .before .before .before .before .before .pre .1) (c .before .before .before .before .before .before .before .before .before .token-at .ensures) ne (stop (λ s. doing (out (plain 0x34)) ∷ s) _ (rw (c .before .before .before .before .before .entered .ensures (now (c .before .before .before .before .before .before .before .before .before .before .before .args .text)) (now (c .before .before .before .before .before .before .before .before .before .before .before .args .names)) (now (c .before .before .before .before .before .before .before .before .before .before .before .args .buf))) at (as-is (c .before .before .before .condition .ensures) (c .before .q .given .1)))) (λ s. rw (c .before .before .before .before .before .before .before .if1 .left, ← c .before .before .before .before .before .before .deeper .ensures))
+arrow-returns-2 t c = let ne : c .before .before .before .before .before .before .before .before .before .token-at .result .kind ≡ 0 → ⊥ = λ e. omega arith in let v = beyond (now (c .before .before .before .before .before .before .before .before .before .before .before .args .text)) (c .before .before .before .before .before .before .before .before .before .before .before .args .at) (c .before .before .before .before .before .before .before .before .before .token-at .result) (c .before .before .before .before .before .before .before .before .before .before .before .pre .1) (c .before .before .before .before .before .before .before .before .before .token-at .ensures) ne in take (c .before .before .before .before .before .before .before .before .before .before .before .pre .1) (c .before .before .before .before .before .before .before .before .before .token-at .ensures) ne (stop (λ s. doing (out (alone (Kind.connective Connective.implies))) ∷ s) _ (rw (c .before .before .before .before .before .entered .ensures (now (c .before .before .before .before .before .before .before .before .before .before .before .args .text)) (now (c .before .before .before .before .before .before .before .before .before .before .before .args .names)) (now (c .before .before .before .before .before .before .before .before .before .before .before .args .buf))) at (as-is (c .before .before .before .condition .ensures) (c .before .q .given .1)))) (λ s. rw (c .before .before .before .before .before .before .before .if1 .left, ← c .before .before .before .before .before .before .deeper .ensures))
 
 arrow-returns-3 : (t : ℕ) → arrow-lts.Need-returns-3 (arrow-calls t) (arrow-at t) arrow.Post
 unfolding step
-arrow-returns-3 t c = let ne : c .before .before .before .before .before .before .before .before .before .before .before .token-at .result .kind ≡ 0 → ⊥ = λ e. omega arith in let v = beyond (now (c .before .before .before .before .before .before .before .before .before .before .before .before .before .args .text)) (c .before .before .before .before .before .before .before .before .before .before .before .before .before .args .at) (c .before .before .before .before .before .before .before .before .before .before .before .token-at .result) (c .before .before .before .before .before .before .before .before .before .before .before .before .before .pre .1) (c .before .before .before .before .before .before .before .before .before .before .before .token-at .ensures) ne in let d = rw (c .before .before .before .before .before .before .before .entered .ensures (now (c .before .before .before .before .before .before .before .before .before .before .before .before .before .args .text)) (now (c .before .before .before .before .before .before .before .before .before .before .before .before .before .args .names)) (now (c .before .before .before .before .before .before .before .before .before .before .before .before .before .args .buf))) at (as-is (c .before .before .before .before .before .condition .ensures) (c .before .before .before .a .given .1)) in let w = d .within in take (c .before .before .before .before .before .before .before .before .before .before .before .before .before .pre .1) (c .before .before .before .before .before .before .before .before .before .before .before .token-at .ensures) ne (least (omega arith) (then-does (out (plain 0x34)) d (c .emit-kind .ensures (now (c .before .before .before .before .before .before .before .before .before .before .before .before .before .args .text)) (now (c .before .before .before .before .before .before .before .before .before .before .before .before .before .args .names))))) (λ s. rw (c .before .before .before .before .before .before .before .before .before .if1 .left, ← c .before .before .before .before .before .before .before .before .deeper .ensures))
+arrow-returns-3 t c = let ne : c .before .before .before .before .before .before .before .before .before .before .before .token-at .result .kind ≡ 0 → ⊥ = λ e. omega arith in let v = beyond (now (c .before .before .before .before .before .before .before .before .before .before .before .before .before .args .text)) (c .before .before .before .before .before .before .before .before .before .before .before .before .before .args .at) (c .before .before .before .before .before .before .before .before .before .before .before .token-at .result) (c .before .before .before .before .before .before .before .before .before .before .before .before .before .pre .1) (c .before .before .before .before .before .before .before .before .before .before .before .token-at .ensures) ne in let d = rw (c .before .before .before .before .before .before .before .entered .ensures (now (c .before .before .before .before .before .before .before .before .before .before .before .before .before .args .text)) (now (c .before .before .before .before .before .before .before .before .before .before .before .before .before .args .names)) (now (c .before .before .before .before .before .before .before .before .before .before .before .before .before .args .buf))) at (as-is (c .before .before .before .before .before .condition .ensures) (c .before .before .before .a .given .1)) in let w = d .within in take (c .before .before .before .before .before .before .before .before .before .before .before .before .before .pre .1) (c .before .before .before .before .before .before .before .before .before .before .before .token-at .ensures) ne (least (omega arith) (then-does (out (alone (Kind.connective Connective.implies))) d (c .emit-kind .ensures (now (c .before .before .before .before .before .before .before .before .before .before .before .before .before .args .text)) (now (c .before .before .before .before .before .before .before .before .before .before .before .before .before .args .names))))) (λ s. rw (c .before .before .before .before .before .before .before .before .before .if1 .left, ← c .before .before .before .before .before .before .before .before .deeper .ensures))
 
 braces-condition-requires : (t : ℕ) → braces-lts.Need-condition-requires (braces-calls t) (braces-at t) braces.Post
 braces-condition-requires t c κs = omega arith
@@ -203,7 +205,7 @@ braces-expect-requires : (t : ℕ) → braces-lts.Need-expect-requires (braces-c
 braces-expect-requires t c κs = let d = as-is (c .before .before .before .condition .ensures) (c .before .a .given .1) in let w = d .within in (w .1, omega arith)
 
 braces-returns : (t : ℕ) → braces-lts.Need-returns (braces-calls t) (braces-at t) braces.Post
-braces-returns t c = stop (λ s. want 125 ∷ s) _ (as-is (c .before .before .before .condition .ensures) (c .before .q .given .1))
+braces-returns t c = stop (λ s. want closeBrace ∷ s) _ (as-is (c .before .before .before .condition .ensures) (c .before .q .given .1))
 
 braces-returns-2 : (t : ℕ) → braces-lts.Need-returns-2 (braces-calls t) (braces-at t) braces.Post
 braces-returns-2 t c = let d = as-is (c .before .before .before .before .condition .ensures) (c .before .before .a .given .1) in let w = d .within in then d (c .expect .ensures _ _) (omega arith)
@@ -280,11 +282,11 @@ ors-ors-requires t c κs = let ne : c .before .before .before .before .before .b
 
 ors-returns-2 : (t : ℕ) → ors-lts.Need-returns-2 (ors-calls t) (ors-at t) ors.Post
 unfolding step
-ors-returns-2 t c = let ne : c .before .before .before .before .before .before .before .token-at .result .kind ≡ 0 → ⊥ = λ e. omega arith in let v = beyond (now (c .before .before .before .before .before .before .before .before .before .args .text)) (c .before .before .before .before .before .before .before .before .before .args .at) (c .before .before .before .before .before .before .before .token-at .result) (c .before .before .before .before .before .before .before .before .before .pre .1) (c .before .before .before .before .before .before .before .token-at .ensures) ne in take (c .before .before .before .before .before .before .before .before .before .pre .1) (c .before .before .before .before .before .before .before .token-at .ensures) ne (stop (λ s. doing (out (plain 0x33)) ∷ machine.ors (c .before .before .before .before .before .before .before .before .before .args .d) ∷ s) _ (as-is (c .before .before .before .conj .ensures) (c .before .q .given .1))) (λ s. rw (c .before .before .before .before .before .if1 .left))
+ors-returns-2 t c = let ne : c .before .before .before .before .before .before .before .token-at .result .kind ≡ 0 → ⊥ = λ e. omega arith in let v = beyond (now (c .before .before .before .before .before .before .before .before .before .args .text)) (c .before .before .before .before .before .before .before .before .before .args .at) (c .before .before .before .before .before .before .before .token-at .result) (c .before .before .before .before .before .before .before .before .before .pre .1) (c .before .before .before .before .before .before .before .token-at .ensures) ne in take (c .before .before .before .before .before .before .before .before .before .pre .1) (c .before .before .before .before .before .before .before .token-at .ensures) ne (stop (λ s. doing (out (alone (Kind.connective Connective.or))) ∷ machine.ors (c .before .before .before .before .before .before .before .before .before .args .d) ∷ s) _ (as-is (c .before .before .before .conj .ensures) (c .before .q .given .1))) (λ s. rw (c .before .before .before .before .before .if1 .left))
 
 ors-returns-3 : (t : ℕ) → ors-lts.Need-returns-3 (ors-calls t) (ors-at t) ors.Post
 unfolding step
-ors-returns-3 t c = let ne : c .before .before .before .before .before .before .before .before .before .before .before .token-at .result .kind ≡ 0 → ⊥ = λ e. omega arith in let v = beyond (now (c .before .before .before .before .before .before .before .before .before .before .before .before .before .args .text)) (c .before .before .before .before .before .before .before .before .before .before .before .before .before .args .at) (c .before .before .before .before .before .before .before .before .before .before .before .token-at .result) (c .before .before .before .before .before .before .before .before .before .before .before .before .before .pre .1) (c .before .before .before .before .before .before .before .before .before .before .before .token-at .ensures) ne in let d = as-is (c .before .before .before .before .before .before .before .conj .ensures) (c .before .before .before .before .before .a .given .1) in let w = d .within in take (c .before .before .before .before .before .before .before .before .before .before .before .before .before .pre .1) (c .before .before .before .before .before .before .before .before .before .before .before .token-at .ensures) ne (then (then-does (out (plain 0x33)) d (c .before .before .emit-kind .ensures (now (c .before .before .before .before .before .before .before .before .before .before .before .before .before .args .text)) (now (c .before .before .before .before .before .before .before .before .before .before .before .before .before .args .names)))) (c .ors .ensures) (omega arith)) (λ s. rw (c .before .before .before .before .before .before .before .before .before .if1 .left))
+ors-returns-3 t c = let ne : c .before .before .before .before .before .before .before .before .before .before .before .token-at .result .kind ≡ 0 → ⊥ = λ e. omega arith in let v = beyond (now (c .before .before .before .before .before .before .before .before .before .before .before .before .before .args .text)) (c .before .before .before .before .before .before .before .before .before .before .before .before .before .args .at) (c .before .before .before .before .before .before .before .before .before .before .before .token-at .result) (c .before .before .before .before .before .before .before .before .before .before .before .before .before .pre .1) (c .before .before .before .before .before .before .before .before .before .before .before .token-at .ensures) ne in let d = as-is (c .before .before .before .before .before .before .before .conj .ensures) (c .before .before .before .before .before .a .given .1) in let w = d .within in take (c .before .before .before .before .before .before .before .before .before .before .before .before .before .pre .1) (c .before .before .before .before .before .before .before .before .before .before .before .token-at .ensures) ne (then (then-does (out (alone (Kind.connective Connective.or))) d (c .before .before .emit-kind .ensures (now (c .before .before .before .before .before .before .before .before .before .before .before .before .before .args .text)) (now (c .before .before .before .before .before .before .before .before .before .before .before .before .before .args .names)))) (c .ors .ensures) (omega arith)) (λ s. rw (c .before .before .before .before .before .before .before .before .before .if1 .left))
 
 unit-token-at-requires : (t : ℕ) → unit-lts.Need-token-at-requires (unit-calls t) (unit-at t) unit.Post
 unit-token-at-requires t c κs = search needs
@@ -326,11 +328,11 @@ unit-emit-kind-requires t c κs = search needs
 
 unit-returns-3 : (t : ℕ) → unit-lts.Need-returns-3 (unit-calls t) (unit-at t) unit.Post
 unfolding step
-unit-returns-3 t c = let ne : c .before .before .before .before .before .before .before .before .before .before .before .token-at .result .kind ≡ 0 → ⊥ = λ e. omega arith in let v = beyond (now (c .before .before .before .before .before .before .before .before .before .before .before .before .before .args .text)) (c .before .before .before .before .before .before .before .before .before .before .before .before .before .args .at) (c .before .before .before .before .before .before .before .before .before .before .before .token-at .result) (c .before .before .before .before .before .before .before .before .before .before .before .before .before .pre .1) (c .before .before .before .before .before .before .before .before .before .before .before .token-at .ensures) ne in take (c .before .before .before .before .before .before .before .before .before .before .before .before .before .pre .1) (c .before .before .before .before .before .before .before .before .before .before .before .token-at .ensures) ne (stop (λ s. doing (out (plain 0x31)) ∷ s) _ (rw (c .before .before .before .before .before .entered2 .ensures (now (c .before .before .before .before .before .before .before .before .before .before .before .before .before .args .text)) (now (c .before .before .before .before .before .before .before .before .before .before .before .before .before .args .names)) (now (c .before .before .before .before .before .before .before .before .before .before .before .before .before .args .buf))) at (as-is (c .before .before .before .unit .ensures) (c .before .q .given .1)))) (λ s. rw (c .before .before .before .before .before .before .if2 .left, ← c .before .before .before .before .before .before .before .before .before .before .deeper .ensures))
+unit-returns-3 t c = let ne : c .before .before .before .before .before .before .before .before .before .before .before .token-at .result .kind ≡ 0 → ⊥ = λ e. omega arith in let v = beyond (now (c .before .before .before .before .before .before .before .before .before .before .before .before .before .args .text)) (c .before .before .before .before .before .before .before .before .before .before .before .before .before .args .at) (c .before .before .before .before .before .before .before .before .before .before .before .token-at .result) (c .before .before .before .before .before .before .before .before .before .before .before .before .before .pre .1) (c .before .before .before .before .before .before .before .before .before .before .before .token-at .ensures) ne in take (c .before .before .before .before .before .before .before .before .before .before .before .before .before .pre .1) (c .before .before .before .before .before .before .before .before .before .before .before .token-at .ensures) ne (stop (λ s. doing (out (alone Kind.negation)) ∷ s) _ (rw (c .before .before .before .before .before .entered2 .ensures (now (c .before .before .before .before .before .before .before .before .before .before .before .before .before .args .text)) (now (c .before .before .before .before .before .before .before .before .before .before .before .before .before .args .names)) (now (c .before .before .before .before .before .before .before .before .before .before .before .before .before .args .buf))) at (as-is (c .before .before .before .unit .ensures) (c .before .q .given .1)))) (λ s. rw (c .before .before .before .before .before .before .if2 .left, ← c .before .before .before .before .before .before .before .before .before .before .deeper .ensures))
 
 unit-returns-4 : (t : ℕ) → unit-lts.Need-returns-4 (unit-calls t) (unit-at t) unit.Post
 unfolding step
-unit-returns-4 t c = let ne : c .before .before .before .before .before .before .before .before .before .before .before .before .before .token-at .result .kind ≡ 0 → ⊥ = λ e. omega arith in let v = beyond (now (c .before .before .before .before .before .before .before .before .before .before .before .before .before .before .before .args .text)) (c .before .before .before .before .before .before .before .before .before .before .before .before .before .before .before .args .at) (c .before .before .before .before .before .before .before .before .before .before .before .before .before .token-at .result) (c .before .before .before .before .before .before .before .before .before .before .before .before .before .before .before .pre .1) (c .before .before .before .before .before .before .before .before .before .before .before .before .before .token-at .ensures) ne in let d = rw (c .before .before .before .before .before .before .before .entered2 .ensures (now (c .before .before .before .before .before .before .before .before .before .before .before .before .before .before .before .args .text)) (now (c .before .before .before .before .before .before .before .before .before .before .before .before .before .before .before .args .names)) (now (c .before .before .before .before .before .before .before .before .before .before .before .before .before .before .before .args .buf))) at (as-is (c .before .before .before .before .before .unit .ensures) (c .before .before .before .a .given .1)) in let w = d .within in take (c .before .before .before .before .before .before .before .before .before .before .before .before .before .before .before .pre .1) (c .before .before .before .before .before .before .before .before .before .before .before .before .before .token-at .ensures) ne (least (omega arith) (then-does (out (plain 0x31)) d (c .emit-kind .ensures (now (c .before .before .before .before .before .before .before .before .before .before .before .before .before .before .before .args .text)) (now (c .before .before .before .before .before .before .before .before .before .before .before .before .before .before .before .args .names))))) (λ s. rw (c .before .before .before .before .before .before .before .before .if2 .left, ← c .before .before .before .before .before .before .before .before .before .before .before .before .deeper .ensures))
+unit-returns-4 t c = let ne : c .before .before .before .before .before .before .before .before .before .before .before .before .before .token-at .result .kind ≡ 0 → ⊥ = λ e. omega arith in let v = beyond (now (c .before .before .before .before .before .before .before .before .before .before .before .before .before .before .before .args .text)) (c .before .before .before .before .before .before .before .before .before .before .before .before .before .before .before .args .at) (c .before .before .before .before .before .before .before .before .before .before .before .before .before .token-at .result) (c .before .before .before .before .before .before .before .before .before .before .before .before .before .before .before .pre .1) (c .before .before .before .before .before .before .before .before .before .before .before .before .before .token-at .ensures) ne in let d = rw (c .before .before .before .before .before .before .before .entered2 .ensures (now (c .before .before .before .before .before .before .before .before .before .before .before .before .before .before .before .args .text)) (now (c .before .before .before .before .before .before .before .before .before .before .before .before .before .before .before .args .names)) (now (c .before .before .before .before .before .before .before .before .before .before .before .before .before .before .before .args .buf))) at (as-is (c .before .before .before .before .before .unit .ensures) (c .before .before .before .a .given .1)) in let w = d .within in take (c .before .before .before .before .before .before .before .before .before .before .before .before .before .before .before .pre .1) (c .before .before .before .before .before .before .before .before .before .before .before .before .before .token-at .ensures) ne (least (omega arith) (then-does (out (alone Kind.negation)) d (c .emit-kind .ensures (now (c .before .before .before .before .before .before .before .before .before .before .before .before .before .before .before .args .text)) (now (c .before .before .before .before .before .before .before .before .before .before .before .before .before .before .before .args .names))))) (λ s. rw (c .before .before .before .before .before .before .before .before .if2 .left, ← c .before .before .before .before .before .before .before .before .before .before .before .before .deeper .ensures))
 
 pub +ands+arrow+braces+condition+conj+ors+unit-spec : {M : Type 1} → statement M
 +ands+arrow+braces+condition+conj+ors+unit-spec =

@@ -2,6 +2,7 @@ use native.Mathlib.Omega.{arith}
 use mathlib.Core.List.{[], _∷_}
 use Prim.Native.Nat.{_-_}
 use denote.Ref.{now}
+use Rattle.rule.specs.Class.{semicolon}
 use Rattle.rule.specs.Machine.{want}
 use Rattle.rule.specs.Machine as machine
 use Rattle.rule.proofs.Does.{then, stop, as-is}
@@ -22,7 +23,7 @@ name-list-requires : tie.Need-name-list-requires
 name-list-requires c κs = let d = as-is (c .before .before .before .before .expect .ensures (now (c .before .before .before .before .before .before .args .names)) []) (c .before .before .a .given .1) in let w = d .within in (w .1, c .before .before .before .before .before .before .pre .1)
 
 returns : tie.Need-returns
-returns c = (λ b. stop (λ s. machine.name-of (c .before .before .before .before .before .args .role) ∷ machine.names-of (c .before .before .before .before .before .args .role) ∷ want 59 ∷ s) _ (as-is (c .before .before .before .expect .ensures (now (c .before .before .before .before .before .args .names)) b) (c .before .q .given .1)), c .before .before .before .before .before .pre .1)
+returns c = (λ b. stop (λ s. machine.name-of (c .before .before .before .before .before .args .role) ∷ machine.names-of (c .before .before .before .before .before .args .role) ∷ want semicolon ∷ s) _ (as-is (c .before .before .before .expect .ensures (now (c .before .before .before .before .before .args .names)) b) (c .before .q .given .1)), c .before .before .before .before .before .pre .1)
 
 returns-2 : tie.Need-returns-2
 returns-2 c = (λ b. let d = as-is (c .before .before .before .before .before .expect .ensures (now (c .before .before .before .before .before .before .before .args .names)) b) (c .before .before .before .a .given .1) in let w = d .within in then d (c .name-list .ensures .0 b) (omega arith), c .name-list .ensures .1)

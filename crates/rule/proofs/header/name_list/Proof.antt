@@ -1,6 +1,7 @@
 use native.Mathlib.Omega.{arith}
 use mathlib.Core.List.{[], _∷_}
 use Prim.Native.Nat.{_-_}
+use Rattle.rule.specs.Class.{semicolon}
 use Rattle.rule.specs.Machine.{want}
 use Rattle.rule.specs.Machine as machine
 use Rattle.rule.proofs.Does.{then, stop, as-is}
@@ -30,10 +31,10 @@ expect-requires : tie.Need-expect-requires
 expect-requires c κs = let e = as-is (c .before .before .before .names-of .ensures .0 []) (c .before .z .given .1) in let x = e .within in (x .1, omega arith)
 
 returns : tie.Need-returns
-returns c = (λ b. stop (λ s. machine.names-of (c .before .before .before .before .before .before .args .role) ∷ want 59 ∷ s) _ (as-is (c .before .before .before .name-of .ensures .0 b) (c .before .q .given .1)), c .before .before .before .name-of .ensures .1)
+returns c = (λ b. stop (λ s. machine.names-of (c .before .before .before .before .before .before .args .role) ∷ want semicolon ∷ s) _ (as-is (c .before .before .before .name-of .ensures .0 b) (c .before .q .given .1)), c .before .before .before .name-of .ensures .1)
 
 returns-2 : tie.Need-returns-2
-returns-2 c = (λ b. let d = as-is (c .before .before .before .before .before .before .before .before .name-of .ensures .0 b) (c .before .before .before .before .before .before .a .given .1) in let w = d .within in then d (stop (λ s. want 59 ∷ s) (c .before .before .before .before .before .before .before .before .before .before .before .args .at) (as-is (c .before .before .before .names-of .ensures .0 b) (c .before .q2 .given .1))) (omega arith), c .before .before .before .names-of .ensures .1)
+returns-2 c = (λ b. let d = as-is (c .before .before .before .before .before .before .before .before .name-of .ensures .0 b) (c .before .before .before .before .before .before .a .given .1) in let w = d .within in then d (stop (λ s. want semicolon ∷ s) (c .before .before .before .before .before .before .before .before .before .before .before .args .at) (as-is (c .before .before .before .names-of .ensures .0 b) (c .before .q2 .given .1))) (omega arith), c .before .before .before .names-of .ensures .1)
 
 returns-3 : tie.Need-returns-3
 returns-3 c = (λ b. let d = as-is (c .before .before .before .before .before .before .before .before .before .name-of .ensures .0 b) (c .before .before .before .before .before .before .before .a .given .1) in let w = d .within in let e = as-is (c .before .before .before .before .names-of .ensures .0 b) (c .before .before .z .given .1) in let x = e .within in then d (then {lo″ = c .before .before .before .before .before .before .before .before .before .before .before .before .args .at} e (c .expect .ensures _ _) (omega arith)) (omega arith), c .before .before .before .before .names-of .ensures .1)

@@ -2,6 +2,8 @@ use mathlib.Core.Path.{_∙_}
 use native.Mathlib.Omega.{arith}
 use mathlib.Core.List.{[], _∷_}
 use denote.Ref.{now}
+use Rattle.rule.specs.Token.{notesKind}
+use Rattle.rule.specs.Class.{semicolon}
 use Rattle.rule.specs.Machine.{want}
 use Rattle.rule.specs.Machine as machine
 use Rattle.rule.specs.Does.{onward}
@@ -43,7 +45,7 @@ ended-requires c κs = let g = as-is (c .before .before .before .condition .ensu
 
 returns : tie.Need-returns
 unfolding onward
-returns c = stop (λ s. want 4 ∷ machine.name-of Note ∷ machine.names-of Note ∷ want 59 ∷ machine.condition 0 s) 0 {tb′ = []} {b′ = []} (as-is (c .before .before .before .declarations .ensures .0 (now (c .before .before .before .before .before .before .args .buf))) (c .before .q .given .1)) .runs []
+returns c = stop (λ s. want notesKind ∷ machine.name-of Note ∷ machine.names-of Note ∷ want semicolon ∷ machine.condition 0 s) 0 {tb′ = []} {b′ = []} (as-is (c .before .before .before .declarations .ensures .0 (now (c .before .before .before .before .before .before .args .buf))) (c .before .q .given .1)) .runs []
 
 returns-2 : tie.Need-returns-2
 unfolding onward

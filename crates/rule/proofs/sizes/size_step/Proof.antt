@@ -1,6 +1,5 @@
 -- `rule::sizes::size_step` meets its contract. Assumes nothing.
 use mathlib.Core.Path.{_≡_, refl, sym, ap, _∙_, subst}
-use mathlib.Core.List.{[]}
 use Prim.Native.Nat.{ℕ, _≤_, _-_, _+_}
 use native.Mathlib.Omega.{arith}
 use lib.IntN.{natAbs}
@@ -8,9 +7,9 @@ use borrow.Author.Needs.{needs}
 use mir.Syntax.{w32}
 use mir.ValLaws.{toZ-ofZ}
 use Rattle.rule.specs.Frames.{literal, instance, reference, multiply, Kind, operand, arithmetic, kindOf}
-use Rattle.rule.specs.Sizes.{fits, pushed, topped, sized}
+use Rattle.rule.specs.Sizes.{pushed, topped, sized}
 use Rattle.rule.specs.Stack.{stackOf, Ready}
-use Rattle.rule.proofs.KindBytes.{kind-at, sum-range, relation-range, keeping-low, keeping-14, keeping-27}
+use Rattle.rule.proofs.KindBytes.{kind-at, sum-range, relation-at, keeping-low, keeping-14, keeping-27}
 use Rattle.rule.proofs.Magnitudes.{sized-keeping}
 use Rattle.rule.proofs.sizes.size_step.Statement.{statement}
 use Rattle.rule.proofs.sizes.size_step.Tie as tie
@@ -71,8 +70,7 @@ returns-5 c =
 returns-6 : tie.Need-returns-6
 returns-6 c =
     let a = c .before .before .before .before .before .args in
-    let ms = stackOf 0 (a .cells .now) (a .k) in
-    (c .before .before .before .before .before .pre .0, relation-range (λ o. fits [] ≡ sized o (a .value) ms) (a .kind) (omega arith) (omega arith) (λ r. refl))
+    (c .before .before .before .before .before .pre .0, rw (relation-at (a .kind) (omega arith) (omega arith)))
 
 returns-7 : tie.Need-returns-7
 returns-7 c =

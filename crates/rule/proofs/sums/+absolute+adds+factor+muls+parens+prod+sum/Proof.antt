@@ -5,9 +5,11 @@ use mathlib.Core.List.{_∷_}
 use Prim.Native.Nat.{ℕ, _<_, _+_, _*_, _-_}
 use lib.ListN.{length}
 use denote.Ref.{now}
+use Rattle.rule.specs.Frames.{Arithmetic, Kind}
+use Rattle.rule.specs.Class.{closeParen}
 use Rattle.rule.specs.Machine.{step, finish, startFactor, out, want, doing}
 use Rattle.rule.specs.Machine as machine
-use Rattle.rule.specs.Draft.{plain}
+use Rattle.rule.specs.Draft.{alone, plain}
 use Rattle.rule.specs.Does.{signByte}
 use Rattle.rule.proofs.Does.{then, stop, then-does, idle, as-is, least, same, fail, take, beyond, inside}
 use Rattle.rule.proofs.Marked.{sign-some, sign-pass, sign-step}
@@ -40,9 +42,9 @@ use Rattle.rule.proofs.emit.emit_instance.Reads as emit-instance-reads
 use Rattle.rule.proofs.emit.emit_kind.Reads as emit-kind-reads
 use Rattle.rule.proofs.emit.emit_literal.Reads as emit-literal-reads
 use Rattle.rule.proofs.memory.entered.Reads as entered-reads
-use Rattle.rule.proofs.sums.expect.Reads as expect-reads
+use Rattle.rule.proofs.expect.expect.Reads as expect-reads
 use Rattle.rule.proofs.lookup.named.Reads as named-reads
-use Rattle.rule.proofs.sums.reference.Reads as reference-reads
+use Rattle.rule.proofs.references.reference.Reads as reference-reads
 use Rattle.rule.proofs.sums.sign_kind.Reads as sign-kind-reads
 use Rattle.rule.proofs.tokens.token_at.Reads as token-at-reads
 use Rattle.rule.proofs.sums.+absolute+adds+factor+muls+parens+prod+sum.{statement}
@@ -155,13 +157,13 @@ absolute-emit-kind-requires : (t : ℕ) → absolute-lts.Need-emit-kind-requires
 absolute-emit-kind-requires t c κs = search needs
 
 absolute-returns : (t : ℕ) → absolute-lts.Need-returns (absolute-calls t) (absolute-at t) absolute.Post
-absolute-returns t c = stop (λ s. machine.sum (c .before .before .before .before .before .args .d) (want 41 ∷ doing (out (plain 0x14)) ∷ s)) _ (as-is (c .before .before .before .expect .ensures (now (c .before .before .before .before .before .args .names)) (now (c .before .before .before .before .before .args .buf))) (c .before .q .given .1))
+absolute-returns t c = stop (λ s. machine.sum (c .before .before .before .before .before .args .d) (want closeParen ∷ doing (out (alone Kind.absolute)) ∷ s)) _ (as-is (c .before .before .before .expect .ensures (now (c .before .before .before .before .before .args .names)) (now (c .before .before .before .before .before .args .buf))) (c .before .q .given .1))
 
 absolute-returns-2 : (t : ℕ) → absolute-lts.Need-returns-2 (absolute-calls t) (absolute-at t) absolute.Post
-absolute-returns-2 t c = let d = as-is (c .before .before .before .before .before .before .before .before .expect .ensures (now (c .before .before .before .before .before .before .before .before .before .before .args .names)) (now (c .before .before .before .before .before .before .before .before .before .before .args .buf))) (c .before .before .before .before .before .before .a .given .1) in let w = d .within in then d (stop (λ s. doing (out (plain 0x14)) ∷ s) (c .before .before .before .before .before .before .before .before .before .before .args .at) (as-is (c .before .before .before .parens .ensures) (c .before .q2 .given .1))) (omega arith)
+absolute-returns-2 t c = let d = as-is (c .before .before .before .before .before .before .before .before .expect .ensures (now (c .before .before .before .before .before .before .before .before .before .before .args .names)) (now (c .before .before .before .before .before .before .before .before .before .before .args .buf))) (c .before .before .before .before .before .before .a .given .1) in let w = d .within in then d (stop (λ s. doing (out (alone Kind.absolute)) ∷ s) (c .before .before .before .before .before .before .before .before .before .before .args .at) (as-is (c .before .before .before .parens .ensures) (c .before .q2 .given .1))) (omega arith)
 
 absolute-returns-3 : (t : ℕ) → absolute-lts.Need-returns-3 (absolute-calls t) (absolute-at t) absolute.Post
-absolute-returns-3 t c = let d = as-is (c .before .before .before .before .before .before .before .before .before .before .expect .ensures (now (c .before .before .before .before .before .before .before .before .before .before .before .before .args .names)) (now (c .before .before .before .before .before .before .before .before .before .before .before .before .args .buf))) (c .before .before .before .before .before .before .before .before .a .given .1) in let w = d .within in let e = as-is (c .before .before .before .before .before .parens .ensures) (c .before .before .before .z .given .1) in let x = e .within in then d (then-does (out (plain 0x14)) e (c .emit-kind .ensures (now (c .before .before .before .before .before .before .before .before .before .before .before .before .args .text)) (now (c .before .before .before .before .before .before .before .before .before .before .before .before .args .names)))) (omega arith)
+absolute-returns-3 t c = let d = as-is (c .before .before .before .before .before .before .before .before .before .before .expect .ensures (now (c .before .before .before .before .before .before .before .before .before .before .before .before .args .names)) (now (c .before .before .before .before .before .before .before .before .before .before .before .before .args .buf))) (c .before .before .before .before .before .before .before .before .a .given .1) in let w = d .within in let e = as-is (c .before .before .before .before .before .parens .ensures) (c .before .before .before .z .given .1) in let x = e .within in then d (then-does (out (alone Kind.absolute)) e (c .emit-kind .ensures (now (c .before .before .before .before .before .before .before .before .before .before .before .before .args .text)) (now (c .before .before .before .before .before .before .before .before .before .before .before .before .args .names)))) (omega arith)
 
 adds-token-at-requires : (t : ℕ) → adds-lts.Need-token-at-requires (adds-calls t) (adds-at t) adds.Post
 adds-token-at-requires t c κs = search needs
@@ -272,11 +274,11 @@ muls-muls-requires t c κs = let ne : c .before .before .before .before .before 
 
 muls-returns-2 : (t : ℕ) → muls-lts.Need-returns-2 (muls-calls t) (muls-at t) muls.Post
 unfolding step
-muls-returns-2 t c = let ne : c .before .before .before .before .before .before .before .token-at .result .kind ≡ 0 → ⊥ = λ e. omega arith in let v = beyond (now (c .before .before .before .before .before .before .before .before .before .args .text)) (c .before .before .before .before .before .before .before .before .before .args .at) (c .before .before .before .before .before .before .before .token-at .result) (c .before .before .before .before .before .before .before .before .before .pre .1) (c .before .before .before .before .before .before .before .token-at .ensures) ne in take (c .before .before .before .before .before .before .before .before .before .pre .1) (c .before .before .before .before .before .before .before .token-at .ensures) ne (stop (λ s. doing (out (plain 0x13)) ∷ machine.muls (c .before .before .before .before .before .before .before .before .before .args .d) ∷ s) _ (as-is (c .before .before .before .factor .ensures) (c .before .q .given .1))) (λ s. rw (c .before .before .before .before .before .if1 .left))
+muls-returns-2 t c = let ne : c .before .before .before .before .before .before .before .token-at .result .kind ≡ 0 → ⊥ = λ e. omega arith in let v = beyond (now (c .before .before .before .before .before .before .before .before .before .args .text)) (c .before .before .before .before .before .before .before .before .before .args .at) (c .before .before .before .before .before .before .before .token-at .result) (c .before .before .before .before .before .before .before .before .before .pre .1) (c .before .before .before .before .before .before .before .token-at .ensures) ne in take (c .before .before .before .before .before .before .before .before .before .pre .1) (c .before .before .before .before .before .before .before .token-at .ensures) ne (stop (λ s. doing (out (alone (Kind.arithmetic Arithmetic.multiply))) ∷ machine.muls (c .before .before .before .before .before .before .before .before .before .args .d) ∷ s) _ (as-is (c .before .before .before .factor .ensures) (c .before .q .given .1))) (λ s. rw (c .before .before .before .before .before .if1 .left))
 
 muls-returns-3 : (t : ℕ) → muls-lts.Need-returns-3 (muls-calls t) (muls-at t) muls.Post
 unfolding step
-muls-returns-3 t c = let ne : c .before .before .before .before .before .before .before .before .before .before .before .token-at .result .kind ≡ 0 → ⊥ = λ e. omega arith in let v = beyond (now (c .before .before .before .before .before .before .before .before .before .before .before .before .before .args .text)) (c .before .before .before .before .before .before .before .before .before .before .before .before .before .args .at) (c .before .before .before .before .before .before .before .before .before .before .before .token-at .result) (c .before .before .before .before .before .before .before .before .before .before .before .before .before .pre .1) (c .before .before .before .before .before .before .before .before .before .before .before .token-at .ensures) ne in let d = as-is (c .before .before .before .before .before .before .before .factor .ensures) (c .before .before .before .before .before .a .given .1) in let w = d .within in take (c .before .before .before .before .before .before .before .before .before .before .before .before .before .pre .1) (c .before .before .before .before .before .before .before .before .before .before .before .token-at .ensures) ne (then (then-does (out (plain 0x13)) d (c .before .before .emit-kind .ensures (now (c .before .before .before .before .before .before .before .before .before .before .before .before .before .args .text)) (now (c .before .before .before .before .before .before .before .before .before .before .before .before .before .args .names)))) (c .muls .ensures) (omega arith)) (λ s. rw (c .before .before .before .before .before .before .before .before .before .if1 .left))
+muls-returns-3 t c = let ne : c .before .before .before .before .before .before .before .before .before .before .before .token-at .result .kind ≡ 0 → ⊥ = λ e. omega arith in let v = beyond (now (c .before .before .before .before .before .before .before .before .before .before .before .before .before .args .text)) (c .before .before .before .before .before .before .before .before .before .before .before .before .before .args .at) (c .before .before .before .before .before .before .before .before .before .before .before .token-at .result) (c .before .before .before .before .before .before .before .before .before .before .before .before .before .pre .1) (c .before .before .before .before .before .before .before .before .before .before .before .token-at .ensures) ne in let d = as-is (c .before .before .before .before .before .before .before .factor .ensures) (c .before .before .before .before .before .a .given .1) in let w = d .within in take (c .before .before .before .before .before .before .before .before .before .before .before .before .before .pre .1) (c .before .before .before .before .before .before .before .before .before .before .before .token-at .ensures) ne (then (then-does (out (alone (Kind.arithmetic Arithmetic.multiply))) d (c .before .before .emit-kind .ensures (now (c .before .before .before .before .before .before .before .before .before .before .before .before .before .args .text)) (now (c .before .before .before .before .before .before .before .before .before .before .before .before .before .args .names)))) (c .muls .ensures) (omega arith)) (λ s. rw (c .before .before .before .before .before .before .before .before .before .if1 .left))
 
 parens-sum-requires : (t : ℕ) → parens-lts.Need-sum-requires (parens-calls t) (parens-at t) parens.Post
 parens-sum-requires t c κs = omega arith
@@ -291,7 +293,7 @@ parens-expect-requires : (t : ℕ) → parens-lts.Need-expect-requires (parens-c
 parens-expect-requires t c κs = let d = as-is (c .before .before .before .sum .ensures) (c .before .a .given .1) in let w = d .within in (w .1, omega arith)
 
 parens-returns : (t : ℕ) → parens-lts.Need-returns (parens-calls t) (parens-at t) parens.Post
-parens-returns t c = stop (λ s. want 41 ∷ s) _ (as-is (c .before .before .before .sum .ensures) (c .before .q .given .1))
+parens-returns t c = stop (λ s. want closeParen ∷ s) _ (as-is (c .before .before .before .sum .ensures) (c .before .q .given .1))
 
 parens-returns-2 : (t : ℕ) → parens-lts.Need-returns-2 (parens-calls t) (parens-at t) parens.Post
 parens-returns-2 t c = let d = as-is (c .before .before .before .before .sum .ensures) (c .before .before .a .given .1) in let w = d .within in then d (c .expect .ensures _ _) (omega arith)

@@ -1,9 +1,10 @@
 -- `verdict::arithmetic::compute` meets its contract. Assumes nothing.
-use mathlib.Core.Path.{sym, _∙_}
+use mathlib.Core.Path.{_≡_, sym, ap, _∙_}
 use mir.ValLaws.{toZ-ofZ}
 use mir.Syntax.{w64}
-use Rattle.rule.specs.Frames.{add, subtract, multiply}
-use Rattle.verdict.proofs.ByKind.{computed-at, is-13}
+use Rattle.rule.specs.Frames.{Arithmetic, arithmeticAt}
+use Rattle.verdict.specs.Value.{computed}
+use Rattle.verdict.proofs.ByKind.{else-multiply}
 use Rattle.verdict.proofs.arithmetic.compute.Statement.{statement}
 use Rattle.verdict.proofs.arithmetic.compute.Tie as tie
 
@@ -12,21 +13,21 @@ add-result c =
     let s = c .before in
     let x = s .args .a in
     let y = s .args .b in
-    rw (toZ-ofZ w64 x (s .fits .a), toZ-ofZ w64 y (s .fits .b)) (rw (computed-at add (s .args .kind) x y (c .match .keys1)) at (s .pre .1 .1))
+    rw (toZ-ofZ w64 x (s .fits .a), toZ-ofZ w64 y (s .fits .b)) (rw (ap arithmeticAt (c .match .keys1)) at (s .pre))
 
 sub-result : tie.Need-sub-result
 sub-result c =
     let s = c .before in
     let x = s .args .a in
     let y = s .args .b in
-    rw (toZ-ofZ w64 x (s .fits .a), toZ-ofZ w64 y (s .fits .b)) (rw (computed-at subtract (s .args .kind) x y (c .match .keys2)) at (s .pre .1 .1))
+    rw (toZ-ofZ w64 x (s .fits .a), toZ-ofZ w64 y (s .fits .b)) (rw (ap arithmeticAt (c .match .keys2)) at (s .pre))
 
 mul-result : tie.Need-mul-result
 mul-result c =
     let s = c .before in
     let x = s .args .a in
     let y = s .args .b in
-    rw (toZ-ofZ w64 x (s .fits .a), toZ-ofZ w64 y (s .fits .b)) (rw (computed-at multiply (s .args .kind) x y (is-13 (s .args .kind) (s .pre .1 .0) (s .pre .0) (c .match .rest .0 .1) (c .match .rest .1))) at (s .pre .1 .1))
+    rw (toZ-ofZ w64 x (s .fits .a), toZ-ofZ w64 y (s .fits .b)) (rw (else-multiply (s .args .kind) (c .match .rest .0 .1) (c .match .rest .1)) at (s .pre))
 
 returns : tie.Need-returns
 returns c =
@@ -34,7 +35,7 @@ returns c =
     let x = s .args .a in
     let y = s .args .b in
     toZ-ofZ w64 _ (add-result c)
-    ∙ rw (toZ-ofZ w64 x (s .fits .a), toZ-ofZ w64 y (s .fits .b)) (sym (computed-at add (s .args .kind) x y (c .match .keys1)))
+    ∙ rw (toZ-ofZ w64 x (s .fits .a), toZ-ofZ w64 y (s .fits .b)) (ap (λ (o : Arithmetic). computed o x y) (sym (ap arithmeticAt (c .match .keys1))))
 
 returns-2 : tie.Need-returns-2
 returns-2 c =
@@ -42,7 +43,7 @@ returns-2 c =
     let x = s .args .a in
     let y = s .args .b in
     toZ-ofZ w64 _ (sub-result c)
-    ∙ rw (toZ-ofZ w64 x (s .fits .a), toZ-ofZ w64 y (s .fits .b)) (sym (computed-at subtract (s .args .kind) x y (c .match .keys2)))
+    ∙ rw (toZ-ofZ w64 x (s .fits .a), toZ-ofZ w64 y (s .fits .b)) (ap (λ (o : Arithmetic). computed o x y) (sym (ap arithmeticAt (c .match .keys2))))
 
 returns-3 : tie.Need-returns-3
 returns-3 c =
@@ -50,7 +51,7 @@ returns-3 c =
     let x = s .args .a in
     let y = s .args .b in
     toZ-ofZ w64 _ (mul-result c)
-    ∙ rw (toZ-ofZ w64 x (s .fits .a), toZ-ofZ w64 y (s .fits .b)) (sym (computed-at multiply (s .args .kind) x y (is-13 (s .args .kind) (s .pre .1 .0) (s .pre .0) (c .match .rest .0 .1) (c .match .rest .1))))
+    ∙ rw (toZ-ofZ w64 x (s .fits .a), toZ-ofZ w64 y (s .fits .b)) (ap (λ (o : Arithmetic). computed o x y) (sym (else-multiply (s .args .kind) (c .match .rest .0 .1) (c .match .rest .1))))
 
 pub compute-spec : {M : Type 1} → statement M
 compute-spec = tie.close (tie.spec add-result sub-result mul-result returns returns-2 returns-3)

@@ -2,7 +2,6 @@
 -- Assumes nothing.
 use mathlib.Core.Path.{ap, _∙_}
 use mathlib.Core.List.{_∷_}
-use Prim.Native.Nat.{_≤_, _<_}
 use native.Mathlib.Omega.{arith}
 use borrow.Author.Needs.{sfits-of, needs}
 use lib.IntN.{ℤ}
@@ -11,10 +10,10 @@ use mir.ValLaws.{toZ-ofZ}
 use mir.Facts.{toZ-pos}
 use mir.Syntax.{w32, w64}
 use Rattle.rule.specs.Frames.{literal, instance, reference, operand, absolute, negation}
-use Rattle.rule.proofs.Laws.{kind-at, none-15, none-27, none-35}
+use Rattle.rule.proofs.Laws.{kind-at, arithmetic-at, relation-at, connective-at, none-15, none-27, none-35}
 use Rattle.verdict.specs.Pass.{withSums, withConds, withReference}
 use Rattle.verdict.specs.Stacks.{passOf}
-use Rattle.verdict.proofs.ByKind.{past, none-low, step-at, arithmetic-ready, arithmetic-small, arithmetic-step, relation-ready, connective-ready, connective-step}
+use Rattle.verdict.proofs.ByKind.{past, none-low, step-at}
 use Rattle.verdict.proofs.evaluate.step.Statement.{statement}
 use Rattle.verdict.proofs.evaluate.step.Tie as tie
 
@@ -50,28 +49,21 @@ join-sums-requires : tie.Need-join-sums-requires
 join-sums-requires c κs =
     let s = c .before .before .before .before in
     let a = s .args in
-    let p = passOf (a .sums .now) (a .conds .now) (a .top) in
-    let h : 0x11 ≤ a .x .kind = omega arith in
-    let j : a .x .kind < 0x14 = omega arith in
-    (s .pre .long, (s .pre .room, (arithmetic-ready (a .x .kind) (a .x .value) (a .i .0) (a .mark) (a .note) p h j (a .top .sums) (s .pre .ready), (h, (j, arithmetic-small (a .x .kind) (a .x .value) (a .i .0) (a .mark) (a .note) p h j (s .pre .small))))))
+    let e = arithmetic-at (a .x .kind) (omega arith) (omega arith) in
+    (s .pre .long, (s .pre .room, (rw e at (s .pre .ready), rw e at (s .pre .small))))
 
 put-relation-requires : tie.Need-put-relation-requires
 put-relation-requires c κs =
     let s = c .before .before .before .before .before .before .before in
     let a = s .args in
-    let p = passOf (a .sums .now) (a .conds .now) (a .top) in
-    let h : 0x21 ≤ a .x .kind = omega arith in
-    let j : a .x .kind < 0x27 = omega arith in
-    ((h, j), (s .pre .long-c, (s .pre .room-c, relation-ready (a .x .kind) (a .x .value) (a .i .0) (a .mark) (a .note) p h j (a .top .sums) (s .pre .ready))))
+    (s .pre .long-c, (s .pre .room-c, rw (relation-at (a .x .kind) (omega arith) (omega arith)) at (s .pre .ready)))
 
 join-conds-requires : tie.Need-join-conds-requires
 join-conds-requires c κs =
     let s = c .before .before .before .before .before .before .before .before in
     let a = s .args in
-    let p = passOf (a .sums .now) (a .conds .now) (a .top) in
-    let h : 0x32 ≤ a .x .kind = past 0x31 (a .x .kind) (omega arith) (c .before .before .before .before .before .before .before .match .rest .1) in
-    let j : a .x .kind < 0x35 = omega arith in
-    (s .pre .long-c, (s .pre .room-c, (connective-ready (a .x .kind) (a .x .value) (a .i .0) (a .mark) (a .note) p h j (a .top .conds) (s .pre .ready-c), (h, j))))
+    let h = past 0x31 (a .x .kind) (omega arith) (c .before .before .before .before .before .before .before .match .rest .1) in
+    (s .pre .long-c, (s .pre .room-c, rw (connective-at (a .x .kind) h (omega arith)) at (s .pre .ready-c)))
 
 returns : tie.Need-returns
 returns c =
@@ -127,25 +119,24 @@ returns-6 c =
     let a = s .args in
     let p = passOf (a .sums .now) (a .conds .now) (a .top) in (
       (c .join-sums .ensures .0, s .pre .long-c),
-      arithmetic-step (a .x .kind) (a .x .value) (a .i .0) (a .mark) (a .note) p (omega arith) (omega arith) _ (c .join-sums .ensures .1),
+      rw (arithmetic-at (a .x .kind) (omega arith) (omega arith)) (ap (withSums p) (c .join-sums .ensures .1)),
     )
 
 returns-7 : tie.Need-returns-7
 returns-7 c =
     let s = c .before .before .before .before .before .before .before .before in
     let a = s .args in
-    let p = passOf (a .sums .now) (a .conds .now) (a .top) in
     let g = c .put-relation .ensures in
-    ((ap length (g .0 .0) ∙ s .pre .long, g .0 .1), g .1 (a .x .value) (a .i .0) (a .mark) (a .note))
+    ((ap length (g .0 .0) ∙ s .pre .long, g .0 .1), rw (relation-at (a .x .kind) (omega arith) (omega arith)) (g .1))
 
 returns-8 : tie.Need-returns-8
 returns-8 c =
     let s = c .before .before .before .before .before .before .before .before .before in
     let a = s .args in
     let p = passOf (a .sums .now) (a .conds .now) (a .top) in
-    let h : 0x32 ≤ a .x .kind = past 0x31 (a .x .kind) (omega arith) (c .before .before .before .before .before .before .before .before .match .rest .1) in (
+    let h = past 0x31 (a .x .kind) (omega arith) (c .before .before .before .before .before .before .before .before .match .rest .1) in (
       (s .pre .long, c .join-conds .ensures .0),
-      connective-step (a .x .kind) (a .x .value) (a .i .0) (a .mark) (a .note) p h (omega arith) _ (c .join-conds .ensures .1),
+      rw (connective-at (a .x .kind) h (omega arith)) (ap (withConds p) (c .join-conds .ensures .1)),
     )
 
 returns-9 : tie.Need-returns-9

@@ -5,10 +5,11 @@ use Prim.Native.Nat.{ℕ, _-_}
 use native.Mathlib.Omega.{arith}
 use borrow.Author.Needs.{needs}
 use lib.ListN.{getD, length-set}
-use Rattle.rule.specs.Frames.{kindOf}
+use Rattle.rule.specs.Frames.{connectiveAt}
 use Rattle.rule.specs.Build.{top2}
 use Rattle.rule.proofs.Laws.{stack-two, stack-fold}
-use Rattle.verdict.specs.Stacks.{truthOf, truthsOf, joinedBy}
+use Rattle.verdict.specs.Kleene.{joined}
+use Rattle.verdict.specs.Stacks.{truthOf, truthsOf}
 use Rattle.verdict.specs.declared.Truth.{Truth}
 use Rattle.verdict.proofs.stacks.join_conds.Statement.{statement}
 use Rattle.verdict.proofs.stacks.join_conds.Tie as tie
@@ -51,7 +52,7 @@ returns c =
     let st = c .before .before .before .before .before .before in
     let s = st .args .conds .now in
     let k = st .args .c in
-    let f = joinedBy (kindOf (st .args .kind)) in
+    let f = joined (connectiveAt (st .args .kind)) in
     let x = truthOf (getD s (k - 2) 0) in
     let y = truthOf (getD s (k - 1) 0) in
     let e : truthOf (c .code .result) ≡ f x y =

@@ -8,11 +8,11 @@ use lib.ListN.{getD, set, length-set}
 use mir.ValLaws.{toZ-ofZ}
 use mir.Syntax.{w64}
 use mir.Val.{toZ, ofZ}
-use Rattle.rule.specs.Frames.{kindOf}
+use Rattle.rule.specs.Frames.{arithmeticAt}
 use Rattle.rule.specs.Build.{top2}
 use Rattle.rule.specs.Stack.{stackOf}
 use Rattle.rule.proofs.Laws.{stack-two, stack-fold}
-use Rattle.verdict.specs.Stacks.{computedBy}
+use Rattle.verdict.specs.Value.{computed}
 use Rattle.verdict.proofs.Numbers.{small-fits}
 use Rattle.verdict.proofs.stacks.join_sums.Statement.{statement}
 use Rattle.verdict.proofs.stacks.join_sums.Tie as tie
@@ -40,14 +40,9 @@ compute-requires c κs =
     let st = c .before .before in
     let s = st .args .sums .now in
     let k = st .args .k in
-    let b = rw (stack-two (pos 0) s k (omega arith)) at (st .pre .1 .1 .1 .1 .1) in (
-      st .pre .1 .1 .1 .0,
-      (
-        st .pre .1 .1 .1 .1 .0,
-        rw (toZ-ofZ w64 (getD s (k - 2) (pos 0)) (sfits-of (c .before .a .given)), toZ-ofZ w64 (getD s (k - 1) (pos 0)) (sfits-of (c .b .given)))
-            (small-fits _ (b .0)),
-      ),
-    )
+    let b = rw (stack-two (pos 0) s k (omega arith)) at (st .pre .1 .1 .1) in
+    rw (toZ-ofZ w64 (getD s (k - 2) (pos 0)) (sfits-of (c .before .a .given)), toZ-ofZ w64 (getD s (k - 1) (pos 0)) (sfits-of (c .b .given)))
+    (small-fits _ (b .0))
 
 sub-v : tie.Need-sub-v
 sub-v c = search needs
@@ -66,7 +61,7 @@ returns c =
     let st = c .before .before .before in
     let s = st .args .sums .now in
     let k = st .args .k in
-    let f = computedBy (kindOf (st .args .kind)) in
+    let f = computed (arithmeticAt (st .args .kind)) in
     let x = getD s (k - 2) (pos 0) in
     let y = getD s (k - 1) (pos 0) in
     let e : toZ w64 (ofZ w64 (c .compute .result)) ≡ f x y =

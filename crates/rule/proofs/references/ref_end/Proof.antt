@@ -1,32 +1,27 @@
 use mathlib.Core.List.{[], _∷_}
+use Rattle.rule.specs.Class.{closeParen}
 use Rattle.rule.specs.Machine.{want}
 use Rattle.rule.proofs.Does.{then, stop, as-is}
 use native.Mathlib.Omega.{arith}
 use borrow.Author.Needs.{needs}
-use Rattle.rule.proofs.sums.ref_end.Statement.{statement}
-use Rattle.rule.proofs.sums.ref_end.Tie as tie
+use Rattle.rule.proofs.references.ref_end.Statement.{statement}
+use Rattle.rule.proofs.references.ref_end.Tie as tie
 
--- src/sums.rt:119:11
 expect-requires : tie.Need-expect-requires
 expect-requires c κs = search needs
 
--- src/sums.rt:120:18
 enum-known-q : tie.Need-enum-known-q
 enum-known-q c = search needs
 
--- src/sums.rt:121:18
 enum-known-a : tie.Need-enum-known-a
 enum-known-a c = search needs
 
--- src/sums.rt:121:27
 expect-requires-2 : tie.Need-expect-requires-2
 expect-requires-2 c κs = let d = as-is (c .before .before .before .expect .ensures [] []) (c .before .a .given .1) in let w = d .within in (omega arith, omega arith)
 
--- src/sums.rt:115:1
 returns : tie.Need-returns
-returns c = λ tb b. stop (λ s. want 41 ∷ s) _ (as-is (c .before .before .before .expect .ensures tb b) (c .before .q .given .1))
+returns c = λ tb b. stop (λ s. want closeParen ∷ s) _ (as-is (c .before .before .before .expect .ensures tb b) (c .before .q .given .1))
 
--- src/sums.rt:115:1
 returns-2 : tie.Need-returns-2
 returns-2 c = λ tb b. let d = as-is (c .before .before .before .before .expect .ensures tb b) (c .before .before .a .given .1) in let w = d .within in then d (c .expect2 .ensures tb b) (omega arith)
 

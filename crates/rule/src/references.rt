@@ -1,0 +1,220 @@
+// Readers of references: a note, an event and an index. Each takes its part off the stack of specs/Machine.
+use crate::emit::emit_reference;
+use crate::expect::expect;
+use crate::lookup::named;
+use crate::memory::Step;
+use crate::memory::Tally;
+use crate::memory::sized;
+use crate::parts::Limit;
+use crate::parts::Place;
+use crate::parts::Role;
+use crate::parts::Scale;
+use crate::parts::Shift;
+use crate::parts::Sign;
+use crate::tokens::INDEX_KIND;
+use crate::tokens::NAME_KIND;
+use crate::tokens::NUMBER_KIND;
+use crate::tokens::token_at;
+ghost use mathlib.Core.Path.{_≡_};
+ghost use mathlib.Core.List.{List, _∷_};
+ghost use Prim.Native.Nat.{ℕ, _+_, _≤_};
+ghost use lib.ListN.{length};
+ghost use Rattle.rule.specs.Token.{indexKind};
+ghost use Rattle.rule.specs.Class.{openParen, closeParen, openBracket, closeBracket, star};
+ghost use Rattle.rule.specs.Machine.{want, ref-event, ref-index, ref-shift, ref-by};
+ghost use Rattle.rule.specs.Memory.{mem};
+ghost use Rattle.rule.specs.Does.{Does, Inside, InsideScale};
+
+// The number of an offset, and the frame of its reference.
+fn ref_by(
+    text: &[u8],
+    names: &[u64; 12],
+    at: usize,
+    n: Place,
+    e: Place,
+    f: Scale,
+    g: Sign,
+    m: Tally,
+    buf: &mut [u8; 512],
+) -> Step
+    requires { ⌜ (at ≤ length (now text)) × Inside (length (now text)) n × Inside (length (now text)) e
+        × InsideScale (length (now text)) f ⌝ }
+    ensures { λ r. ⌜ Does (λ s. ref-by n e f g ∷ s) (now (text .entry)) at (at + 1)
+        (mem m (now (names .entry)) (now (buf .entry))) r (now (names .entry)) (now (buf .exit)) ⌝ }
+{
+    let t = token_at(text, at);
+    if t.kind != NUMBER_KIND {
+        return Step::No(t.start);
+    }
+    let p = Place {
+        start: t.start,
+        end: t.end,
+    };
+    let k = sized(text, Limit::OfOffset, p, m);
+    Step::Go(
+        t.end,
+        emit_reference(text, names, buf, k, n, e, f, Shift::By(g, p)),
+    )
+}
+
+// [("+" or "-") number], and the frame of the reference.
+fn ref_shift(
+    text: &[u8],
+    names: &[u64; 12],
+    at: usize,
+    n: Place,
+    e: Place,
+    f: Scale,
+    m: Tally,
+    buf: &mut [u8; 512],
+) -> Step
+    requires { ⌜ (at ≤ length (now text)) × Inside (length (now text)) n × Inside (length (now text)) e
+        × InsideScale (length (now text)) f ⌝ }
+    ensures { λ r. ⌜ Does (λ s. ref-shift n e f ∷ s) (now (text .entry)) at at
+        (mem m (now (names .entry)) (now (buf .entry))) r (now (names .entry)) (now (buf .exit)) ⌝ }
+{
+    let t = token_at(text, at);
+    if t.kind == b'+' {
+        return ref_by(text, names, t.end, n, e, f, Sign::Plus, m, buf);
+    }
+    if t.kind == b'-' {
+        return ref_by(text, names, t.end, n, e, f, Sign::Minus, m, buf);
+    }
+    Step::Go(
+        at,
+        emit_reference(text, names, buf, m, n, e, f, Shift::Unshifted),
+    )
+}
+
+// "*" "i", after a number, and the rest of the index.
+fn ref_scaled(
+    text: &[u8],
+    names: &[u64; 12],
+    at: usize,
+    n: Place,
+    e: Place,
+    p: Place,
+    m: Tally,
+    buf: &mut [u8; 512],
+) -> Step
+    requires { ⌜ (at ≤ length (now text)) × Inside (length (now text)) n × Inside (length (now text)) e
+        × Inside (length (now text)) p ⌝ }
+    ensures { λ r. ⌜ Does (λ s. want star ∷ want indexKind ∷ ref-shift n e (Scale.Times p) ∷ s) (now (text .entry)) at at
+        (mem m (now (names .entry)) (now (buf .entry))) r (now (names .entry)) (now (buf .exit)) ⌝ }
+{
+    match expect(text, at, m, b'*') {
+        Step::No(q) => Step::No(q),
+        Step::Go(a, k) => match expect(text, a, k, INDEX_KIND) {
+            Step::No(q) => Step::No(q),
+            Step::Go(z, l) => ref_shift(text, names, z, n, e, Scale::Times(p), l, buf),
+        },
+    }
+}
+
+// index: [number "*"] "i" [("+" or "-") number]
+fn ref_index(
+    text: &[u8],
+    names: &[u64; 12],
+    at: usize,
+    n: Place,
+    e: Place,
+    m: Tally,
+    buf: &mut [u8; 512],
+) -> Step
+    requires { ⌜ (at ≤ length (now text)) × Inside (length (now text)) n × Inside (length (now text)) e ⌝ }
+    ensures { λ r. ⌜ Does (λ s. ref-index n e ∷ s) (now (text .entry)) at (at + 1)
+        (mem m (now (names .entry)) (now (buf .entry))) r (now (names .entry)) (now (buf .exit)) ⌝ }
+{
+    let t = token_at(text, at);
+    if t.kind == NUMBER_KIND {
+        let p = Place {
+            start: t.start,
+            end: t.end,
+        };
+        let k = sized(text, Limit::OfFactor, p, m);
+        return ref_scaled(text, names, t.end, n, e, p, k, buf);
+    }
+    if t.kind == INDEX_KIND {
+        return ref_shift(text, names, t.end, n, e, Scale::Once, m, buf);
+    }
+    Step::No(t.start)
+}
+
+// "]" ")"
+fn ref_end(text: &[u8], at: usize, m: Tally) -> Step
+    requires { ⌜ at ≤ length (now text) ⌝ }
+    ensures { λ r. ⌜ ((tb b : List ℕ) → Does (λ s. want closeBracket ∷ want closeParen ∷ s) (now (text .entry)) at at
+        (mem m tb b) r tb b) ⌝ }
+{
+    match expect(text, at, m, b']') {
+        Step::No(q) => Step::No(q),
+        Step::Go(a, k) => expect(text, a, k, b')'),
+    }
+}
+
+// "[" index "]" ")"
+fn ref_brackets(
+    text: &[u8],
+    names: &[u64; 12],
+    at: usize,
+    n: Place,
+    e: Place,
+    m: Tally,
+    buf: &mut [u8; 512],
+) -> Step
+    requires { ⌜ (at ≤ length (now text)) × Inside (length (now text)) n × Inside (length (now text)) e ⌝ }
+    ensures { λ r. ⌜ Does (λ s. want openBracket ∷ ref-index n e ∷ want closeBracket ∷ want closeParen ∷ s)
+        (now (text .entry)) at at (mem m (now (names .entry)) (now (buf .entry))) r (now (names .entry)) (now (buf .exit)) ⌝ }
+{
+    match expect(text, at, m, b'[') {
+        Step::No(q) => Step::No(q),
+        Step::Go(a, k) => match ref_index(text, names, a, n, e, k, buf) {
+            Step::No(q) => Step::No(q),
+            Step::Go(z, l) => ref_end(text, z, l),
+        },
+    }
+}
+
+// The event of a reference, and what follows.
+fn ref_event(
+    text: &[u8],
+    names: &[u64; 12],
+    at: usize,
+    n: Place,
+    m: Tally,
+    buf: &mut [u8; 512],
+) -> Step
+    requires { ⌜ (at ≤ length (now text)) × Inside (length (now text)) n ⌝ }
+    ensures { λ r. ⌜ Does (λ s. ref-event n ∷ s) (now (text .entry)) at (at + 1)
+        (mem m (now (names .entry)) (now (buf .entry))) r (now (names .entry)) (now (buf .exit)) ⌝ }
+{
+    let t = token_at(text, at);
+    if t.kind != NAME_KIND {
+        return Step::No(t.start);
+    }
+    let p = Place {
+        start: t.start,
+        end: t.end,
+    };
+    let k = named(text, names, Role::Event, p, m);
+    ref_brackets(text, names, t.end, n, p, k, buf)
+}
+
+// "(" name "[" index "]" ")", after the note.
+pub fn reference(
+    text: &[u8],
+    names: &[u64; 12],
+    at: usize,
+    n: Place,
+    m: Tally,
+    buf: &mut [u8; 512],
+) -> Step
+    requires { ⌜ (at ≤ length (now text)) × Inside (length (now text)) n ⌝ }
+    ensures { λ r. ⌜ Does (λ s. want openParen ∷ ref-event n ∷ s) (now (text .entry)) at at
+        (mem m (now (names .entry)) (now (buf .entry))) r (now (names .entry)) (now (buf .exit)) ⌝ }
+{
+    match expect(text, at, m, b'(') {
+        Step::No(q) => Step::No(q),
+        Step::Go(a, k) => ref_event(text, names, a, n, k, buf),
+    }
+}
