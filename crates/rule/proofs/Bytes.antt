@@ -13,15 +13,16 @@ use Rattle.rule.specs.declared.parts.Role.{Role}
 use Rattle.rule.specs.declared.parts.Role.the-variants.{Event, Note}
 use Rattle.rule.specs.declared.memory.Fields.{Fields}
 use Rattle.rule.specs.Grammar.{Cond, Rule, rule}
-use Rattle.rule.specs.Measure.{names}
-use Rattle.rule.specs.Draft.{Draft, frames, framesCond}
+use Rattle.rule.specs.Measure.{framesIn, frames, names}
+use Rattle.rule.specs.Draft.{Draft}
+use Rattle.rule.specs.Items.{itemsCond}
 use Rattle.rule.specs.Machine.{Act, declare, uses, sized, enter, out}
 use Rattle.rule.proofs.Judge.{codes, first-name}
 use Rattle.rule.specs.Memory.{Mem, fresh, table, put, fields, misnamed, remember, enlist, among}
 use Rattle.rule.proofs.Put.{fill, each}
-use Rattle.rule.proofs.Walk.{readCond, readNames, readRule}
-use Rattle.rule.proofs.Measures.{note-frame, frames-cond}
-use Rattle.rule.proofs.Registers.{Body, sim-cond, unblamed, untouched, count-kept, names-listed}
+use Rattle.rule.proofs.Walk.{readItems, readNames, readRule}
+use Rattle.rule.proofs.Measures.{note-frame, frames-items}
+use Rattle.rule.proofs.Registers.{Body, sim-items, unblamed, untouched, count-kept, names-listed}
 
 each-snoc : {A B : Type 0} (g : A → B) (l : List A) (x : A) → each g (l ++ x ∷ []) ≡ each g l ++ g x ∷ []
 each-snoc g [] x = refl
@@ -90,10 +91,10 @@ module _ (code value : Place → ℕ) where
   names-idle b₀ r [] w h = h
   names-idle b₀ r (p ∷ ps) w h = names-idle b₀ r ps (remember code value (declare r p) w) (declared-idle b₀ r p w h)
 
-  after-header : (b₀ : List ℕ) (w : Mem) (c : Cond) → Idle b₀ w → Holds (w .events) (w .notes) b₀ (readCond Mem (remember code value) 0 c w) (framesCond c)
+  after-header : (b₀ : List ℕ) (w : Mem) (c : Cond) → Idle b₀ w → Holds (w .events) (w .notes) b₀ (readItems Mem (remember code value) 0 (itemsCond c) w) (framesIn (itemsCond c))
   after-header b₀ w c h =
-      subst (λ (l : List Draft). Holds (w .events) (w .notes) b₀ (readCond Mem (remember code value) 0 c w) l) (frames-cond c 0 [])
-      (sim-cond Mem (List Draft) (remember code value) note-frame (λ v l. Holds (w .events) (w .notes) b₀ v l) (holds-kept (w .events) (w .notes) b₀) c 0 {m = w} {l = []}
+      subst (λ (l : List Draft). Holds (w .events) (w .notes) b₀ (readItems Mem (remember code value) 0 (itemsCond c) w) l) (frames-items 0 (itemsCond c) [])
+      (sim-items Mem (List Draft) (remember code value) note-frame (λ v l. Holds (w .events) (w .notes) b₀ v l) (holds-kept (w .events) (w .notes) b₀) (itemsCond c) 0 {m = w} {l = []}
       (record { its-events = refl; its-notes = refl; counts = h .no-frame; its-bytes = h .no-byte }))
 
   -- the tables as the memory at the end has them
@@ -102,9 +103,8 @@ module _ (code value : Place → ℕ) where
 
   at-end : (b₀ : List ℕ) (x : Rule) → readRule Mem (remember code value) x (fresh b₀) .bytes ≡ fill 0 (each (fields code value (readRule Mem (remember code value) x (fresh b₀) .events) (readRule Mem (remember code value) x (fresh b₀) .notes)) (frames x)) b₀
   at-end b₀ (rule e es n ns c) =
-      by-end _ _ b₀ _ (framesCond c)
-      (after-header b₀ (readNames Mem (remember code value) Note ns (remember code value (declare Note n) (readNames Mem (remember code value) Event es (remember code value (declare Event e) (fresh b₀))))) c
-      (names-idle b₀ Note ns _ (declared-idle b₀ Note n _ (names-idle b₀ Event es _ (declared-idle b₀ Event e (fresh b₀) (record { no-frame = refl; no-byte = refl }))))))
+      by-end _ _ b₀ _ (framesIn (itemsCond c))
+      (after-header b₀ _ c (names-idle b₀ Note (n ∷ ns) _ (names-idle b₀ Event (e ∷ es) (fresh b₀) (record { no-frame = refl; no-byte = refl }))))
 
   -- where no name is bad, the buffer holds the tree's frames, with every name looked up among the declared ones
   pub bytes-read : (b₀ : List ℕ) (x : Rule) → first-name code value [] (names x) ≡ none

@@ -12,7 +12,6 @@ mod Machines
 mod Trees
 mod Rules
 mod Measures
-mod Depth
 mod SpellLists
 mod SpellWords
 mod SpellTokens
@@ -21,7 +20,6 @@ mod SpellNames
 mod SpellNumbers
 mod SpellMeaning
 mod SpellTurn
-mod SpellShapes
 mod SpellTrees
 mod SpellSame
 mod Registers

@@ -13,10 +13,10 @@ use borrow.Author.Tests.{ltb-false, leb-false, eqb-false}
 use Rattle.numbers.proofs.Ints.{natAbs-neg}
 use Rattle.rule.specs.Limits.{factorLimit, offsetLimit, literalLimit}
 use Rattle.rule.specs.Name.{longName}
-use Rattle.rule.specs.Grammar
+use Rattle.rule.specs.Grammar.{Rule, index}
 use Rattle.rule.specs.Tree.{LimitsR}
-use Rattle.rule.specs.Measure.{Named, declared, used, Sized, sized-by, scaleNumbers, shiftNumbers, declares, names, namesCond, namesDisj, namesConj, namesUnit, namesSum, namesProd, namesFactor, numbers, numbersCond, numbersDisj, numbersConj, numbersUnit, numbersSum, numbersProd, numbersFactor}
-use Rattle.rule.specs.Draft.{Draft, plain, frames, framesCond, framesDisj, framesConj, framesUnit, framesSum, framesProd, framesFactor}
+use Rattle.rule.specs.Measure.{Named, declared, used, Sized, sized-by, scaleNumbers, shiftNumbers, flat, namesOf, numbersOf, header, frames, names, numbers}
+use Rattle.rule.specs.Draft.{Draft, lit, index-var, ref, plain}
 use Rattle.rule.specs.Spelling.{same-role, room, beyond}
 use Rattle.rule.proofs.Judge.{codes, bad-name, spot, first-name, first-number}
 use Rattle.rule.specs.Memory.{position, among}
@@ -30,7 +30,8 @@ use Rattle.rule.specs.declared.parts.Scale.the-variants.{Once, Times}
 use Rattle.rule.specs.declared.parts.Shift.{Shift}
 use Rattle.rule.specs.declared.parts.Shift.the-variants.{Unshifted, By}
 use Rattle.rule.specs.Meaning.{factorAt, offsetAt, referenceAt}
-use Rattle.rule.proofs.Drafts.{All, all-join, all-left, all-right, LimitsD}
+use Rattle.rule.proofs.Drafts.{All, all-left, all-right, LimitsD}
+use Rattle.rule.proofs.SpellLists.{all-flat}
 
 no-place : {p : Place} → _≡_ {A = Option Place} (some p) none → ⊥
 no-place e = let z : _≡_ {A = ℕ} 0 1 = cc in omega arith
@@ -167,64 +168,22 @@ module _ (code value : Place → ℕ) where
     offset-fits (By Minus p) h = rw natAbs-neg (ltb-false offsetLimit (value p) (h .0))
 
     reference-fits : (n e : Place) (f : Scale) (o : Shift) → among (code n) (T Note) ≡ true → among (code e) (T Event) ≡ true → All Fine (scaleNumbers f) → All Fine (shiftNumbers o)
-        → LimitsR (referenceAt (numbered Event) (numbered Note) value n e (Grammar.index f o))
+        → LimitsR (referenceAt (numbered Event) (numbered Note) value n e (index f o))
     reference-fits n e f o a b h k =
         record { event = below Event e b; note = below Note n a; least = factor-fits f h .0; factor = factor-fits f h .1; offset = offset-fits o k }
 
-    -- both sides of an operation, and its own frame
-    both : (xs ys : List Draft) (k : ℕ) → All Fits xs → All Fits ys → All Fits (xs ++ ys ++ plain k ∷ [])
-    both xs ys k p q = all-join Fits (xs ++ ys) (plain k ∷ []) (all-join Fits xs ys p q) (tt, tt)
+    -- a frame whose names are known and whose numbers are fine
+    fits-draft : (d : Draft) → All (Known T) (namesOf d) → All Fine (numbersOf d) → Fits d
+    fits-draft (lit p) a b = literal-fits p (b .0)
+    fits-draft index-var a b = tt
+    fits-draft (ref n e f o) a b = reference-fits n e f o (a .0) (a .1 .0) (all-left Fine (scaleNumbers f) (shiftNumbers o) b) (all-right Fine (scaleNumbers f) (shiftNumbers o) b)
+    fits-draft (plain k) a b = tt
 
-    abbrev Good : List Named → List Sized → List Draft → Type 0
-    Good ns vs ds = All (Known T) ns → All Fine vs → All Fits ds
-
-    two : (ns ns′ : List Named) (vs vs′ : List Sized) (ds ds′ : List Draft) (k : ℕ) → Good ns vs ds → Good ns′ vs′ ds′ → Good (ns ++ ns′) (vs ++ vs′) (ds ++ ds′ ++ plain k ∷ [])
-    two ns ns′ vs vs′ ds ds′ k p q a b =
-        both ds ds′ k (p (all-left (Known T) ns ns′ a) (all-left Fine vs vs′ b)) (q (all-right (Known T) ns ns′ a) (all-right Fine vs vs′ b))
-
-    one : (ns : List Named) (vs : List Sized) (ds : List Draft) (k : ℕ) → Good ns vs ds → Good ns vs (ds ++ plain k ∷ [])
-    one ns vs ds k p a b = all-join Fits ds (plain k ∷ []) (p a b) (tt, tt)
-
-    mutual
-      fits-sum : (x : Grammar.Sum) → Good (namesSum x) (numbersSum x) (framesSum x)
-      fits-sum (Grammar.a-prod x) = fits-prod x
-      fits-sum (Grammar.add x g y) = two (namesSum x) (namesProd y) (numbersSum x) (numbersProd y) (framesSum x) (framesProd y) _ (fits-sum x) (fits-prod y)
-
-      fits-prod : (x : Grammar.Prod) → Good (namesProd x) (numbersProd x) (framesProd x)
-      fits-prod (Grammar.a-factor x) = fits-factor x
-      fits-prod (Grammar.multiply x y) = two (namesProd x) (namesFactor y) (numbersProd x) (numbersFactor y) (framesProd x) (framesFactor y) _ (fits-prod x) (fits-factor y)
-
-      fits-factor : (x : Grammar.Factor) → Good (namesFactor x) (numbersFactor x) (framesFactor x)
-      fits-factor (Grammar.literal p) = λ a b. (literal-fits p (b .0), tt)
-      fits-factor Grammar.var = λ a b. (tt, tt)
-      fits-factor (Grammar.parens x) = fits-sum x
-      fits-factor (Grammar.absolute x) = one (namesSum x) (numbersSum x) (framesSum x) _ (fits-sum x)
-      fits-factor (Grammar.reference n e (Grammar.index f o)) =
-          λ a b. (reference-fits n e f o (a .0) (a .1 .0) (all-left Fine (scaleNumbers f) (shiftNumbers o) b) (all-right Fine (scaleNumbers f) (shiftNumbers o) b), tt)
-
-    mutual
-      fits-cond : (x : Grammar.Cond) → Good (namesCond x) (numbersCond x) (framesCond x)
-      fits-cond (Grammar.a-disj x) = fits-disj x
-      fits-cond (Grammar.implies x y) = two (namesDisj x) (namesCond y) (numbersDisj x) (numbersCond y) (framesDisj x) (framesCond y) _ (fits-disj x) (fits-cond y)
-
-      fits-disj : (x : Grammar.Disj) → Good (namesDisj x) (numbersDisj x) (framesDisj x)
-      fits-disj (Grammar.a-conj x) = fits-conj x
-      fits-disj (Grammar.or x y) = two (namesDisj x) (namesConj y) (numbersDisj x) (numbersConj y) (framesDisj x) (framesConj y) _ (fits-disj x) (fits-conj y)
-
-      fits-conj : (x : Grammar.Conj) → Good (namesConj x) (numbersConj x) (framesConj x)
-      fits-conj (Grammar.a-unit x) = fits-unit x
-      fits-conj (Grammar.and x y) = two (namesConj x) (namesUnit y) (numbersConj x) (numbersUnit y) (framesConj x) (framesUnit y) _ (fits-conj x) (fits-unit y)
-
-      fits-unit : (x : Grammar.CUnit) → Good (namesUnit x) (numbersUnit x) (framesUnit x)
-      fits-unit (Grammar.not x) = one (namesUnit x) (numbersUnit x) (framesUnit x) _ (fits-unit x)
-      fits-unit (Grammar.group x) = fits-cond x
-      fits-unit (Grammar.relation x c y) = two (namesSum x) (namesSum y) (numbersSum x) (numbersSum y) (framesSum x) (framesSum y) _ (fits-sum x) (fits-sum y)
-
-    pub fits-rule : (x : Grammar.Rule) → Good (names x) (numbers x) (frames x)
-    fits-rule (Grammar.rule e es n ns c) a b = fits-cond c (all-right (Known T) (declares Event (e ∷ es) ++ declares Note (n ∷ ns)) (namesCond c) a) b
+    pub fits-rule : (x : Rule) → All (Known T) (names x) → All Fine (numbers x) → All Fits (frames x)
+    fits-rule x a b = all-flat (Known T) Fine Fits namesOf numbersOf fits-draft (frames x) (all-right (Known T) (header x) (flat namesOf (frames x)) a) b
 
   -- where no name is bad and no number
-  pub frames-fit : (x : Grammar.Rule) → first-name code value [] (names x) ≡ none → first-number code value (numbers x) ≡ none
+  pub frames-fit : (x : Rule) → first-name code value [] (names x) ≡ none → first-number code value (numbers x) ≡ none
       → All (LimitsD (λ p. position (code p) (codes code value Event (names x))) (λ p. position (code p) (codes code value Note (names x))) value) (frames x)
   frames-fit x e f = fits-rule (λ r. codes code value r (names x)) (λ r. few-codes r [] (names x) (none-yet r) e) x (all-known [] (names x) e) (all-fine (numbers x) f)
     where

@@ -13,19 +13,21 @@ use Rattle.rule.specs.declared.parts.Place.{Place}
 use Rattle.rule.specs.declared.parts.Role.{Role}
 use Rattle.rule.specs.declared.parts.Role.the-variants.{Event, Note}
 use Rattle.rule.specs.declared.parts.Limit.{Limit}
+use Rattle.rule.specs.declared.parts.Scale.{Scale}
 use Rattle.rule.specs.declared.parts.Scale.the-variants.{Once, Times}
+use Rattle.rule.specs.declared.parts.Shift.{Shift}
 use Rattle.rule.specs.declared.parts.Shift.the-variants.{Unshifted, By}
-use Rattle.rule.specs.Grammar.{Index, index, Cond, a-disj, implies, Disj, a-conj, or, Conj, a-unit, and, CUnit, not, group, relation, Sum, a-prod, add, Prod, a-factor, multiply, Factor, literal, var, parens, absolute, reference, Rule, rule}
-use Rattle.rule.specs.Measure.{Named, declared, used, Sized, sized-by, depth, names, numbers}
-use Rattle.rule.specs.Draft.{Draft, frames}
-use Rattle.rule.specs.Machine.{Act, declare, uses, sized, enter, out, deeper}
-use Rattle.rule.proofs.Walk.{readIndex, readCond, readDisj, readConj, readUnit, readSum, readProd, readFactor, readNames, readRule}
+use Rattle.rule.specs.Grammar.{Rule, rule}
+use Rattle.rule.specs.Measure.{Named, declared, used, Sized, sized-by, depth, frames, names, numbers}
+use Rattle.rule.specs.Draft.{Draft, lit, index-var, ref, plain}
+use Rattle.rule.specs.Items.{Item, enters, puts, itemsCond}
+use Rattle.rule.specs.Machine.{Act, declare, uses, sized, enter, out}
+use Rattle.rule.proofs.Walk.{readScale, readShift, readDraft, readItems, readNames, readRule}
 use Rattle.rule.proofs.Judge.{refused-by, read-as, telling, after-number, after-name, outcome, codes, bad-name, spot, first-name, first-number}
 use Rattle.rule.specs.Spelling.{same-role, room}
 use Rattle.rule.specs.Name.{longName}
 use Rattle.rule.specs.Memory.{Mem, fresh, table, enlist, first, blame, misnamed, remember, told, among, bad-number}
-use Rattle.rule.proofs.Measures.{note-frame, note-name, note-number, note-depth, frames-read, names-read, numbers-read}
-use Rattle.rule.proofs.Depth.{depth-read}
+use Rattle.rule.proofs.Measures.{note-frame, note-name, note-number, note-depth, frames-read, names-read, numbers-read, depth-read}
 
 abbrev pub Body : Act → Type 0
 Body (declare r p) = ⊥
@@ -34,46 +36,26 @@ Body (sized b p) = Unit
 Body (enter d) = Unit
 Body (out f) = Unit
 
--- what each act of a condition keeps, the reading of a condition keeps
+-- what each act of a condition keeps, the reading of its items keeps
 module _ (M L : Type 0) (act : Act → M → M) (log : Act → L → L) (R : M → L → Type 0) (keep : (a : Act) → Body a → (m : M) (l : L) → R m l → R (act a m) (log a l)) where
-  sim-index : (n e : Place) (x : Index) {m : M} {l : L} → R m l → R (readIndex M act n e x m) (readIndex L log n e x l)
-  sim-index n e (index Once Unshifted) r = keep _ tt _ _ r
-  sim-index n e (index Once (By g p)) r = keep _ tt _ _ (keep _ tt _ _ r)
-  sim-index n e (index (Times f) Unshifted) r = keep _ tt _ _ (keep _ tt _ _ r)
-  sim-index n e (index (Times f) (By g p)) r = keep _ tt _ _ (keep _ tt _ _ (keep _ tt _ _ r))
+  sim-scale : (f : Scale) {m : M} {l : L} → R m l → R (readScale M act f m) (readScale L log f l)
+  sim-scale Once r = r
+  sim-scale (Times p) r = keep _ tt _ _ r
 
-  mutual
-    pub sim-cond : (x : Cond) (d : ℕ) {m : M} {l : L} → R m l → R (readCond M act d x m) (readCond L log d x l)
-    sim-cond (a-disj x) d r = sim-disj x d r
-    sim-cond (implies x y) d r = keep _ tt _ _ (sim-cond y (deeper d) (keep _ tt _ _ (sim-disj x d r)))
+  sim-shift : (o : Shift) {m : M} {l : L} → R m l → R (readShift M act o m) (readShift L log o l)
+  sim-shift Unshifted r = r
+  sim-shift (By g p) r = keep _ tt _ _ r
 
-    sim-disj : (x : Disj) (d : ℕ) {m : M} {l : L} → R m l → R (readDisj M act d x m) (readDisj L log d x l)
-    sim-disj (a-conj x) d r = sim-conj x d r
-    sim-disj (or x y) d r = keep _ tt _ _ (sim-conj y d (sim-disj x d r))
+  sim-draft : (f : Draft) {m : M} {l : L} → R m l → R (readDraft M act f m) (readDraft L log f l)
+  sim-draft (lit p) r = keep _ tt _ _ (keep _ tt _ _ r)
+  sim-draft index-var r = keep _ tt _ _ r
+  sim-draft (ref n e f o) r = keep _ tt _ _ (sim-shift o (sim-scale f (keep _ tt _ _ (keep _ tt _ _ r))))
+  sim-draft (plain k) r = keep _ tt _ _ r
 
-    sim-conj : (x : Conj) (d : ℕ) {m : M} {l : L} → R m l → R (readConj M act d x m) (readConj L log d x l)
-    sim-conj (a-unit x) d r = sim-unit x d r
-    sim-conj (and x y) d r = keep _ tt _ _ (sim-unit y d (sim-conj x d r))
-
-    sim-unit : (x : CUnit) (d : ℕ) {m : M} {l : L} → R m l → R (readUnit M act d x m) (readUnit L log d x l)
-    sim-unit (not x) d r = keep _ tt _ _ (sim-unit x (deeper d) (keep _ tt _ _ r))
-    sim-unit (group x) d r = sim-cond x (deeper d) (keep _ tt _ _ r)
-    sim-unit (relation x c y) d r = keep _ tt _ _ (sim-sum y d (sim-sum x d r))
-
-    sim-sum : (x : Sum) (d : ℕ) {m : M} {l : L} → R m l → R (readSum M act d x m) (readSum L log d x l)
-    sim-sum (a-prod x) d r = sim-prod x d r
-    sim-sum (add x g y) d r = keep _ tt _ _ (sim-prod y d (sim-sum x d r))
-
-    sim-prod : (x : Prod) (d : ℕ) {m : M} {l : L} → R m l → R (readProd M act d x m) (readProd L log d x l)
-    sim-prod (a-factor x) d r = sim-factor x d r
-    sim-prod (multiply x y) d r = keep _ tt _ _ (sim-factor y d (sim-prod x d r))
-
-    sim-factor : (x : Factor) (d : ℕ) {m : M} {l : L} → R m l → R (readFactor M act d x m) (readFactor L log d x l)
-    sim-factor (literal p) d r = keep _ tt _ _ (keep _ tt _ _ r)
-    sim-factor var d r = keep _ tt _ _ r
-    sim-factor (parens x) d r = sim-sum x (deeper d) (keep _ tt _ _ r)
-    sim-factor (absolute x) d r = keep _ tt _ _ (sim-sum x (deeper d) (keep _ tt _ _ r))
-    sim-factor (reference n e x) d r = sim-index n e x (keep _ tt _ _ (keep _ tt _ _ r))
+  pub sim-items : (is : List Item) (d : ℕ) {m : M} {l : L} → R m l → R (readItems M act d is m) (readItems L log d is l)
+  sim-items [] d r = r
+  sim-items (enters k ∷ is) d r = sim-items is d (keep _ tt _ _ r)
+  sim-items (puts f ∷ is) d r = sim-items is d (sim-draft f r)
 
 -- what each act keeps, a reading keeps
 module _ (M L : Type 0) (act : Act → M → M) (log : Act → L → L) (R : M → L → Type 0) (keep : (a : Act) (m : M) (l : L) → R m l → R (act a m) (log a l)) where
@@ -82,7 +64,7 @@ module _ (M L : Type 0) (act : Act → M → M) (log : Act → L → L) (R : M �
   sim-names q (p ∷ ps) r = sim-names q ps (keep _ _ _ r)
 
   pub simulate : (x : Rule) {m : M} {l : L} → R m l → R (readRule M act x m) (readRule L log x l)
-  simulate (rule e es n ns c) r = sim-cond M L act log R (λ a b. keep a) c 0 (sim-names Note ns (keep _ _ _ (sim-names Event es (keep _ _ _ r))))
+  simulate (rule e es n ns c) r = sim-items M L act log R (λ a b. keep a) (itemsCond c) 0 (sim-names Note (n ∷ ns) (sim-names Event (e ∷ es) r))
 
 -- ---- a field that an act on names leaves
 pub untouched : (A : Type 0) (field : Mem → A) (r : Role) (p : Place) (c : ℕ) (m : Mem) → field (blame p m) ≡ field m → field (enlist r c m) ≡ field m → (b : Bool) → field (cond b (blame p m) (enlist r c m)) ≡ field m

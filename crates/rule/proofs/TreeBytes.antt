@@ -13,8 +13,8 @@ use Rattle.numbers.proofs.Ints.{natAbs-neg}
 use Rattle.rule.specs.Limits.{factorLimit, offsetLimit, frameLimit, frameBytes, bufferBytes}
 use Rattle.rule.specs.Grammar.{Rule}
 use Rattle.rule.specs.Tree.{Cond, Limits, postfix, bytesOf, IsRule}
-use Rattle.rule.specs.Measure.{names, numbers}
-use Rattle.rule.specs.Draft.{Draft, lit, index-var, ref, plain, frames}
+use Rattle.rule.specs.Measure.{frames, names, numbers}
+use Rattle.rule.specs.Draft.{Draft, lit, index-var, ref, plain}
 use Rattle.rule.proofs.Judge.{codes, first-name, first-number}
 use Rattle.rule.specs.Memory.{position, negated, factorOf, offsetOf, fields, codeAt, valueAt}
 use Rattle.rule.proofs.Put.{each, treeBytes}
