@@ -67,7 +67,7 @@ plain-word k p e = go (eqb k 1) (eqb k 2) e
     go false false e = refl
 
 -- a choice by a test on the kind
-choose : {N : Type 0} (P : N → Type 0) (k j : ℕ) {a b : N} → (k ≡ j → P a) → P b → P (cond (eqb k j) a b)
+pub choose : {N : Type 0} (P : N → Type 0) (k j : ℕ) {a b : N} → (k ≡ j → P a) → P b → P (cond (eqb k j) a b)
 choose P k j {a} {b} f g = go (eqb k j) refl
   where
     go : (x : Bool) → eqb k j ≡ x → P (cond x a b)

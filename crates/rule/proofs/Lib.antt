@@ -11,9 +11,9 @@ mod Gen
 mod Machines
 mod Trees
 mod Rules
+mod Keeps
 mod Measures
 mod SpellLists
-mod SpellWords
 mod SpellTokens
 mod SpellCodes
 mod SpellNames
