@@ -1,22 +1,33 @@
--- The frames of what a tree means are the tree's frames with names and numbers looked up, in the same order; and it is within
--- the limits where they are. Assumes nothing.
-use mathlib.Core.Path.{_≡_, refl, ap, ap₂, sym, subst, _∙_}
+-- A frame before its names and numbers are looked up, and after: within the limits if they are, and the same where they are.
+-- Assumes nothing.
+use mathlib.Core.Path.{_≡_, refl, ap, ap₂}
+use mathlib.Core.Bool.{Bool, true, false, cond}
 use mathlib.Core.List.{List, [], _∷_, _++_}
-use Prim.Native.Nat.{ℕ, _≤_}
-use lib.IntN.{pos}
+use Prim.Native.Nat.{ℕ, zero, suc, _≤_, _<_}
+use native.Mathlib.Omega.{arith}
+use lib.Dec.{ltb, eqb}
+use lib.IntN.{pos, negℤ, natAbs}
 use lib.ListN.{length}
-use Rattle.rule.specs.Limits.{literalLimit}
-use Rattle.rule.specs.Frames.{Source, Arithmetic, Connective, Kind, kindByte, frame, bare}
-use Rattle.rule.specs.Grammar
-use Rattle.rule.specs.Tree.{LimitsR, LimitsS, Limits, postfixS, postfix}
-use Rattle.rule.specs.Draft.{Draft, lit, index-var, ref, plain, alone, relationOf, signOf}
-use Rattle.rule.specs.Items.{Item, enters, puts, deepened, inside, operates}
-use Rattle.rule.specs.Items.{itemsCond, itemsDisj, itemsConj, itemsUnit, itemsSum, itemsProd, itemsFactor}
-use Rattle.rule.specs.Measure.{framesIn, frames}
-use Rattle.rule.proofs.Put.{each}
+use borrow.Author.Tests.{ltb-false, eqb-false}
+use Rattle.numbers.proofs.Ints.{natAbs-neg}
+use Rattle.rule.specs.Limits.{eventLimit, noteLimit, factorLimit, offsetLimit, literalLimit}
+use Rattle.rule.specs.Frames.{Source, Kind, kindByte, frame, bare}
+use Rattle.rule.specs.Grammar.{index}
+use Rattle.rule.specs.Tree.{LimitsR}
+use Rattle.rule.specs.Draft.{Draft, lit, index-var, ref, plain}
+use Rattle.rule.specs.Measure.{Named, declared, used, Sized, sized-by, scaleNumbers, shiftNumbers, namesOf, numbersOf}
+use Rattle.rule.specs.Spelling.{beyond}
+use Rattle.rule.specs.Meaning.{factorAt, offsetAt, referenceAt}
 use Rattle.rule.specs.declared.Frame.{Frame}
 use Rattle.rule.specs.declared.parts.Place.{Place}
-use Rattle.rule.specs.Meaning.{factorAt, offsetAt, referenceAt, meaningSum, meaningProd, meaningFactor, meaningCond, meaningDisj, meaningConj, meaningUnit, meaningOf}
+use Rattle.rule.specs.declared.parts.Role.{Role}
+use Rattle.rule.specs.declared.parts.Role.the-variants.{Event, Note}
+use Rattle.rule.specs.declared.parts.Sign.the-variants.{Plus, Minus}
+use Rattle.rule.specs.declared.parts.Scale.{Scale}
+use Rattle.rule.specs.declared.parts.Scale.the-variants.{Once, Times}
+use Rattle.rule.specs.declared.parts.Shift.{Shift}
+use Rattle.rule.specs.declared.parts.Shift.the-variants.{Unshifted, By}
+use Rattle.rule.proofs.Put.{each}
 
 -- ---- lists
 pub each-append : {A B : Type 0} (g : A → B) (xs ys : List A) → each g (xs ++ ys) ≡ each g xs ++ each g ys
@@ -44,17 +55,20 @@ pub all-right : {A : Type 0} (P : A → Type 0) (xs ys : List A) → All P (xs +
 all-right P [] ys p = p
 all-right P (x ∷ xs) ys p = all-right P xs ys (p .1)
 
--- ---- the frames of items
-pub frames-append : (a b : List Item) → framesIn (a ++ b) ≡ framesIn a ++ framesIn b
-frames-append [] b = refl
-frames-append (enters d ∷ a) b = frames-append a b
-frames-append (puts f ∷ a) b = ap (λ (l : List Draft). f ∷ l) (frames-append a b)
+-- ---- the names of a frame are used, not declared
+abbrev pub Used : Named → Type 0
+Used (declared r p) = ⊥
+Used (used r p) = Unit {0}
 
--- one level further in
-pub frames-in : (a : List Item) → framesIn (inside a) ≡ framesIn a
-frames-in [] = refl
-frames-in (enters d ∷ a) = frames-in a
-frames-in (puts f ∷ a) = ap (λ (l : List Draft). f ∷ l) (frames-in a)
+pub names-used : (d : Draft) → All Used (namesOf d)
+names-used (lit p) = tt
+names-used index-var = tt
+names-used (ref n e f o) = (tt, (tt, tt))
+names-used (plain k) = tt
+
+-- a number within its limit
+abbrev pub Fine : (Place → ℕ) → Sized → Type 0
+Fine value (sized-by l p) = beyond l (value p) ≡ false
 
 module _ (eventOf noteOf value : Place → ℕ) where
   -- a frame with its names and numbers looked up
@@ -64,79 +78,70 @@ module _ (eventOf noteOf value : Place → ℕ) where
   frameOf (ref n e f o) = frame (kindByte (Kind.operand Source.reference)) (eventOf e) (noteOf n) (factorAt eventOf noteOf value f) (offsetAt eventOf noteOf value o)
   frameOf (plain k) = frame k 0 0 0 (pos 0)
 
-  -- it is within the limits
+  -- a name that has a number
+  abbrev pub NameFits : Named → Type 0
+  NameFits (declared r p) = Unit {0}
+  NameFits (used Event p) = eventOf p < eventLimit
+  NameFits (used Note p) = noteOf p < noteLimit
+
+  -- a frame within the limits: its names and numbers are
   abbrev pub LimitsD : Draft → Type 0
-  LimitsD (lit p) = value p ≤ literalLimit
-  LimitsD index-var = Unit {0}
-  LimitsD (ref n e f o) = LimitsR (referenceAt eventOf noteOf value n e (Grammar.index f o))
-  LimitsD (plain k) = Unit {0}
+  LimitsD d = All NameFits (namesOf d) × All (Fine value) (numbersOf d)
 
-  -- ---- t is what the items mean: it has their frames, and is within the limits where they are
-  record Means {T : Type 0} (post : T → List Frame) (Lim : T → Type 0) (l : List Item) (t : T) : Type 0 where
-    its-frames : post t ≡ each frameOf (framesIn l)
-    its-limits : All LimitsD (framesIn l) → Lim t
+  pub literal-fits : (p : Place) → LimitsD (lit p) → value p ≤ literalLimit
+  literal-fits p l = ltb-false literalLimit (value p) (l .1 .0)
 
-  within : {T : Type 0} {post : T → List Frame} {Lim : T → Type 0} {t : T} (l : List Item) → Means post Lim l t → Means post Lim (inside l) t
-  within l q = record { its-frames = q .its-frames ∙ ap (each frameOf) (sym (frames-in l)); its-limits = λ h. q .its-limits (subst (All LimitsD) (frames-in l) h) }
+  factor-fits : (f : Scale) → All (Fine value) (scaleNumbers f) → (1 ≤ factorAt eventOf noteOf value f) × (factorAt eventOf noteOf value f ≤ factorLimit)
+  factor-fits Once h = (omega arith, omega arith)
+  factor-fits (Times p) h = go (eqb (value p) 0) refl (h .0)
+    where
+      go : (b : Bool) → eqb (value p) 0 ≡ b → cond b true (ltb factorLimit (value p)) ≡ false → (1 ≤ value p) × (value p ≤ factorLimit)
+      go true e f = let z : _≡_ {A = ℕ} 0 1 = cc in absurd (omega arith)
+      go false e f = (some-value (value p) (eqb-false (value p) 0 e), ltb-false factorLimit (value p) f)
+        where
+          some-value : (v : ℕ) → (v ≡ 0 → ⊥) → 1 ≤ v
+          some-value zero h = absurd (h refl)
+          some-value (suc v) h = omega arith
 
-  module _ {T U : Type 0} {post : T → List Frame} {post′ : U → List Frame} {Lim : T → Type 0} {Lim′ : U → Type 0} where
-    -- an operation on t, and on two
-    one : (x : List Item) (k : Kind) {t : T} {u : U} → Means post Lim x t → post′ u ≡ post t ++ (bare k ∷ []) → (Lim t → Lim′ u)
-        → Means post′ Lim′ (x ++ operates k) u
-    one x k p e f =
-        record {
-          its-frames = e ∙ (ap (λ (a : List Frame). a ++ (bare k ∷ [])) (p .its-frames) ∙ sym (ap (each frameOf) (frames-append x (operates k)) ∙ each-append frameOf (framesIn x) (alone k ∷ [])));
-          its-limits = λ h. f (p .its-limits (all-left LimitsD (framesIn x) (alone k ∷ []) (subst (All LimitsD) (frames-append x (operates k)) h)));
-        }
+  offset-fits : (o : Shift) → All (Fine value) (shiftNumbers o) → natAbs (offsetAt eventOf noteOf value o) ≤ offsetLimit
+  offset-fits Unshifted h = omega arith
+  offset-fits (By Plus p) h = ltb-false offsetLimit (value p) (h .0)
+  offset-fits (By Minus p) h = rw natAbs-neg (ltb-false offsetLimit (value p) (h .0))
 
-  module _ {T U : Type 0} {post : T → List Frame} {post′ : U → List Frame} {Lim : T → Type 0} {Lim′ : U → Type 0} where
-    two : (x y : List Item) (k : Kind) {s t : T} {u : U} → Means post Lim x s → Means post Lim y t → post′ u ≡ (post s ++ post t) ++ (bare k ∷ [])
-        → (Lim s × Lim t → Lim′ u) → Means post′ Lim′ (x ++ y ++ operates k) u
-    two x y k {s} {t} p q e f = one {T = T × T} {post = λ (a : T × T). post (a .0) ++ post (a .1)} {Lim = λ (a : T × T). Lim (a .0) × Lim (a .1)} (x ++ y) k {t = (s, t)} both e f
-      where
-        both : Means (λ (a : T × T). post (a .0) ++ post (a .1)) (λ (a : T × T). Lim (a .0) × Lim (a .1)) (x ++ y) (s, t)
-        both =
-            record {
-              its-frames = ap₂ (λ (a b : List Frame). a ++ b) (p .its-frames) (q .its-frames) ∙ sym (ap (each frameOf) (frames-append x y) ∙ each-append frameOf (framesIn x) (framesIn y));
-              its-limits = λ h. let g = subst (All LimitsD) (frames-append x y) h in (p .its-limits (all-left LimitsD (framesIn x) (framesIn y) g), q .its-limits (all-right LimitsD (framesIn x) (framesIn y) g));
-            }
+  pub reference-fits : (n e : Place) (f : Scale) (o : Shift) → LimitsD (ref n e f o) → LimitsR (referenceAt eventOf noteOf value n e (index f o))
+  reference-fits n e f o l =
+      let h = factor-fits f (all-left (Fine value) (scaleNumbers f) (shiftNumbers o) (l .1)) in
+      let k = offset-fits o (all-right (Fine value) (scaleNumbers f) (shiftNumbers o) (l .1)) in
+      record { event = l .0 .1 .0; note = l .0 .0; least = h .0; factor = h .1; offset = k }
 
-  mutual
-    in-sum : (x : Grammar.Sum) → Means postfixS LimitsS (itemsSum x) (meaningSum eventOf noteOf value x)
-    in-sum (Grammar.a-prod x) = in-prod x
-    in-sum (Grammar.add x g y) = two (itemsSum x) (itemsProd y) (Kind.arithmetic (signOf g)) (in-sum x) (in-prod y) refl (λ h. h)
+-- ---- two ways to number names and to value numbers, which agree on those that the tree has
+module _ (number number′ : Role → Place → ℕ) (value value′ : Place → ℕ) where
+  abbrev pub Numbered : Named → Type 0
+  Numbered (declared r p) = Unit {0}
+  Numbered (used r p) = number r p ≡ number′ r p
 
-    in-prod : (x : Grammar.Prod) → Means postfixS LimitsS (itemsProd x) (meaningProd eventOf noteOf value x)
-    in-prod (Grammar.a-factor x) = in-factor x
-    in-prod (Grammar.multiply x y) = two (itemsProd x) (itemsFactor y) (Kind.arithmetic Arithmetic.multiply) (in-prod x) (in-factor y) refl (λ h. h)
+  abbrev pub Valued : Sized → Type 0
+  Valued (sized-by l p) = value p ≡ value′ p
 
-    in-factor : (x : Grammar.Factor) → Means postfixS LimitsS (itemsFactor x) (meaningFactor eventOf noteOf value x)
-    in-factor (Grammar.literal p) = record { its-frames = refl; its-limits = λ h. h .0 }
-    in-factor Grammar.var = record { its-frames = refl; its-limits = λ h. h .0 }
-    in-factor (Grammar.parens x) = within (itemsSum x) (in-sum x)
-    in-factor (Grammar.absolute x) = one (inside (itemsSum x)) Kind.absolute (within (itemsSum x) (in-sum x)) refl (λ h. h)
-    in-factor (Grammar.reference n e (Grammar.index f o)) = record { its-frames = refl; its-limits = λ h. h .0 }
+  factor-alike : (f : Scale) → All Valued (scaleNumbers f) → factorAt (number Event) (number Note) value f ≡ factorAt (number′ Event) (number′ Note) value′ f
+  factor-alike Once k = refl
+  factor-alike (Times p) k = k .0
 
-  mutual
-    in-cond : (x : Grammar.Cond) → Means postfix Limits (itemsCond x) (meaningCond eventOf noteOf value x)
-    in-cond (Grammar.a-disj x) = in-disj x
-    in-cond (Grammar.implies x y) = two (itemsDisj x) (inside (itemsCond y)) (Kind.connective Connective.implies) (in-disj x) (within (itemsCond y) (in-cond y)) refl (λ h. h)
+  offset-alike : (o : Shift) → All Valued (shiftNumbers o) → offsetAt (number Event) (number Note) value o ≡ offsetAt (number′ Event) (number′ Note) value′ o
+  offset-alike Unshifted k = refl
+  offset-alike (By Plus p) k = ap pos (k .0)
+  offset-alike (By Minus p) k = ap (λ (v : ℕ). negℤ (pos v)) (k .0)
 
-    in-disj : (x : Grammar.Disj) → Means postfix Limits (itemsDisj x) (meaningDisj eventOf noteOf value x)
-    in-disj (Grammar.a-conj x) = in-conj x
-    in-disj (Grammar.or x y) = two (itemsDisj x) (itemsConj y) (Kind.connective Connective.or) (in-disj x) (in-conj y) refl (λ h. h)
+  -- each frame is one frame by both
+  abbrev pub Alike : Draft → Type 0
+  Alike d = frameOf (number Event) (number Note) value d ≡ frameOf (number′ Event) (number′ Note) value′ d
 
-    in-conj : (x : Grammar.Conj) → Means postfix Limits (itemsConj x) (meaningConj eventOf noteOf value x)
-    in-conj (Grammar.a-unit x) = in-unit x
-    in-conj (Grammar.and x y) = two (itemsConj x) (itemsUnit y) (Kind.connective Connective.and) (in-conj x) (in-unit y) refl (λ h. h)
+  pub alike : (d : Draft) → All Numbered (namesOf d) → All Valued (numbersOf d) → Alike d
+  alike (lit p) h k = ap (λ (v : ℕ). frame (kindByte (Kind.operand Source.literal)) 0 0 0 (pos v)) (k .0)
+  alike index-var h k = refl
+  alike (ref n e f o) h k = rw (h .0, h .1 .0, factor-alike f (all-left Valued (scaleNumbers f) (shiftNumbers o) k), offset-alike o (all-right Valued (scaleNumbers f) (shiftNumbers o) k))
+  alike (plain k) h l = refl
 
-    in-unit : (x : Grammar.CUnit) → Means postfix Limits (itemsUnit x) (meaningUnit eventOf noteOf value x)
-    in-unit (Grammar.not x) = one (inside (itemsUnit x)) Kind.negation (within (itemsUnit x) (in-unit x)) refl (λ h. h)
-    in-unit (Grammar.group x) = within (itemsCond x) (in-cond x)
-    in-unit (Grammar.relation x c y) = two (itemsSum x) (itemsSum y) (Kind.relation (relationOf c)) (in-sum x) (in-sum y) refl (λ h. h)
-
-  pub postfix-frames : (x : Grammar.Rule) → postfix (meaningOf eventOf noteOf value x) ≡ each frameOf (frames x)
-  postfix-frames (Grammar.rule e es n ns c) = in-cond c .its-frames
-
-  pub limits-frames : (x : Grammar.Rule) → All LimitsD (frames x) → Limits (meaningOf eventOf noteOf value x)
-  limits-frames (Grammar.rule e es n ns c) = in-cond c .its-limits
+  pub all-alike : (ds : List Draft) → All Alike ds → each (frameOf (number Event) (number Note) value) ds ≡ each (frameOf (number′ Event) (number′ Note) value′) ds
+  all-alike [] h = refl
+  all-alike (d ∷ ds) h = ap₂ (λ (x : Frame) (l : List Frame). x ∷ l) (h .0) (all-alike ds (h .1))

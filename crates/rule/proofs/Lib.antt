@@ -35,6 +35,7 @@ mod Close
 mod Conclude
 mod ReadText
 mod Drafts
+mod Means
 mod Numbered
 mod Filled
 mod TreeBytes

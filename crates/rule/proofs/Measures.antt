@@ -9,17 +9,15 @@ use borrow.Author.Tests.{leb-true, leb-false}
 use Rattle.rule.specs.declared.parts.Place.{Place}
 use Rattle.rule.specs.declared.parts.Role.{Role}
 use Rattle.rule.specs.declared.parts.Role.the-variants.{Event, Note}
-use Rattle.rule.specs.declared.parts.Limit.the-variants.{OfFactor, OfOffset}
-use Rattle.rule.specs.declared.parts.Scale.the-variants.{Once, Times}
-use Rattle.rule.specs.declared.parts.Shift.the-variants.{Unshifted, By}
+use Rattle.rule.specs.declared.parts.Limit.{Limit}
 use Rattle.rule.specs.ReadLimits.{depthLimit}
 use Rattle.rule.specs.Grammar.{Rule, rule}
-use Rattle.rule.specs.Draft.{Draft, lit, index-var, ref, plain}
+use Rattle.rule.specs.Draft.{Draft}
 use Rattle.rule.specs.Items.{Item, enters, puts, itemsCond}
 use Rattle.rule.specs.Measure.{deepest, depth, framesIn, frames, Named, declared, used, Sized, sized-by, flat, namesOf, numbersOf}
-use Rattle.rule.specs.Measure.{declares, header, names, numbers}
+use Rattle.rule.specs.Measure.{declares, names, numbers}
 use Rattle.rule.specs.Machine.{Act, declare, uses, sized, enter, out, deeper}
-use Rattle.rule.proofs.Walk.{down, readDraft, readItems, readNames, readRule}
+use Rattle.rule.proofs.Walk.{down, readEach, readName, readNumber, readDraft, readItems, readNames, readRule}
 
 -- ---- the part of a reading that concerns frames, names, numbers, depth
 abbrev pub note-frame : Act → List Draft → List Draft
@@ -50,6 +48,18 @@ note-depth (sized b p) l = l
 note-depth (enter d) l = max l d
 note-depth (out f) l = l
 
+-- ---- names and numbers that a register leaves
+module _ {L : Type 0} (note : Act → L → L) where
+  idle-names : ((r : Role) (p : Place) (l : L) → note (declare r p) l ≡ l) → ((r : Role) (p : Place) (l : L) → note (uses r p) l ≡ l)
+      → (ns : List Named) (l : L) → readEach (readName L note) ns l ≡ l
+  idle-names d u [] l = refl
+  idle-names d u (declared r p ∷ ns) l = idle-names d u ns (note (declare r p) l) ∙ d r p l
+  idle-names d u (used r p ∷ ns) l = idle-names d u ns (note (uses r p) l) ∙ u r p l
+
+  idle-numbers : ((b : Limit) (p : Place) (l : L) → note (sized b p) l ≡ l) → (vs : List Sized) (l : L) → readEach (readNumber L note) vs l ≡ l
+  idle-numbers h [] l = refl
+  idle-numbers h (sized-by b p ∷ vs) l = idle-numbers h vs (note (sized b p) l) ∙ h b p l
+
 -- ---- items of which each frame adds h of it
 module _ {B : Type 0} (note : Act → List B → List B) (h : Draft → List B) (still : (k : ℕ) (l : List B) → note (enter k) l ≡ l)
     (adds : (f : Draft) (l : List B) → readDraft (List B) note f l ≡ l ++ h f) where
@@ -66,62 +76,51 @@ flat-own : (fs : List Draft) → flat own fs ≡ fs
 flat-own [] = refl
 flat-own (f ∷ fs) = ap (λ (l : List Draft). f ∷ l) (flat-own fs)
 
+no-name-frame : (ns : List Named) (l : List Draft) → readEach (readName (List Draft) note-frame) ns l ≡ l
+no-name-frame = idle-names note-frame (λ r p l. refl) (λ r p l. refl)
+
 adds-frame : (f : Draft) (l : List Draft) → readDraft (List Draft) note-frame f l ≡ l ++ own f
-adds-frame (lit p) l = refl
-adds-frame index-var l = refl
-adds-frame (plain k) l = refl
-adds-frame (ref n e Once Unshifted) l = refl
-adds-frame (ref n e Once (By g p)) l = refl
-adds-frame (ref n e (Times q) Unshifted) l = refl
-adds-frame (ref n e (Times q) (By g p)) l = refl
+adds-frame f l = ap (λ (m : List Draft). m ++ own f) (idle-numbers note-frame (λ b p m. refl) (numbersOf f) _ ∙ no-name-frame (namesOf f) l)
 
 pub frames-items : (d : ℕ) (is : List Item) (l : List Draft) → readItems (List Draft) note-frame d is l ≡ l ++ framesIn is
 frames-items d is l = noted note-frame own (λ k m. refl) adds-frame d is l ∙ ap (λ (m : List Draft). l ++ m) (flat-own (framesIn is))
 
-frames-declared : (r : Role) (ps : List Place) (l : List Draft) → readNames (List Draft) note-frame r ps l ≡ l
-frames-declared r [] l = refl
-frames-declared r (p ∷ ps) l = frames-declared r ps l
-
 pub frames-read : (x : Rule) → readRule (List Draft) note-frame x [] ≡ frames x
-frames-read (rule e es n ns c) = rw (frames-declared Event es [], frames-declared Note ns []) (frames-items 0 (itemsCond c) [])
+frames-read (rule e es n ns c) =
+    frames-items 0 (itemsCond c) _
+    ∙ ap (λ (l : List Draft). l ++ framesIn (itemsCond c)) (no-name-frame (declares Note (n ∷ ns)) _ ∙ no-name-frame (declares Event (e ∷ es)) [])
 
 -- names
-adds-names : (f : Draft) (l : List Named) → readDraft (List Named) note-name f l ≡ l ++ namesOf f
-adds-names (lit p) l = sym (append-nil l)
-adds-names index-var l = sym (append-nil l)
-adds-names (plain k) l = sym (append-nil l)
-adds-names (ref n e Once Unshifted) l = append-assoc l (used Note n ∷ []) (used Event e ∷ [])
-adds-names (ref n e Once (By g p)) l = append-assoc l (used Note n ∷ []) (used Event e ∷ [])
-adds-names (ref n e (Times q) Unshifted) l = append-assoc l (used Note n ∷ []) (used Event e ∷ [])
-adds-names (ref n e (Times q) (By g p)) l = append-assoc l (used Note n ∷ []) (used Event e ∷ [])
+names-listed : (ns l : List Named) → readEach (readName (List Named) note-name) ns l ≡ l ++ ns
+names-listed [] l = sym (append-nil l)
+names-listed (declared r p ∷ ns) l = names-listed ns (l ++ declared r p ∷ []) ∙ append-assoc l (declared r p ∷ []) ns
+names-listed (used r p ∷ ns) l = names-listed ns (l ++ used r p ∷ []) ∙ append-assoc l (used r p ∷ []) ns
 
-names-declared : (r : Role) (ps : List Place) (l : List Named) → readNames (List Named) note-name r ps l ≡ l ++ declares r ps
-names-declared r [] l = sym (append-nil l)
-names-declared r (p ∷ ps) l = names-declared r ps (l ++ declared r p ∷ []) ∙ append-assoc l (declared r p ∷ []) (declares r ps)
+adds-names : (f : Draft) (l : List Named) → readDraft (List Named) note-name f l ≡ l ++ namesOf f
+adds-names f l = idle-numbers note-name (λ b p m. refl) (numbersOf f) _ ∙ names-listed (namesOf f) l
 
 pub names-read : (x : Rule) → readRule (List Named) note-name x [] ≡ names x
 names-read (rule e es n ns c) =
     noted note-name namesOf (λ k m. refl) adds-names 0 (itemsCond c) _
     ∙ ap (λ (l : List Named). l ++ flat namesOf (framesIn (itemsCond c)))
-    (names-declared Note (n ∷ ns) (readNames (List Named) note-name Event (e ∷ es) []) ∙ ap (λ (l : List Named). l ++ declares Note (n ∷ ns)) (names-declared Event (e ∷ es) []))
+    (names-listed (declares Note (n ∷ ns)) (readNames (List Named) note-name Event (e ∷ es) [])
+    ∙ ap (λ (l : List Named). l ++ declares Note (n ∷ ns)) (names-listed (declares Event (e ∷ es)) []))
 
 -- numbers
-adds-numbers : (f : Draft) (l : List Sized) → readDraft (List Sized) note-number f l ≡ l ++ numbersOf f
-adds-numbers (lit p) l = refl
-adds-numbers index-var l = sym (append-nil l)
-adds-numbers (plain k) l = sym (append-nil l)
-adds-numbers (ref n e Once Unshifted) l = sym (append-nil l)
-adds-numbers (ref n e Once (By g p)) l = refl
-adds-numbers (ref n e (Times q) Unshifted) l = refl
-adds-numbers (ref n e (Times q) (By g p)) l = append-assoc l (sized-by OfFactor q ∷ []) (sized-by OfOffset p ∷ [])
+numbers-listed : (vs l : List Sized) → readEach (readNumber (List Sized) note-number) vs l ≡ l ++ vs
+numbers-listed [] l = sym (append-nil l)
+numbers-listed (sized-by b p ∷ vs) l = numbers-listed vs (l ++ sized-by b p ∷ []) ∙ append-assoc l (sized-by b p ∷ []) vs
 
-numbers-declared : (r : Role) (ps : List Place) (l : List Sized) → readNames (List Sized) note-number r ps l ≡ l
-numbers-declared r [] l = refl
-numbers-declared r (p ∷ ps) l = numbers-declared r ps l
+no-name-number : (ns : List Named) (l : List Sized) → readEach (readName (List Sized) note-number) ns l ≡ l
+no-name-number = idle-names note-number (λ r p l. refl) (λ r p l. refl)
+
+adds-numbers : (f : Draft) (l : List Sized) → readDraft (List Sized) note-number f l ≡ l ++ numbersOf f
+adds-numbers f l = numbers-listed (numbersOf f) _ ∙ ap (λ (m : List Sized). m ++ numbersOf f) (no-name-number (namesOf f) l)
 
 pub numbers-read : (x : Rule) → readRule (List Sized) note-number x [] ≡ numbers x
 numbers-read (rule e es n ns c) =
-    rw (numbers-declared Event es [], numbers-declared Note ns []) (noted note-number numbersOf (λ k m. refl) adds-numbers 0 (itemsCond c) [])
+    noted note-number numbersOf (λ k m. refl) adds-numbers 0 (itemsCond c) _
+    ∙ ap (λ (l : List Sized). l ++ flat numbersOf (framesIn (itemsCond c))) (no-name-number (declares Note (n ∷ ns)) _ ∙ no-name-number (declares Event (e ∷ es)) [])
 
 -- ---- depth: the register stops at 17
 deeper-is : (d : ℕ) → d ≤ 17 → deeper d ≡ min 17 (d + 1)
@@ -136,14 +135,11 @@ down-is : (k d : ℕ) → d ≤ 17 → down k d ≡ min 17 (d + k)
 down-is zero d h = omega arith
 down-is (suc k) d h = let e = deeper-is d h in let f = down-is k (deeper d) (omega arith) in omega arith
 
+no-name-depth : (ns : List Named) (t : ℕ) → readEach (readName ℕ note-depth) ns t ≡ t
+no-name-depth = idle-names note-depth (λ r p t. refl) (λ r p t. refl)
+
 keeps-depth : (f : Draft) (t : ℕ) → readDraft ℕ note-depth f t ≡ t
-keeps-depth (lit p) t = refl
-keeps-depth index-var t = refl
-keeps-depth (plain k) t = refl
-keeps-depth (ref n e Once Unshifted) t = refl
-keeps-depth (ref n e Once (By g p)) t = refl
-keeps-depth (ref n e (Times q) Unshifted) t = refl
-keeps-depth (ref n e (Times q) (By g p)) t = refl
+keeps-depth f t = idle-numbers note-depth (λ b p u. refl) (numbersOf f) _ ∙ no-name-depth (namesOf f) t
 
 cap-max : (a b : ℕ) → min 17 (max a b) ≡ max (min 17 a) (min 17 b)
 cap-max a b = omega arith
@@ -158,10 +154,7 @@ depth-items (enters k ∷ is) t =
     depth-items is (max t (down k 0)) ∙ (max-three t (down k 0) (min 17 (deepest is)) ∙ ap (max t) (ap (λ (w : ℕ). max w (min 17 (deepest is))) e ∙ sym (cap-max k (deepest is))))
 depth-items (puts f ∷ is) t = rw (keeps-depth f t) (depth-items is t)
 
-depth-declared : (r : Role) (ps : List Place) (t : ℕ) → readNames ℕ note-depth r ps t ≡ t
-depth-declared r [] t = refl
-depth-declared r (p ∷ ps) t = depth-declared r ps t
-
 -- the greatest depth entered, which stops at 17, is the tree's
 pub depth-read : (x : Rule) → readRule ℕ note-depth x 0 ≡ min 17 (depth x)
-depth-read (rule e es n ns c) = rw (depth-declared Event es 0, depth-declared Note ns 0) (let q = depth-items (itemsCond c) 0 in omega arith)
+depth-read (rule e es n ns c) =
+    rw (no-name-depth (declares Event (e ∷ es)) 0, no-name-depth (declares Note (n ∷ ns)) 0) (let q = depth-items (itemsCond c) 0 in omega arith)

@@ -13,16 +13,13 @@ use Rattle.rule.specs.declared.parts.Place.{Place}
 use Rattle.rule.specs.declared.parts.Role.{Role}
 use Rattle.rule.specs.declared.parts.Role.the-variants.{Event, Note}
 use Rattle.rule.specs.declared.parts.Limit.{Limit}
-use Rattle.rule.specs.declared.parts.Scale.{Scale}
-use Rattle.rule.specs.declared.parts.Scale.the-variants.{Once, Times}
-use Rattle.rule.specs.declared.parts.Shift.{Shift}
-use Rattle.rule.specs.declared.parts.Shift.the-variants.{Unshifted, By}
 use Rattle.rule.specs.Grammar.{Rule, rule}
-use Rattle.rule.specs.Measure.{Named, declared, used, Sized, sized-by, depth, frames, names, numbers}
-use Rattle.rule.specs.Draft.{Draft, lit, index-var, ref, plain}
+use Rattle.rule.specs.Measure.{Named, declared, used, Sized, sized-by, namesOf, numbersOf, declares, depth, frames, names, numbers}
+use Rattle.rule.specs.Draft.{Draft}
 use Rattle.rule.specs.Items.{Item, enters, puts, itemsCond}
 use Rattle.rule.specs.Machine.{Act, declare, uses, sized, enter, out}
-use Rattle.rule.proofs.Walk.{readScale, readShift, readDraft, readItems, readNames, readRule}
+use Rattle.rule.proofs.Walk.{readEach, readName, readNumber, readDraft, readItems, readRule}
+use Rattle.rule.proofs.Drafts.{All, Used, names-used}
 use Rattle.rule.proofs.Judge.{refused-by, read-as, telling, after-number, after-name, outcome, codes, bad-name, spot, first-name, first-number}
 use Rattle.rule.specs.Spelling.{same-role, room}
 use Rattle.rule.specs.Name.{longName}
@@ -38,19 +35,17 @@ Body (out f) = Unit
 
 -- what each act of a condition keeps, the reading of its items keeps
 module _ (M L : Type 0) (act : Act → M → M) (log : Act → L → L) (R : M → L → Type 0) (keep : (a : Act) → Body a → (m : M) (l : L) → R m l → R (act a m) (log a l)) where
-  sim-scale : (f : Scale) {m : M} {l : L} → R m l → R (readScale M act f m) (readScale L log f l)
-  sim-scale Once r = r
-  sim-scale (Times p) r = keep _ tt _ _ r
+  sim-numbers : (vs : List Sized) {m : M} {l : L} → R m l → R (readEach (readNumber M act) vs m) (readEach (readNumber L log) vs l)
+  sim-numbers [] r = r
+  sim-numbers (sized-by b p ∷ vs) r = sim-numbers vs (keep _ tt _ _ r)
 
-  sim-shift : (o : Shift) {m : M} {l : L} → R m l → R (readShift M act o m) (readShift L log o l)
-  sim-shift Unshifted r = r
-  sim-shift (By g p) r = keep _ tt _ _ r
+  sim-used : (ns : List Named) → All Used ns → {m : M} {l : L} → R m l → R (readEach (readName M act) ns m) (readEach (readName L log) ns l)
+  sim-used [] u r = r
+  sim-used (declared q p ∷ ns) u r = absurd (u .0)
+  sim-used (used q p ∷ ns) u r = sim-used ns (u .1) (keep _ tt _ _ r)
 
   sim-draft : (f : Draft) {m : M} {l : L} → R m l → R (readDraft M act f m) (readDraft L log f l)
-  sim-draft (lit p) r = keep _ tt _ _ (keep _ tt _ _ r)
-  sim-draft index-var r = keep _ tt _ _ r
-  sim-draft (ref n e f o) r = keep _ tt _ _ (sim-shift o (sim-scale f (keep _ tt _ _ (keep _ tt _ _ r))))
-  sim-draft (plain k) r = keep _ tt _ _ r
+  sim-draft f r = keep _ tt _ _ (sim-numbers (numbersOf f) (sim-used (namesOf f) (names-used f) r))
 
   pub sim-items : (is : List Item) (d : ℕ) {m : M} {l : L} → R m l → R (readItems M act d is m) (readItems L log d is l)
   sim-items [] d r = r
@@ -59,12 +54,13 @@ module _ (M L : Type 0) (act : Act → M → M) (log : Act → L → L) (R : M �
 
 -- what each act keeps, a reading keeps
 module _ (M L : Type 0) (act : Act → M → M) (log : Act → L → L) (R : M → L → Type 0) (keep : (a : Act) (m : M) (l : L) → R m l → R (act a m) (log a l)) where
-  sim-names : (q : Role) (ps : List Place) {m : M} {l : L} → R m l → R (readNames M act q ps m) (readNames L log q ps l)
-  sim-names q [] r = r
-  sim-names q (p ∷ ps) r = sim-names q ps (keep _ _ _ r)
+  sim-names : (ns : List Named) {m : M} {l : L} → R m l → R (readEach (readName M act) ns m) (readEach (readName L log) ns l)
+  sim-names [] r = r
+  sim-names (declared q p ∷ ns) r = sim-names ns (keep _ _ _ r)
+  sim-names (used q p ∷ ns) r = sim-names ns (keep _ _ _ r)
 
   pub simulate : (x : Rule) {m : M} {l : L} → R m l → R (readRule M act x m) (readRule L log x l)
-  simulate (rule e es n ns c) r = sim-items M L act log R (λ a b. keep a) (itemsCond c) 0 (sim-names Note (n ∷ ns) (sim-names Event (e ∷ es) r))
+  simulate (rule e es n ns c) r = sim-items M L act log R (λ a b. keep a) (itemsCond c) 0 (sim-names (declares Note (n ∷ ns)) (sim-names (declares Event (e ∷ es)) r))
 
 -- ---- a field that an act on names leaves
 pub untouched : (A : Type 0) (field : Mem → A) (r : Role) (p : Place) (c : ℕ) (m : Mem) → field (blame p m) ≡ field m → field (enlist r c m) ≡ field m → (b : Bool) → field (cond b (blame p m) (enlist r c m)) ≡ field m

@@ -1,75 +1,36 @@
 -- What a tree means by codes and capped values is what it means by letters and decimal values, where no name and no number is bad.
 -- Assumes nothing.
-use mathlib.Core.Path.{_≡_, refl, ap, ap₂, sym, _∙_}
+use mathlib.Core.Path.{_≡_, sym, _∙_}
 use mathlib.Core.Option.{none}
-use mathlib.Core.List.{List, [], _∷_}
+use mathlib.Core.List.{List, []}
 use Prim.Native.Nat.{ℕ}
-use lib.IntN.{pos, negℤ}
-use Rattle.rule.specs.Frames.{Source, Kind, kindByte, frame}
 use Rattle.rule.specs.Grammar.{Rule, yield, words}
 use Rattle.rule.specs.Tree
 use Rattle.rule.specs.Token.{tokens}
-use Rattle.rule.specs.Draft.{Draft, lit, index-var, ref, plain}
-use Rattle.rule.specs.Measure.{frames, Named, declared, used, Sized, sized-by, flat, scaleNumbers, shiftNumbers, namesOf, numbersOf, header, names, numbers}
+use Rattle.rule.specs.Measure.{frames, Named, declared, used, Sized, sized-by, flat, namesOf, numbersOf, header, names, numbers}
 use Rattle.rule.proofs.Judge.{codes}
 use Rattle.rule.specs.Memory.{position, codeAt, valueAt}
 use Rattle.rule.specs.Spelling.{nameAt, firstName, firstNumber, numberOfName, decimal, letters}
-use Rattle.rule.specs.declared.Frame.{Frame}
 use Rattle.rule.specs.declared.parts.Place.{Place}
 use Rattle.rule.specs.declared.parts.Role.{Role}
 use Rattle.rule.specs.declared.parts.Role.the-variants.{Event, Note}
-use Rattle.rule.specs.declared.parts.Sign.the-variants.{Plus, Minus}
-use Rattle.rule.specs.declared.parts.Scale.{Scale}
-use Rattle.rule.specs.declared.parts.Scale.the-variants.{Once, Times}
-use Rattle.rule.specs.declared.parts.Shift.{Shift}
-use Rattle.rule.specs.declared.parts.Shift.the-variants.{Unshifted, By}
-use Rattle.rule.proofs.Put.{each}
-use Rattle.rule.proofs.Drafts.{All, all-left, all-right, frameOf, postfix-frames}
+use Rattle.rule.proofs.Drafts.{All, all-right, Numbered, Valued, Alike, alike, all-alike}
+use Rattle.rule.proofs.Means.{postfix-frames}
 use Rattle.rule.proofs.SpellLists.{all-map, all-flat}
 use Rattle.rule.proofs.SpellTokens
 use Rattle.rule.proofs.SpellNames
 use Rattle.rule.proofs.SpellNumbers
 use Rattle.rule.proofs.Parse.{unique}
-use Rattle.rule.specs.Meaning.{factorAt, offsetAt, meaningOf, meaning}
+use Rattle.rule.specs.Meaning.{meaningOf, meaning}
 
--- ---- two ways to number names and to value numbers, which agree on those that the tree has
-module _ (number number′ : Role → Place → ℕ) (value value′ : Place → ℕ) where
-  abbrev pub Numbered : Named → Type 0
-  Numbered (declared r p) = Unit {0}
-  Numbered (used r p) = number r p ≡ number′ r p
-
-  abbrev pub Valued : Sized → Type 0
-  Valued (sized-by l p) = value p ≡ value′ p
-
-  factor-alike : (f : Scale) → All Valued (scaleNumbers f) → factorAt (number Event) (number Note) value f ≡ factorAt (number′ Event) (number′ Note) value′ f
-  factor-alike Once k = refl
-  factor-alike (Times p) k = k .0
-
-  offset-alike : (o : Shift) → All Valued (shiftNumbers o) → offsetAt (number Event) (number Note) value o ≡ offsetAt (number′ Event) (number′ Note) value′ o
-  offset-alike Unshifted k = refl
-  offset-alike (By Plus p) k = ap pos (k .0)
-  offset-alike (By Minus p) k = ap (λ (v : ℕ). negℤ (pos v)) (k .0)
-
-  -- each frame is one frame by both
-  abbrev Alike : Draft → Type 0
-  Alike d = frameOf (number Event) (number Note) value d ≡ frameOf (number′ Event) (number′ Note) value′ d
-
-  alike : (d : Draft) → All Numbered (namesOf d) → All Valued (numbersOf d) → Alike d
-  alike (lit p) h k = ap (λ (v : ℕ). frame (kindByte (Kind.operand Source.literal)) 0 0 0 (pos v)) (k .0)
-  alike index-var h k = refl
-  alike (ref n e f o) h k = rw (h .0, h .1 .0, factor-alike f (all-left Valued (scaleNumbers f) (shiftNumbers o) k), offset-alike o (all-right Valued (scaleNumbers f) (shiftNumbers o) k))
-  alike (plain k) h l = refl
-
-  all-alike : (ds : List Draft) → All Alike ds → each (frameOf (number Event) (number Note) value) ds ≡ each (frameOf (number′ Event) (number′ Note) value′) ds
-  all-alike [] h = refl
-  all-alike (d ∷ ds) h = ap₂ (λ (x : Frame) (l : List Frame). x ∷ l) (h .0) (all-alike ds (h .1))
-
-  -- so the rule is one, since its frames are
-  pub meaning-alike : (x : Rule) → All Numbered (names x) → All Valued (numbers x) → meaningOf (number Event) (number Note) value x ≡ meaningOf (number′ Event) (number′ Note) value′ x
-  meaning-alike x h k =
-      let all = all-flat Numbered Valued Alike namesOf numbersOf alike (frames x) (all-right Numbered (header x) (flat namesOf (frames x)) h) k in
-      unique (meaningOf (number Event) (number Note) value x) (meaningOf (number′ Event) (number′ Note) value′ x)
-      (postfix-frames (number Event) (number Note) value x ∙ (all-alike (frames x) all ∙ sym (postfix-frames (number′ Event) (number′ Note) value′ x)))
+-- two ways to number names and to value numbers that agree on those of the tree give one meaning, since they give one list of frames
+meaning-alike : (number number′ : Role → Place → ℕ) (value value′ : Place → ℕ) (x : Rule) → All (Numbered number number′ value value′) (names x) → All (Valued number number′ value value′) (numbers x)
+    → meaningOf (number Event) (number Note) value x ≡ meaningOf (number′ Event) (number′ Note) value′ x
+meaning-alike number number′ value value′ x h k =
+    let named = all-right (Numbered number number′ value value′) (header x) (flat namesOf (frames x)) h in
+    let all = all-flat (Numbered number number′ value value′) (Valued number number′ value value′) (Alike number number′ value value′) namesOf numbersOf (alike number number′ value value′) (frames x) named k in
+    unique (meaningOf (number Event) (number Note) value x) (meaningOf (number′ Event) (number′ Note) value′ x)
+    (postfix-frames (number Event) (number Note) value x ∙ (all-alike number number′ value value′ (frames x) all ∙ sym (postfix-frames (number′ Event) (number′ Note) value′ x)))
 
 -- the number of the name at a place by codes, as the reader finds it among those that the tree declares in its role
 abbrev pub codedNumber : List ℕ → Rule → Role → Place → ℕ

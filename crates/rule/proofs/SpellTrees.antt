@@ -23,7 +23,8 @@ use Rattle.rule.specs.Meaning.{meaningCond, meaningDisj, meaningConj, me
 use Rattle.rule.proofs.Put.{each}
 use Rattle.rule.proofs.Rules.{alike}
 use Rattle.rule.proofs.Measures.{note-frame, frames-read}
-use Rattle.rule.proofs.Drafts.{frameOf, postfix-frames}
+use Rattle.rule.proofs.Drafts.{frameOf}
+use Rattle.rule.proofs.Means.{postfix-frames}
 use Rattle.rule.proofs.Parse.{unique}
 use Rattle.rule.proofs.SpellTurn.{turnCond, turnDisj, turnConj, turnUnit, turnSum, turnProd, turnFactor, turn, turnedTokens, spells-turned}
 

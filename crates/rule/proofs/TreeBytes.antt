@@ -31,7 +31,8 @@ use Rattle.rule.specs.declared.parts.Shift.the-variants.{Unshifted, By}
 use Rattle.rule.specs.Meaning.{factorAt, offsetAt, meaning}
 use Rattle.rule.proofs.SpellSame.{first-name-same, first-number-same}
 use Rattle.rule.proofs.SpellMeaning.{codedNumber, codedMeaning, meaning-same}
-use Rattle.rule.proofs.Drafts.{All, length-each, frameOf, postfix-frames, LimitsD, limits-frames}
+use Rattle.rule.proofs.Drafts.{All, length-each, frameOf, LimitsD, reference-fits}
+use Rattle.rule.proofs.Means.{postfix-frames, limits-frames}
 use Rattle.rule.proofs.Numbered.{frames-fit}
 use Rattle.rule.proofs.Filled.{eight, packed, packed-length, filled}
 
@@ -61,7 +62,7 @@ module _ (code value : Place → ℕ) (E N : List ℕ) where
   same-eight : (d : Draft) → LimitsD event note value d → eight (fields code value E N d) ≡ bytesOf (frameOf event note value d ∷ [])
   same-eight (lit p) l = refl
   same-eight index-var l = refl
-  same-eight (ref n e f o) l = rw (same-factor f (l .factor), same-offset o (l .offset))
+  same-eight (ref n e f o) l = let q = reference-fits event note value n e f o l in rw (same-factor f (q .factor), same-offset o (q .offset))
   same-eight (plain k) l = refl
 
   -- ---- all frames

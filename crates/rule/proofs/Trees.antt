@@ -1,6 +1,6 @@
 -- Trees and derivations: each tree has one, and each derivation comes from trees. Assumes nothing.
 use mathlib.Core.Path.{_≡_, refl, ap, sym, subst, _∙_}
-use mathlib.Core.List.{List, [], _∷_}
+use mathlib.Core.List.{List, [], _∷_, _++_}
 use mathlib.Core.Option.{Option, none, some}
 use Prim.Native.Nat.{ℕ}
 use Rattle.rule.specs.declared.parts.Place.{Place}
@@ -14,15 +14,16 @@ use Rattle.rule.specs.declared.parts.Shift.the-variants.{Unshifted, By}
 use Rattle.rule.specs.Grammar.{Word, mark, name, number, Rel, Index, index, Cond, a-disj, Disj, a-conj, or, Conj, a-unit, and, CUnit, Sum, a-prod, add, Prod, a-factor, multiply, Factor, Rule, rule, yield, relMark, signMark, spellShift, spellIndex, spellCond, spellDisj, spellConj, spellUnit, spellSum, spellProd, spellFactor, spellNames}
 use Rattle.rule.specs.Frames.{Arithmetic, Connective, Kind}
 use Rattle.rule.specs.Draft.{ref, alone, relationOf, signOf}
+use Rattle.rule.specs.Measure.{scaleNumbers, shiftNumbers}
 use Rattle.rule.specs.Items.{itemsCond, itemsDisj, itemsConj, itemsUnit, itemsSum, itemsProd, itemsFactor}
 use Rattle.rule.specs.Machine.{Act, declare, uses, sized, enter, out, deeper, Sym, unit, ands, ors, arrow, factor, muls, adds, rel, want, name-of, names-of, ref-event, ref-index, ref-shift, ref-by, doing, prod, sum, conj, condition, start}
-use Rattle.rule.proofs.Walk.{readScale, readShift, readItems, readNames, readRule, read-in, read-two, read-one-in, read-two-in}
+use Rattle.rule.proofs.Walk.{readEach, readNumber, readItems, readNames, readRule, read-in, read-two, read-one-in, read-two-in}
 use Rattle.rule.specs.Grammar
 use Rattle.rule.proofs.Gen.{Gen, done, token, does, not, group, relation, compare, and-more, and-none, or-more, or-none, implies, implies-none, add-more, add-none, mul-more, mul-none, literal, var, parens, absolute, reference, event, scaled, unscaled, shifted, shift-none, by-number, named, name-more, name-none}
 
 module _ (M : Type 0) (act : Act → M → M) where
   abbrev readIndex : Place → Place → Index → M → M
-  readIndex n e (index f o) m = act (out (ref n e f o)) (readShift M act o (readScale M act f m))
+  readIndex n e (index f o) m = act (out (ref n e f o)) (readEach (readNumber M act) (scaleNumbers f ++ shiftNumbers o) m)
 
   -- ---- each tree has a derivation
   genIndex : (x : Index) {n e : Place} {s : List Sym} {m m′ : M} {ws : List Word} → Gen M act s (readIndex n e x m) ws m′ → Gen M act (ref-index n e ∷ s) m (spellIndex x ws) m′
@@ -264,7 +265,7 @@ module _ (M : Type 0) (act : Act → M → M) where
   readSym (names-of r) t m = readNames M act r t m
   readSym (ref-event n) t m = readIndex M act n (t .0) (t .1) (act (uses Event (t .0)) m)
   readSym (ref-index n e) t m = readIndex M act n e t m
-  readSym (ref-shift n e f) t m = act (out (ref n e f t)) (readShift M act t m)
+  readSym (ref-shift n e f) t m = act (out (ref n e f t)) (readEach (readNumber M act) (shiftNumbers t) m)
   readSym (ref-by n e f g) t m = act (out (ref n e f (By g t))) (act (sized OfOffset t) m)
   readSym (doing a) t m = act a m
 

@@ -5,15 +5,11 @@ use Prim.Native.Nat.{ℕ, zero, suc}
 use Rattle.rule.specs.declared.parts.Place.{Place}
 use Rattle.rule.specs.declared.parts.Role.{Role}
 use Rattle.rule.specs.declared.parts.Role.the-variants.{Event, Note}
-use Rattle.rule.specs.declared.parts.Limit.the-variants.{OfLiteral, OfFactor, OfOffset}
-use Rattle.rule.specs.declared.parts.Scale.{Scale}
-use Rattle.rule.specs.declared.parts.Scale.the-variants.{Once, Times}
-use Rattle.rule.specs.declared.parts.Shift.{Shift}
-use Rattle.rule.specs.declared.parts.Shift.the-variants.{Unshifted, By}
 use Rattle.rule.specs.Frames.{Kind}
 use Rattle.rule.specs.Grammar.{Rule, rule}
-use Rattle.rule.specs.Draft.{Draft, lit, index-var, ref, plain, alone}
+use Rattle.rule.specs.Draft.{Draft, alone}
 use Rattle.rule.specs.Items.{Item, enters, puts, deepened, inside, operates, itemsCond}
+use Rattle.rule.specs.Measure.{Named, declared, used, Sized, sized-by, namesOf, numbersOf, declares}
 use Rattle.rule.specs.Machine.{Act, declare, uses, sized, enter, out, deeper}
 
 -- k levels deeper than d, as the machine counts
@@ -21,21 +17,22 @@ abbrev pub down : ℕ → ℕ → ℕ
 down zero d = d
 down (suc k) d = down k (deeper d)
 
-module _ (M : Type 0) (act : Act → M → M) where
-  abbrev pub readScale : Scale → M → M
-  readScale Once m = m
-  readScale (Times p) m = act (sized OfFactor p) m
+-- f of each member, one after the other
+abbrev pub readEach : {A M : Type 0} → (A → M → M) → List A → M → M
+readEach f [] m = m
+readEach f (x ∷ xs) m = readEach f xs (f x m)
 
-  abbrev pub readShift : Shift → M → M
-  readShift Unshifted m = m
-  readShift (By g p) m = act (sized OfOffset p) m
+module _ (M : Type 0) (act : Act → M → M) where
+  abbrev pub readName : Named → M → M
+  readName (declared r p) m = act (declare r p) m
+  readName (used r p) m = act (uses r p) m
+
+  abbrev pub readNumber : Sized → M → M
+  readNumber (sized-by l p) m = act (sized l p) m
 
   -- a frame: its names and numbers, then the frame itself
   abbrev pub readDraft : Draft → M → M
-  readDraft (lit p) m = act (out (lit p)) (act (sized OfLiteral p) m)
-  readDraft index-var m = act (out index-var) m
-  readDraft (ref n e f o) m = act (out (ref n e f o)) (readShift o (readScale f (act (uses Event e) (act (uses Note n) m))))
-  readDraft (plain k) m = act (out (plain k)) m
+  readDraft f m = act (out f) (readEach readNumber (numbersOf f) (readEach readName (namesOf f) m))
 
   -- items that stand at depth d
   abbrev pub readItems : ℕ → List Item → M → M
@@ -44,8 +41,7 @@ module _ (M : Type 0) (act : Act → M → M) where
   readItems d (puts f ∷ l) m = readItems d l (readDraft f m)
 
   abbrev pub readNames : Role → List Place → M → M
-  readNames r [] m = m
-  readNames r (p ∷ ps) m = readNames r ps (act (declare r p) m)
+  readNames r ps m = readEach readName (declares r ps) m
 
   abbrev pub readRule : Rule → M → M
   readRule (rule e es n ns c) m = readItems 0 (itemsCond c) (readNames Note (n ∷ ns) (readNames Event (e ∷ es) m))
