@@ -1,6 +1,5 @@
 -- What the acts at each token keep, the machine's answer keeps. Assumes nothing.
 use mathlib.Core.Path.{_≡_, refl}
-use mathlib.Core.Bool.{cond}
 use mathlib.Core.List.{List, [], _∷_}
 use Prim.Native.Nat.{ℕ}
 use Rattle.rule.specs.Frames.{Kind}

@@ -28,8 +28,8 @@ inside l = enters 1 ∷ deepened l
 abbrev pub operates : Kind → List Item
 operates k = puts (alone k) ∷ []
 
--- Frames "in postfix order, left operand first"; "Depth at a point counts the "!", "{", "(" that groups a sum, "abs" (once, with its
--- parenthesis) and "->" (for its right side) around it"
+-- Frames "in postfix order, left operand first"; "Depth at a point counts the "!", "{", "(" that groups a sum, "abs" (once, with
+-- its parenthesis) and "->" (for its right side) around it"
 abbrev mutual
   pub itemsCond : Cond → List Item
   itemsCond (a-disj x) = itemsDisj x

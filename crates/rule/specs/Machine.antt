@@ -6,9 +6,11 @@ use mathlib.Core.List.{List, [], _∷_}
 use lib.Dec.{leb, eqb}
 use Rattle.rule.specs.ReadLimits.{depthLimit}
 use Rattle.rule.specs.Frames.{Arithmetic, Connective, Kind}
-use Rattle.rule.specs.Token.{nameKind, numberKind, eventsKind, notesKind, indexKind, absKind, arrowKind, barsKind, ampersandsKind}
+use Rattle.rule.specs.Token.{nameKind, numberKind, eventsKind, notesKind, indexKind, absKind}
+use Rattle.rule.specs.Token.{arrowKind, barsKind, ampersandsKind}
 use Rattle.rule.specs.declared.Token.{Token}
-use Rattle.rule.specs.Grammar.{semicolon, bang, openBrace, closeBrace, openParen, closeParen, openBracket, closeBracket, star, relMark, rels, signMark, signs, byMark, place}
+use Rattle.rule.specs.Grammar.{semicolon, bang, openBrace, closeBrace, openParen, closeParen, openBracket, closeBracket, star}
+use Rattle.rule.specs.Grammar.{relMark, rels, signMark, signs, byMark, place}
 use Rattle.rule.specs.declared.parts.Place.{Place}
 use Rattle.rule.specs.declared.parts.Role.{Role}
 use Rattle.rule.specs.declared.parts.Role.the-variants.{Event, Note}
@@ -108,7 +110,8 @@ module _ (M : Type 0) (act : Act → M → M) where
   step (ref-index n e ∷ s) m k p =
       cond (eqb k numberKind) (on (want star ∷ want indexKind ∷ ref-shift n e (Times p) ∷ s) (act (sized OfFactor p) m))
       (cond (eqb k indexKind) (on (ref-shift n e Once ∷ s) m) stuck)
-  step (ref-shift n e f ∷ s) m k p = byMark signMark k (λ g. on (ref-by n e f g ∷ s) m) (step s (act (out (ref n e f Unshifted)) m) k p) signs
+  step (ref-shift n e f ∷ s) m k p =
+      byMark signMark k (λ g. on (ref-by n e f g ∷ s) m) (step s (act (out (ref n e f Unshifted)) m) k p) signs
   step (ref-by n e f g ∷ s) m k p = cond (eqb k numberKind) (on s (act (out (ref n e f (By g p))) (act (sized OfOffset p) m))) stuck
   step (doing a ∷ s) m k p = step s (act a m) k p
 
