@@ -20,17 +20,10 @@ use Rattle.rule.specs.Machine.{Act, declare, uses, sized, enter, out}
 use Rattle.rule.proofs.Judge.{codes, first-name}
 use Rattle.rule.specs.Memory.{Mem, fresh, table, put, fields, misnamed, remember, enlist, among}
 use Rattle.rule.proofs.Put.{fill, each}
+use Rattle.rule.proofs.Drafts.{each-append, length-each}
 use Rattle.rule.proofs.Walk.{readItems, readNames, readRule}
 use Rattle.rule.proofs.Measures.{note-frame, frames-items}
 use Rattle.rule.proofs.Registers.{Body, sim-items, unblamed, untouched, count-kept, names-listed}
-
-each-snoc : {A B : Type 0} (g : A → B) (l : List A) (x : A) → each g (l ++ x ∷ []) ≡ each g l ++ g x ∷ []
-each-snoc g [] x = refl
-each-snoc g (y ∷ l) x = ap (λ z. g y ∷ z) (each-snoc g l x)
-
-each-length : {A B : Type 0} (g : A → B) (l : List A) → length (each g l) ≡ length l
-each-length g [] = refl
-each-length g (y ∷ l) = let e = each-length g l in omega arith
 
 fill-snoc : (k : ℕ) (fs : List Fields) (f : Fields) (b : List ℕ) → fill k (fs ++ f ∷ []) b ≡ put (fill k fs b) (k + length fs) f
 fill-snoc k [] f b = ap (λ j. put b j f) (omega arith)
@@ -50,10 +43,10 @@ module _ (code value : Place → ℕ) where
       pub its-bytes : w .bytes ≡ fill 0 (each (fields code value E N) l) b₀
 
     at-its-place : (l : List Draft) (f : Fields) (b : List ℕ) (c : ℕ) → c ≡ min 65 (length l) → (t : Bool) → ltb c 64 ≡ t → put b c f ≡ put b (0 + length (each (fields code value E N) l)) f
-    at-its-place l f b c e true q = let z : c < 64 = ltb-true c 64 q in let y = each-length (fields code value E N) l in ap (λ j. put b j f) (omega arith)
+    at-its-place l f b c e true q = let z : c < 64 = ltb-true c 64 q in let y = length-each (fields code value E N) l in ap (λ j. put b j f) (omega arith)
     at-its-place l f b c e false q =
         let z : 64 ≤ c = ltb-false c 64 q in
-        let y = each-length (fields code value E N) l in
+        let y = length-each (fields code value E N) l in
         full b c f z ∙ sym (full b (0 + length (each (fields code value E N) l)) f (omega arith))
 
     holds-kept : (a : Act) → Body a → (w : Mem) (l : List Draft) → Holds w l → Holds (remember code value a w) (note-frame a l)
@@ -71,7 +64,7 @@ module _ (code value : Place → ℕ) where
           its-events = h .its-events;
           its-notes = h .its-notes;
           counts = count-kept code value (out f) w l (h .counts);
-          its-bytes = rw (h .its-events, h .its-notes, h .its-bytes, each-snoc (fields code value E N) l f) (at-its-place l (fields code value E N f) (fill 0 (each (fields code value E N) l) b₀) (w .count) (h .counts) (ltb (w .count) 64) refl ∙ sym (fill-snoc 0 (each (fields code value E N) l) (fields code value E N f) b₀));
+          its-bytes = rw (h .its-events, h .its-notes, h .its-bytes, each-append (fields code value E N) l (f ∷ [])) (at-its-place l (fields code value E N f) (fill 0 (each (fields code value E N) l) b₀) (w .count) (h .counts) (ltb (w .count) 64) refl ∙ sym (fill-snoc 0 (each (fields code value E N) l) (fields code value E N f) b₀));
         }
 
   -- a header leaves the count and the buffer

@@ -21,7 +21,7 @@ use Rattle.rule.specs.declared.parts.Role.the-variants.{Event, Note}
 use Rattle.rule.proofs.Drafts.{All, all-right, Fine, NameFits, LimitsD}
 use Rattle.rule.proofs.SpellLists.{all-map, all-flat}
 
-no-place : {p : Place} → _≡_ {A = Option Place} (some p) none → ⊥
+pub no-place : {p : Place} → _≡_ {A = Option Place} (some p) none → ⊥
 no-place e = let z : _≡_ {A = ℕ} 0 1 = cc in omega arith
 
 -- ---- a name that stands among others has a number below their count

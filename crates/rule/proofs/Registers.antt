@@ -20,8 +20,9 @@ use Rattle.rule.specs.Items.{Item, enters, puts, itemsCond}
 use Rattle.rule.specs.Machine.{Act, declare, uses, sized, enter, out}
 use Rattle.rule.proofs.Walk.{readEach, readName, readNumber, readDraft, readItems, readRule}
 use Rattle.rule.proofs.Drafts.{All, Used, names-used}
+use Rattle.rule.proofs.Numbered.{no-place, codes-append}
 use Rattle.rule.proofs.Judge.{refused-by, read-as, telling, after-number, after-name, outcome, codes, bad-name, spot, first-name, first-number}
-use Rattle.rule.specs.Spelling.{same-role, room}
+use Rattle.rule.specs.Spelling.{room}
 use Rattle.rule.specs.Name.{longName}
 use Rattle.rule.specs.Memory.{Mem, fresh, table, enlist, first, blame, misnamed, remember, told, among, bad-number}
 use Rattle.rule.proofs.Measures.{note-frame, note-name, note-number, note-depth, frames-read, names-read, numbers-read, depth-read}
@@ -172,26 +173,9 @@ module _ (code value : Place → ℕ) where
       go true ih = refl
       go false ih = ih
 
-  codes-snoc : (r : Role) (l : List Named) (x : Named) → codes code value r (l ++ x ∷ []) ≡ codes code value r l ++ codes code value r (x ∷ [])
-  codes-snoc r [] x = refl
-  codes-snoc r (used q p ∷ l) x = codes-snoc r l x
-  codes-snoc r (declared q p ∷ l) x = go (same-role r q) (codes-snoc r l x)
-    where
-      go : (b : Bool) → codes code value r (l ++ x ∷ []) ≡ codes code value r l ++ codes code value r (x ∷ [])
-          → cond b (code p ∷ codes code value r (l ++ x ∷ [])) (codes code value r (l ++ x ∷ [])) ≡ cond b (code p ∷ codes code value r l) (codes code value r l) ++ codes code value r (x ∷ [])
-      go true ih = ap (λ z. code p ∷ z) ih
-      go false ih = ih
-
   pub record Listed (m : Mem) (l : List Named) : Type 0 where
     pub first-is : m .name ≡ spot1 (first-name code value [] l)
     pub tables : first-name code value [] l ≡ none → (m .events ≡ codes code value Event l) × (m .notes ≡ codes code value Note l)
-
-  no-some : {p : Place} → _≡_ {A = Option Place} (some p) none → ⊥
-  no-some e = subst Is e tt
-    where
-      Is : Option Place → Type 0
-      Is (some p) = Unit {0}
-      Is none = ⊥
 
   table-is : (r : Role) (m : Mem) (l : List Named) → (m .events ≡ codes code value Event l) × (m .notes ≡ codes code value Note l) → table r m ≡ codes code value r l
   table-is Event m l t = t .0
@@ -206,24 +190,24 @@ module _ (code value : Place → ℕ) where
 
   enlisted : (r : Role) (p : Place) (m : Mem) (l : List Named) → (m .events ≡ codes code value Event l) × (m .notes ≡ codes code value Note l)
       → (enlist r (code p) m .events ≡ codes code value Event (l ++ declared r p ∷ [])) × (enlist r (code p) m .notes ≡ codes code value Note (l ++ declared r p ∷ []))
-  enlisted Event p m l t = (rw (codes-snoc Event l (declared Event p), t .0), rw (codes-snoc Note l (declared Event p), t .1) (sym (append-nil (codes code value Note l))))
-  enlisted Note p m l t = (rw (codes-snoc Event l (declared Note p), t .0) (sym (append-nil (codes code value Event l))), rw (codes-snoc Note l (declared Note p), t .1))
+  enlisted Event p m l t = (rw (codes-append code value Event l (declared Event p ∷ []), t .0), rw (codes-append code value Note l (declared Event p ∷ []), t .1) (sym (append-nil (codes code value Note l))))
+  enlisted Note p m l t = (rw (codes-append code value Event l (declared Note p ∷ []), t .0) (sym (append-nil (codes code value Event l))), rw (codes-append code value Note l (declared Note p ∷ []), t .1))
 
   used-same : (r q : Role) (p : Place) (l : List Named) → codes code value r (l ++ used q p ∷ []) ≡ codes code value r l
-  used-same r q p l = codes-snoc r l (used q p) ∙ append-nil (codes code value r l)
+  used-same r q p l = codes-append code value r l (used q p ∷ []) ∙ append-nil (codes code value r l)
 
   declare-kept : (r : Role) (p : Place) (m : Mem) (l : List Named) → Listed m l → (o : Option Place) → first-name code value [] l ≡ o → (b : Bool) → misnamed code value r p m ≡ b
       → Listed (cond b (blame p m) (enlist r (code p) m)) (l ++ declared r p ∷ [])
   declare-kept r p m l h (some q) e true f =
       let z : first-name code value [] (l ++ declared r p ∷ []) ≡ some q = rw (name-snoc [] l (declared r p), e) in
-      record { first-is = rw (z, h .first-is, e) (blamed-once q p); tables = λ y. absurd (no-some (sym z ∙ y)) }
+      record { first-is = rw (z, h .first-is, e) (blamed-once q p); tables = λ y. absurd (no-place (sym z ∙ y)) }
   declare-kept r p m l h (some q) e false f =
       let z : first-name code value [] (l ++ declared r p ∷ []) ≡ some q = rw (name-snoc [] l (declared r p), e) in
-      record { first-is = enlist-name r (code p) m ∙ (h .first-is ∙ (ap (λ x. spot1 x) e ∙ sym (ap (λ x. spot1 x) z))); tables = λ y. absurd (no-some (sym z ∙ y)) }
+      record { first-is = enlist-name r (code p) m ∙ (h .first-is ∙ (ap (λ x. spot1 x) e ∙ sym (ap (λ x. spot1 x) z))); tables = λ y. absurd (no-place (sym z ∙ y)) }
   declare-kept r p m l h none e true f =
       let bad : bad-name code value l (declared r p) ≡ true = subst (λ (x : List ℕ). cond (leb longName (code p)) true (cond (among (code p) x) true (leb (room r) (length x))) ≡ true) (table-is r m l (h .tables e)) f in
       let z : first-name code value [] (l ++ declared r p ∷ []) ≡ some p = rw (name-snoc [] l (declared r p), e, bad) in
-      record { first-is = rw (z, h .first-is, e); tables = λ y. absurd (no-some (sym z ∙ y)) }
+      record { first-is = rw (z, h .first-is, e); tables = λ y. absurd (no-place (sym z ∙ y)) }
   declare-kept r p m l h none e false f =
       let bad : bad-name code value l (declared r p) ≡ false = subst (λ (x : List ℕ). cond (leb longName (code p)) true (cond (among (code p) x) true (leb (room r) (length x))) ≡ false) (table-is r m l (h .tables e)) f in
       let z : first-name code value [] (l ++ declared r p ∷ []) ≡ none = rw (name-snoc [] l (declared r p), e, bad) in
@@ -233,10 +217,10 @@ module _ (code value : Place → ℕ) where
       → Listed (cond b m (blame p m)) (l ++ used r p ∷ [])
   use-kept r p m l h (some q) e true f =
       let z : first-name code value [] (l ++ used r p ∷ []) ≡ some q = rw (name-snoc [] l (used r p), e) in
-      record { first-is = rw (z, h .first-is, e); tables = λ y. absurd (no-some (sym z ∙ y)) }
+      record { first-is = rw (z, h .first-is, e); tables = λ y. absurd (no-place (sym z ∙ y)) }
   use-kept r p m l h (some q) e false f =
       let z : first-name code value [] (l ++ used r p ∷ []) ≡ some q = rw (name-snoc [] l (used r p), e) in
-      record { first-is = rw (z, h .first-is, e) (blamed-once q p); tables = λ y. absurd (no-some (sym z ∙ y)) }
+      record { first-is = rw (z, h .first-is, e) (blamed-once q p); tables = λ y. absurd (no-place (sym z ∙ y)) }
   use-kept r p m l h none e true f =
       let found : among (code p) (codes code value r l) ≡ true = subst (λ (x : List ℕ). among (code p) x ≡ true) (table-is r m l (h .tables e)) f in
       let z : first-name code value [] (l ++ used r p ∷ []) ≡ none = rw (name-snoc [] l (used r p), e, found) in
@@ -244,7 +228,7 @@ module _ (code value : Place → ℕ) where
   use-kept r p m l h none e false f =
       let missed : among (code p) (codes code value r l) ≡ false = subst (λ (x : List ℕ). among (code p) x ≡ false) (table-is r m l (h .tables e)) f in
       let z : first-name code value [] (l ++ used r p ∷ []) ≡ some p = rw (name-snoc [] l (used r p), e, missed) in
-      record { first-is = rw (z, h .first-is, e); tables = λ y. absurd (no-some (sym z ∙ y)) }
+      record { first-is = rw (z, h .first-is, e); tables = λ y. absurd (no-place (sym z ∙ y)) }
 
   name-kept : (a : Act) (m : Mem) (l : List Named) → Listed m l → Listed (remember code value a m) (note-name a l)
   name-kept (declare r p) m l h = declare-kept r p m l h (first-name code value [] l) refl (misnamed code value r p m) refl
