@@ -13,23 +13,17 @@ use Rattle.rule.specs.declared.parts.Role.{Role}
 use Rattle.rule.specs.declared.parts.Role.the-variants.{Event, Note}
 use Rattle.rule.specs.declared.memory.Fields.{Fields}
 use Rattle.rule.specs.Grammar.{Cond, Rule, rule}
-use Rattle.rule.specs.Measure.{names}
-use Rattle.rule.specs.Draft.{Draft, frames, framesCond}
+use Rattle.rule.specs.Measure.{framesIn, frames, names}
+use Rattle.rule.specs.Draft.{Draft}
+use Rattle.rule.specs.Items.{itemsCond}
 use Rattle.rule.specs.Machine.{Act, declare, uses, sized, enter, out}
 use Rattle.rule.proofs.Judge.{codes, first-name}
 use Rattle.rule.specs.Memory.{Mem, fresh, table, put, fields, misnamed, remember, enlist, among}
 use Rattle.rule.proofs.Put.{fill, each}
-use Rattle.rule.proofs.Walk.{readCond, readNames, readRule}
-use Rattle.rule.proofs.Measures.{note-frame, frames-cond}
-use Rattle.rule.proofs.Registers.{Body, sim-cond, unblamed, untouched, count-kept, names-listed}
-
-each-snoc : {A B : Type 0} (g : A → B) (l : List A) (x : A) → each g (l ++ x ∷ []) ≡ each g l ++ g x ∷ []
-each-snoc g [] x = refl
-each-snoc g (y ∷ l) x = ap (λ z. g y ∷ z) (each-snoc g l x)
-
-each-length : {A B : Type 0} (g : A → B) (l : List A) → length (each g l) ≡ length l
-each-length g [] = refl
-each-length g (y ∷ l) = let e = each-length g l in omega arith
+use Rattle.rule.proofs.Drafts.{each-append, length-each}
+use Rattle.rule.proofs.Walk.{readItems, readNames, readRule}
+use Rattle.rule.proofs.Measures.{note-frame, frames-items}
+use Rattle.rule.proofs.Registers.{Body, sim-items, unblamed, untouched, count-kept, names-listed}
 
 fill-snoc : (k : ℕ) (fs : List Fields) (f : Fields) (b : List ℕ) → fill k (fs ++ f ∷ []) b ≡ put (fill k fs b) (k + length fs) f
 fill-snoc k [] f b = ap (λ j. put b j f) (omega arith)
@@ -49,10 +43,10 @@ module _ (code value : Place → ℕ) where
       pub its-bytes : w .bytes ≡ fill 0 (each (fields code value E N) l) b₀
 
     at-its-place : (l : List Draft) (f : Fields) (b : List ℕ) (c : ℕ) → c ≡ min 65 (length l) → (t : Bool) → ltb c 64 ≡ t → put b c f ≡ put b (0 + length (each (fields code value E N) l)) f
-    at-its-place l f b c e true q = let z : c < 64 = ltb-true c 64 q in let y = each-length (fields code value E N) l in ap (λ j. put b j f) (omega arith)
+    at-its-place l f b c e true q = let z : c < 64 = ltb-true c 64 q in let y = length-each (fields code value E N) l in ap (λ j. put b j f) (omega arith)
     at-its-place l f b c e false q =
         let z : 64 ≤ c = ltb-false c 64 q in
-        let y = each-length (fields code value E N) l in
+        let y = length-each (fields code value E N) l in
         full b c f z ∙ sym (full b (0 + length (each (fields code value E N) l)) f (omega arith))
 
     holds-kept : (a : Act) → Body a → (w : Mem) (l : List Draft) → Holds w l → Holds (remember code value a w) (note-frame a l)
@@ -70,7 +64,7 @@ module _ (code value : Place → ℕ) where
           its-events = h .its-events;
           its-notes = h .its-notes;
           counts = count-kept code value (out f) w l (h .counts);
-          its-bytes = rw (h .its-events, h .its-notes, h .its-bytes, each-snoc (fields code value E N) l f) (at-its-place l (fields code value E N f) (fill 0 (each (fields code value E N) l) b₀) (w .count) (h .counts) (ltb (w .count) 64) refl ∙ sym (fill-snoc 0 (each (fields code value E N) l) (fields code value E N f) b₀));
+          its-bytes = rw (h .its-events, h .its-notes, h .its-bytes, each-append (fields code value E N) l (f ∷ [])) (at-its-place l (fields code value E N f) (fill 0 (each (fields code value E N) l) b₀) (w .count) (h .counts) (ltb (w .count) 64) refl ∙ sym (fill-snoc 0 (each (fields code value E N) l) (fields code value E N f) b₀));
         }
 
   -- a header leaves the count and the buffer
@@ -90,10 +84,10 @@ module _ (code value : Place → ℕ) where
   names-idle b₀ r [] w h = h
   names-idle b₀ r (p ∷ ps) w h = names-idle b₀ r ps (remember code value (declare r p) w) (declared-idle b₀ r p w h)
 
-  after-header : (b₀ : List ℕ) (w : Mem) (c : Cond) → Idle b₀ w → Holds (w .events) (w .notes) b₀ (readCond Mem (remember code value) 0 c w) (framesCond c)
+  after-header : (b₀ : List ℕ) (w : Mem) (c : Cond) → Idle b₀ w → Holds (w .events) (w .notes) b₀ (readItems Mem (remember code value) 0 (itemsCond c) w) (framesIn (itemsCond c))
   after-header b₀ w c h =
-      subst (λ (l : List Draft). Holds (w .events) (w .notes) b₀ (readCond Mem (remember code value) 0 c w) l) (frames-cond c 0 [])
-      (sim-cond Mem (List Draft) (remember code value) note-frame (λ v l. Holds (w .events) (w .notes) b₀ v l) (holds-kept (w .events) (w .notes) b₀) c 0 {m = w} {l = []}
+      subst (λ (l : List Draft). Holds (w .events) (w .notes) b₀ (readItems Mem (remember code value) 0 (itemsCond c) w) l) (frames-items 0 (itemsCond c) [])
+      (sim-items Mem (List Draft) (remember code value) note-frame (λ v l. Holds (w .events) (w .notes) b₀ v l) (holds-kept (w .events) (w .notes) b₀) (itemsCond c) 0 {m = w} {l = []}
       (record { its-events = refl; its-notes = refl; counts = h .no-frame; its-bytes = h .no-byte }))
 
   -- the tables as the memory at the end has them
@@ -102,9 +96,8 @@ module _ (code value : Place → ℕ) where
 
   at-end : (b₀ : List ℕ) (x : Rule) → readRule Mem (remember code value) x (fresh b₀) .bytes ≡ fill 0 (each (fields code value (readRule Mem (remember code value) x (fresh b₀) .events) (readRule Mem (remember code value) x (fresh b₀) .notes)) (frames x)) b₀
   at-end b₀ (rule e es n ns c) =
-      by-end _ _ b₀ _ (framesCond c)
-      (after-header b₀ (readNames Mem (remember code value) Note ns (remember code value (declare Note n) (readNames Mem (remember code value) Event es (remember code value (declare Event e) (fresh b₀))))) c
-      (names-idle b₀ Note ns _ (declared-idle b₀ Note n _ (names-idle b₀ Event es _ (declared-idle b₀ Event e (fresh b₀) (record { no-frame = refl; no-byte = refl }))))))
+      by-end _ _ b₀ _ (framesIn (itemsCond c))
+      (after-header b₀ _ c (names-idle b₀ Note (n ∷ ns) _ (names-idle b₀ Event (e ∷ es) (fresh b₀) (record { no-frame = refl; no-byte = refl }))))
 
   -- where no name is bad, the buffer holds the tree's frames, with every name looked up among the declared ones
   pub bytes-read : (b₀ : List ℕ) (x : Rule) → first-name code value [] (names x) ≡ none

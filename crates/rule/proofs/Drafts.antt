@@ -1,21 +1,33 @@
--- The frames of what a tree means are the tree's frames with names and numbers looked up, in the same order; and it is within
--- the limits where they are. Assumes nothing.
-use mathlib.Core.Path.{_≡_, refl, ap}
+-- A frame before its names and numbers are looked up, and after: within the limits if they are, and the same where they are.
+-- Assumes nothing.
+use mathlib.Core.Path.{_≡_, refl, ap, ap₂}
+use mathlib.Core.Bool.{Bool, true, false, cond}
 use mathlib.Core.List.{List, [], _∷_, _++_}
-use Prim.Native.Nat.{ℕ, _≤_}
-use lib.IntN.{pos}
+use Prim.Native.Nat.{ℕ, zero, suc, _≤_, _<_}
+use native.Mathlib.Omega.{arith}
+use lib.Dec.{ltb, eqb}
+use lib.IntN.{pos, negℤ, natAbs}
 use lib.ListN.{length}
-use Rattle.rule.specs.Limits.{literalLimit}
+use borrow.Author.Tests.{ltb-false, eqb-false}
+use Rattle.numbers.proofs.Ints.{natAbs-neg}
+use Rattle.rule.specs.Limits.{eventLimit, noteLimit, factorLimit, offsetLimit, literalLimit}
 use Rattle.rule.specs.Frames.{Source, Kind, kindByte, frame, bare}
-use Rattle.rule.specs.Grammar
-use Rattle.rule.specs.Tree.{LimitsR, LimitsS, Limits, postfixS, postfix}
-use Rattle.rule.specs.Draft.{Draft, lit, index-var, ref, plain, signKind, relKind, frames, framesCond, framesDisj, framesConj, framesUnit, framesSum, framesProd, framesFactor}
-use Rattle.rule.proofs.Put.{each}
+use Rattle.rule.specs.Grammar.{index}
+use Rattle.rule.specs.Tree.{LimitsR}
+use Rattle.rule.specs.Draft.{Draft, lit, index-var, ref, plain}
+use Rattle.rule.specs.Measure.{Named, declared, used, Sized, sized-by, scaleNumbers, shiftNumbers, namesOf, numbersOf}
+use Rattle.rule.specs.Spelling.{beyond}
+use Rattle.rule.specs.Meaning.{factorAt, offsetAt, referenceAt}
 use Rattle.rule.specs.declared.Frame.{Frame}
 use Rattle.rule.specs.declared.parts.Place.{Place}
-use Rattle.rule.specs.declared.parts.Sign.{Sign}
+use Rattle.rule.specs.declared.parts.Role.{Role}
+use Rattle.rule.specs.declared.parts.Role.the-variants.{Event, Note}
 use Rattle.rule.specs.declared.parts.Sign.the-variants.{Plus, Minus}
-use Rattle.rule.specs.Meaning.{relationOf, signOf, factorAt, offsetAt, referenceAt, meaningSum, meaningProd, meaningFactor, meaningCond, meaningDisj, meaningConj, meaningUnit, meaningOf}
+use Rattle.rule.specs.declared.parts.Scale.{Scale}
+use Rattle.rule.specs.declared.parts.Scale.the-variants.{Once, Times}
+use Rattle.rule.specs.declared.parts.Shift.{Shift}
+use Rattle.rule.specs.declared.parts.Shift.the-variants.{Unshifted, By}
+use Rattle.rule.proofs.Put.{each}
 
 -- ---- lists
 pub each-append : {A B : Type 0} (g : A → B) (xs ys : List A) → each g (xs ++ ys) ≡ each g xs ++ each g ys
@@ -43,18 +55,20 @@ pub all-right : {A : Type 0} (P : A → Type 0) (xs ys : List A) → All P (xs +
 all-right P [] ys p = p
 all-right P (x ∷ xs) ys p = all-right P xs ys (p .1)
 
--- ---- kinds
-sign-kind : (g : Sign) → kindByte (Kind.arithmetic (signOf g)) ≡ signKind g
-sign-kind Plus = refl
-sign-kind Minus = refl
+-- ---- the names of a frame are used, not declared
+abbrev pub Used : Named → Type 0
+Used (declared r p) = ⊥
+Used (used r p) = Unit {0}
 
-rel-kind : (c : Grammar.Rel) → kindByte (Kind.relation (relationOf c)) ≡ relKind c
-rel-kind Grammar.equal = refl
-rel-kind Grammar.unequal = refl
-rel-kind Grammar.less = refl
-rel-kind Grammar.at-most = refl
-rel-kind Grammar.more = refl
-rel-kind Grammar.at-least = refl
+pub names-used : (d : Draft) → All Used (namesOf d)
+names-used (lit p) = tt
+names-used index-var = tt
+names-used (ref n e f o) = (tt, (tt, tt))
+names-used (plain k) = tt
+
+-- a number within its limit
+abbrev pub Fine : (Place → ℕ) → Sized → Type 0
+Fine value (sized-by l p) = beyond l (value p) ≡ false
 
 module _ (eventOf noteOf value : Place → ℕ) where
   -- a frame with its names and numbers looked up
@@ -64,98 +78,70 @@ module _ (eventOf noteOf value : Place → ℕ) where
   frameOf (ref n e f o) = frame (kindByte (Kind.operand Source.reference)) (eventOf e) (noteOf n) (factorAt eventOf noteOf value f) (offsetAt eventOf noteOf value o)
   frameOf (plain k) = frame k 0 0 0 (pos 0)
 
-  -- ---- in the same order
-  join : {k : ℕ} (l : ℕ) {a b : List Frame} (xs ys : List Draft) → k ≡ l → a ≡ each frameOf xs → b ≡ each frameOf ys
-      → (a ++ b) ++ (frame k 0 0 0 (pos 0) ∷ []) ≡ each frameOf (xs ++ ys ++ plain l ∷ [])
-  join l xs ys e f g = rw (e, f, g, each-append frameOf (xs ++ ys) (plain l ∷ []), each-append frameOf xs ys)
+  -- a name that has a number
+  abbrev pub NameFits : Named → Type 0
+  NameFits (declared r p) = Unit {0}
+  NameFits (used Event p) = eventOf p < eventLimit
+  NameFits (used Note p) = noteOf p < noteLimit
 
-  join1 : (k : ℕ) {a : List Frame} (xs : List Draft) → a ≡ each frameOf xs → a ++ (frame k 0 0 0 (pos 0) ∷ []) ≡ each frameOf (xs ++ plain k ∷ [])
-  join1 k xs f = rw (f, each-append frameOf xs (plain k ∷ []))
-
-  mutual
-    in-sum : (x : Grammar.Sum) → postfixS (meaningSum eventOf noteOf value x) ≡ each frameOf (framesSum x)
-    in-sum (Grammar.a-prod x) = in-prod x
-    in-sum (Grammar.add x g y) = join (signKind g) (framesSum x) (framesProd y) (sign-kind g) (in-sum x) (in-prod y)
-
-    in-prod : (x : Grammar.Prod) → postfixS (meaningProd eventOf noteOf value x) ≡ each frameOf (framesProd x)
-    in-prod (Grammar.a-factor x) = in-factor x
-    in-prod (Grammar.multiply x y) = join 0x13 (framesProd x) (framesFactor y) refl (in-prod x) (in-factor y)
-
-    in-factor : (x : Grammar.Factor) → postfixS (meaningFactor eventOf noteOf value x) ≡ each frameOf (framesFactor x)
-    in-factor (Grammar.literal p) = refl
-    in-factor Grammar.var = refl
-    in-factor (Grammar.parens x) = in-sum x
-    in-factor (Grammar.absolute x) = join1 0x14 (framesSum x) (in-sum x)
-    in-factor (Grammar.reference n e (Grammar.index f o)) = refl
-
-  mutual
-    in-cond : (x : Grammar.Cond) → postfix (meaningCond eventOf noteOf value x) ≡ each frameOf (framesCond x)
-    in-cond (Grammar.a-disj x) = in-disj x
-    in-cond (Grammar.implies x y) = join 0x34 (framesDisj x) (framesCond y) refl (in-disj x) (in-cond y)
-
-    in-disj : (x : Grammar.Disj) → postfix (meaningDisj eventOf noteOf value x) ≡ each frameOf (framesDisj x)
-    in-disj (Grammar.a-conj x) = in-conj x
-    in-disj (Grammar.or x y) = join 0x33 (framesDisj x) (framesConj y) refl (in-disj x) (in-conj y)
-
-    in-conj : (x : Grammar.Conj) → postfix (meaningConj eventOf noteOf value x) ≡ each frameOf (framesConj x)
-    in-conj (Grammar.a-unit x) = in-unit x
-    in-conj (Grammar.and x y) = join 0x32 (framesConj x) (framesUnit y) refl (in-conj x) (in-unit y)
-
-    in-unit : (x : Grammar.CUnit) → postfix (meaningUnit eventOf noteOf value x) ≡ each frameOf (framesUnit x)
-    in-unit (Grammar.not x) = join1 0x31 (framesUnit x) (in-unit x)
-    in-unit (Grammar.group x) = in-cond x
-    in-unit (Grammar.relation x c y) = join (relKind c) (framesSum x) (framesSum y) (rel-kind c) (in-sum x) (in-sum y)
-
-  pub postfix-frames : (x : Grammar.Rule) → postfix (meaningOf eventOf noteOf value x) ≡ each frameOf (frames x)
-  postfix-frames (Grammar.rule e es n ns c) = in-cond c
-
-  -- ---- within the limits
-  -- of one frame
+  -- a frame within the limits: its names and numbers are
   abbrev pub LimitsD : Draft → Type 0
-  LimitsD (lit p) = value p ≤ literalLimit
-  LimitsD index-var = Unit {0}
-  LimitsD (ref n e f o) = LimitsR (referenceAt eventOf noteOf value n e (Grammar.index f o))
-  LimitsD (plain k) = Unit {0}
+  LimitsD d = All NameFits (namesOf d) × All (Fine value) (numbersOf d)
 
-  left : (xs ys : List Draft) (d : Draft) → All LimitsD (xs ++ ys ++ d ∷ []) → All LimitsD xs
-  left xs ys d p = all-left LimitsD xs ys (all-left LimitsD (xs ++ ys) (d ∷ []) p)
+  pub literal-fits : (p : Place) → LimitsD (lit p) → value p ≤ literalLimit
+  literal-fits p l = ltb-false literalLimit (value p) (l .1 .0)
 
-  right : (xs ys : List Draft) (d : Draft) → All LimitsD (xs ++ ys ++ d ∷ []) → All LimitsD ys
-  right xs ys d p = all-right LimitsD xs ys (all-left LimitsD (xs ++ ys) (d ∷ []) p)
+  factor-fits : (f : Scale) → All (Fine value) (scaleNumbers f) → (1 ≤ factorAt eventOf noteOf value f) × (factorAt eventOf noteOf value f ≤ factorLimit)
+  factor-fits Once h = (omega arith, omega arith)
+  factor-fits (Times p) h = go (eqb (value p) 0) refl (h .0)
+    where
+      go : (b : Bool) → eqb (value p) 0 ≡ b → cond b true (ltb factorLimit (value p)) ≡ false → (1 ≤ value p) × (value p ≤ factorLimit)
+      go true e f = let z : _≡_ {A = ℕ} 0 1 = cc in absurd (omega arith)
+      go false e f = (some-value (value p) (eqb-false (value p) 0 e), ltb-false factorLimit (value p) f)
+        where
+          some-value : (v : ℕ) → (v ≡ 0 → ⊥) → 1 ≤ v
+          some-value zero h = absurd (h refl)
+          some-value (suc v) h = omega arith
 
-  mutual
-    limits-sum : (x : Grammar.Sum) → All LimitsD (framesSum x) → LimitsS (meaningSum eventOf noteOf value x)
-    limits-sum (Grammar.a-prod x) p = limits-prod x p
-    limits-sum (Grammar.add x g y) p = (limits-sum x (left (framesSum x) (framesProd y) _ p), limits-prod y (right (framesSum x) (framesProd y) _ p))
+  offset-fits : (o : Shift) → All (Fine value) (shiftNumbers o) → natAbs (offsetAt eventOf noteOf value o) ≤ offsetLimit
+  offset-fits Unshifted h = omega arith
+  offset-fits (By Plus p) h = ltb-false offsetLimit (value p) (h .0)
+  offset-fits (By Minus p) h = rw natAbs-neg (ltb-false offsetLimit (value p) (h .0))
 
-    limits-prod : (x : Grammar.Prod) → All LimitsD (framesProd x) → LimitsS (meaningProd eventOf noteOf value x)
-    limits-prod (Grammar.a-factor x) p = limits-factor x p
-    limits-prod (Grammar.multiply x y) p = (limits-prod x (left (framesProd x) (framesFactor y) _ p), limits-factor y (right (framesProd x) (framesFactor y) _ p))
+  pub reference-fits : (n e : Place) (f : Scale) (o : Shift) → LimitsD (ref n e f o) → LimitsR (referenceAt eventOf noteOf value n e (index f o))
+  reference-fits n e f o l =
+      let h = factor-fits f (all-left (Fine value) (scaleNumbers f) (shiftNumbers o) (l .1)) in
+      let k = offset-fits o (all-right (Fine value) (scaleNumbers f) (shiftNumbers o) (l .1)) in
+      record { event = l .0 .1 .0; note = l .0 .0; least = h .0; factor = h .1; offset = k }
 
-    limits-factor : (x : Grammar.Factor) → All LimitsD (framesFactor x) → LimitsS (meaningFactor eventOf noteOf value x)
-    limits-factor (Grammar.literal q) p = p .0
-    limits-factor Grammar.var p = tt
-    limits-factor (Grammar.parens x) p = limits-sum x p
-    limits-factor (Grammar.absolute x) p = limits-sum x (all-left LimitsD (framesSum x) _ p)
-    limits-factor (Grammar.reference n e (Grammar.index f o)) p = p .0
+-- ---- two ways to number names and to value numbers, which agree on those that the tree has
+module _ (number number′ : Role → Place → ℕ) (value value′ : Place → ℕ) where
+  abbrev pub Numbered : Named → Type 0
+  Numbered (declared r p) = Unit {0}
+  Numbered (used r p) = number r p ≡ number′ r p
 
-  mutual
-    limits-cond : (x : Grammar.Cond) → All LimitsD (framesCond x) → Limits (meaningCond eventOf noteOf value x)
-    limits-cond (Grammar.a-disj x) p = limits-disj x p
-    limits-cond (Grammar.implies x y) p = (limits-disj x (left (framesDisj x) (framesCond y) _ p), limits-cond y (right (framesDisj x) (framesCond y) _ p))
+  abbrev pub Valued : Sized → Type 0
+  Valued (sized-by l p) = value p ≡ value′ p
 
-    limits-disj : (x : Grammar.Disj) → All LimitsD (framesDisj x) → Limits (meaningDisj eventOf noteOf value x)
-    limits-disj (Grammar.a-conj x) p = limits-conj x p
-    limits-disj (Grammar.or x y) p = (limits-disj x (left (framesDisj x) (framesConj y) _ p), limits-conj y (right (framesDisj x) (framesConj y) _ p))
+  factor-alike : (f : Scale) → All Valued (scaleNumbers f) → factorAt (number Event) (number Note) value f ≡ factorAt (number′ Event) (number′ Note) value′ f
+  factor-alike Once k = refl
+  factor-alike (Times p) k = k .0
 
-    limits-conj : (x : Grammar.Conj) → All LimitsD (framesConj x) → Limits (meaningConj eventOf noteOf value x)
-    limits-conj (Grammar.a-unit x) p = limits-unit x p
-    limits-conj (Grammar.and x y) p = (limits-conj x (left (framesConj x) (framesUnit y) _ p), limits-unit y (right (framesConj x) (framesUnit y) _ p))
+  offset-alike : (o : Shift) → All Valued (shiftNumbers o) → offsetAt (number Event) (number Note) value o ≡ offsetAt (number′ Event) (number′ Note) value′ o
+  offset-alike Unshifted k = refl
+  offset-alike (By Plus p) k = ap pos (k .0)
+  offset-alike (By Minus p) k = ap (λ (v : ℕ). negℤ (pos v)) (k .0)
 
-    limits-unit : (x : Grammar.CUnit) → All LimitsD (framesUnit x) → Limits (meaningUnit eventOf noteOf value x)
-    limits-unit (Grammar.not x) p = limits-unit x (all-left LimitsD (framesUnit x) _ p)
-    limits-unit (Grammar.group x) p = limits-cond x p
-    limits-unit (Grammar.relation x c y) p = (limits-sum x (left (framesSum x) (framesSum y) _ p), limits-sum y (right (framesSum x) (framesSum y) _ p))
+  -- each frame is one frame by both
+  abbrev pub Alike : Draft → Type 0
+  Alike d = frameOf (number Event) (number Note) value d ≡ frameOf (number′ Event) (number′ Note) value′ d
 
-  pub limits-frames : (x : Grammar.Rule) → All LimitsD (frames x) → Limits (meaningOf eventOf noteOf value x)
-  limits-frames (Grammar.rule e es n ns c) p = limits-cond c p
+  pub alike : (d : Draft) → All Numbered (namesOf d) → All Valued (numbersOf d) → Alike d
+  alike (lit p) h k = ap (λ (v : ℕ). frame (kindByte (Kind.operand Source.literal)) 0 0 0 (pos v)) (k .0)
+  alike index-var h k = refl
+  alike (ref n e f o) h k = rw (h .0, h .1 .0, factor-alike f (all-left Valued (scaleNumbers f) (shiftNumbers o) k), offset-alike o (all-right Valued (scaleNumbers f) (shiftNumbers o) k))
+  alike (plain k) h l = refl
+
+  pub all-alike : (ds : List Draft) → All Alike ds → each (frameOf (number Event) (number Note) value) ds ≡ each (frameOf (number′ Event) (number′ Note) value′) ds
+  all-alike [] h = refl
+  all-alike (d ∷ ds) h = ap₂ (λ (x : Frame) (l : List Frame). x ∷ l) (h .0) (all-alike ds (h .1))

@@ -15,7 +15,8 @@ use Rattle.rule.specs.declared.parts.Scale.{Scale}
 use Rattle.rule.specs.declared.parts.Scale.the-variants.{Once, Times}
 use Rattle.rule.specs.declared.parts.Shift.the-variants.{Unshifted, By}
 use Rattle.rule.specs.Grammar.{Word, mark, name, number, Rel, equal, unequal, less, at-most, more, at-least, relMark, signMark, wordOf}
-use Rattle.rule.specs.Draft.{lit, index-var, ref, plain, signKind, relKind}
+use Rattle.rule.specs.Frames.{Kind}
+use Rattle.rule.specs.Draft.{lit, index-var, ref, plain, alone, relationOf, signOf}
 use Rattle.rule.specs.Machine.{Act, declare, uses, sized, enter, out, deeper, Sym, unit, ands, ors, arrow, factor, muls, adds, rel, want, name-of, names-of, ref-event, ref-index, ref-shift, ref-by, doing, prod, sum, conj, condition, start, Next, stuck, on, startFactor, step}
 
 abbrev pub isLeaf : ℕ → Bool
@@ -66,7 +67,7 @@ plain-word k p e = go (eqb k 1) (eqb k 2) e
     go false false e = refl
 
 -- a choice by a test on the kind
-choose : {N : Type 0} (P : N → Type 0) (k j : ℕ) {a b : N} → (k ≡ j → P a) → P b → P (cond (eqb k j) a b)
+pub choose : {N : Type 0} (P : N → Type 0) (k j : ℕ) {a b : N} → (k ≡ j → P a) → P b → P (cond (eqb k j) a b)
 choose P k j {a} {b} f g = go (eqb k j) refl
   where
     go : (x : Bool) → eqb k j ≡ x → P (cond x a b)
@@ -82,14 +83,14 @@ module _ (M : Type 0) (act : Act → M → M) where
     not : {d : ℕ} {s : List Sym} {m m′ : M} {ws : List Word} → Gen (unit (deeper d) ∷ doing (out (plain 0x31)) ∷ s) (act (enter (deeper d)) m) ws m′ → Gen (unit d ∷ s) m (mark 33 ∷ ws) m′
     group : {d : ℕ} {s : List Sym} {m m′ : M} {ws : List Word} → Gen (condition (deeper d) (want 125 ∷ s)) (act (enter (deeper d)) m) ws m′ → Gen (unit d ∷ s) m (mark 123 ∷ ws) m′
     relation : {d : ℕ} {s : List Sym} {m m′ : M} {ws : List Word} → Gen (sum d (rel d ∷ s)) m ws m′ → Gen (unit d ∷ s) m ws m′
-    compare : {d : ℕ} {s : List Sym} {m m′ : M} {ws : List Word} (c : Rel) → Gen (sum d (doing (out (plain (relKind c))) ∷ s)) m ws m′ → Gen (rel d ∷ s) m (mark (relMark c) ∷ ws) m′
+    compare : {d : ℕ} {s : List Sym} {m m′ : M} {ws : List Word} (c : Rel) → Gen (sum d (doing (out (alone (Kind.relation (relationOf c)))) ∷ s)) m ws m′ → Gen (rel d ∷ s) m (mark (relMark c) ∷ ws) m′
     and-more : {d : ℕ} {s : List Sym} {m m′ : M} {ws : List Word} → Gen (unit d ∷ doing (out (plain 0x32)) ∷ ands d ∷ s) m ws m′ → Gen (ands d ∷ s) m (mark 132 ∷ ws) m′
     and-none : {d : ℕ} {s : List Sym} {m m′ : M} {ws : List Word} → Gen s m ws m′ → Gen (ands d ∷ s) m ws m′
     or-more : {d : ℕ} {s : List Sym} {m m′ : M} {ws : List Word} → Gen (conj d (doing (out (plain 0x33)) ∷ ors d ∷ s)) m ws m′ → Gen (ors d ∷ s) m (mark 131 ∷ ws) m′
     or-none : {d : ℕ} {s : List Sym} {m m′ : M} {ws : List Word} → Gen s m ws m′ → Gen (ors d ∷ s) m ws m′
     implies : {d : ℕ} {s : List Sym} {m m′ : M} {ws : List Word} → Gen (condition (deeper d) (doing (out (plain 0x34)) ∷ s)) (act (enter (deeper d)) m) ws m′ → Gen (arrow d ∷ s) m (mark 130 ∷ ws) m′
     implies-none : {d : ℕ} {s : List Sym} {m m′ : M} {ws : List Word} → Gen s m ws m′ → Gen (arrow d ∷ s) m ws m′
-    add-more : {d : ℕ} {s : List Sym} {m m′ : M} {ws : List Word} (g : Sign) → Gen (prod d (doing (out (plain (signKind g))) ∷ adds d ∷ s)) m ws m′ → Gen (adds d ∷ s) m (mark (signMark g) ∷ ws) m′
+    add-more : {d : ℕ} {s : List Sym} {m m′ : M} {ws : List Word} (g : Sign) → Gen (prod d (doing (out (alone (Kind.arithmetic (signOf g)))) ∷ adds d ∷ s)) m ws m′ → Gen (adds d ∷ s) m (mark (signMark g) ∷ ws) m′
     add-none : {d : ℕ} {s : List Sym} {m m′ : M} {ws : List Word} → Gen s m ws m′ → Gen (adds d ∷ s) m ws m′
     mul-more : {d : ℕ} {s : List Sym} {m m′ : M} {ws : List Word} → Gen (factor d ∷ doing (out (plain 0x13)) ∷ muls d ∷ s) m ws m′ → Gen (muls d ∷ s) m (mark 42 ∷ ws) m′
     mul-none : {d : ℕ} {s : List Sym} {m m′ : M} {ws : List Word} → Gen s m ws m′ → Gen (muls d ∷ s) m ws m′

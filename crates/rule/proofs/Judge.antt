@@ -10,9 +10,9 @@ use lib.Dec.{ltb, leb}
 use Rattle.rule.specs.Limits.{frameLimit}
 use Rattle.rule.specs.ReadLimits.{depthLimit}
 use Rattle.rule.specs.Grammar.{Rule}
-use Rattle.rule.specs.Measure.{depth, Named, declared, used, names, Sized, sized-by, numbers}
+use Rattle.rule.specs.Measure.{depth, frames, Named, declared, used, names, Sized, sized-by, numbers}
 use Rattle.rule.specs.Spelling.{same-role, room}
-use Rattle.rule.specs.Draft.{Draft, frames}
+use Rattle.rule.specs.Draft.{Draft}
 use Rattle.rule.specs.Name.{longName}
 use Rattle.rule.specs.Memory.{among, bad-number}
 use Rattle.rule.specs.declared.parts.Place.{Place}

@@ -11,17 +11,15 @@ mod Gen
 mod Machines
 mod Trees
 mod Rules
+mod Keeps
 mod Measures
-mod Depth
 mod SpellLists
-mod SpellWords
 mod SpellTokens
 mod SpellCodes
 mod SpellNames
 mod SpellNumbers
 mod SpellMeaning
 mod SpellTurn
-mod SpellShapes
 mod SpellTrees
 mod SpellSame
 mod Registers
@@ -37,6 +35,7 @@ mod Close
 mod Conclude
 mod ReadText
 mod Drafts
+mod Means
 mod Numbered
 mod Filled
 mod TreeBytes

@@ -31,8 +31,7 @@ use lib.ListN.{take}
 use Rattle.rule.specs.Limits.{frameBytes, bufferBytes}
 use Rattle.rule.specs.Grammar.{Rule, yield, Wrong-at}
 use Rattle.rule.specs.Grammar.{words as spelled}
-use Rattle.rule.specs.Measure.{Named, names, Sized, numbers}
-use Rattle.rule.specs.Draft.{frames}
+use Rattle.rule.specs.Measure.{frames, Named, names, Sized, numbers}
 use Rattle.rule.specs.Spelling.{TokenOf, nameAt, numberAt, decimal, letters}
 use Rattle.rule.specs.Reading.{readOf}
 use Rattle.rule.specs.Meaning.{meaning}

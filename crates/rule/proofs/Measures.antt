@@ -1,21 +1,25 @@
 -- What a register holds after the reading of a tree is that function of the tree. Assumes nothing.
--- the part of a reading that concerns frames, names, numbers, depth
-use mathlib.Core.Path.{_≡_, refl, sym, _∙_}
+use mathlib.Core.Path.{_≡_, refl, ap, sym, _∙_}
+use mathlib.Core.Bool.{Bool, true, false, cond}
 use mathlib.Core.List.{List, [], _∷_, _++_, append-nil, append-assoc}
-use Prim.Native.Nat.{ℕ, _+_, max}
-use mathlib.Core.Bool.{cond}
+use Prim.Native.Nat.{ℕ, zero, suc, _+_, max, min, _≤_, _<_}
+use native.Mathlib.Omega.{arith}
+use lib.Dec.{leb}
+use borrow.Author.Tests.{leb-true, leb-false}
 use Rattle.rule.specs.declared.parts.Place.{Place}
 use Rattle.rule.specs.declared.parts.Role.{Role}
 use Rattle.rule.specs.declared.parts.Role.the-variants.{Event, Note}
-use Rattle.rule.specs.declared.parts.Limit.the-variants.{OfFactor, OfOffset}
-use Rattle.rule.specs.declared.parts.Scale.the-variants.{Once, Times}
-use Rattle.rule.specs.declared.parts.Shift.the-variants.{Unshifted, By}
-use Rattle.rule.specs.Grammar.{index, Cond, a-disj, implies, Disj, a-conj, or, Conj, a-unit, and, CUnit, not, group, relation, Sum, a-prod, add, Prod, a-factor, multiply, Factor, literal, var, parens, absolute, reference, Rule, rule}
-use Rattle.rule.specs.Measure.{Named, declared, used, Sized, sized-by, declares, depth, namesCond, namesDisj, namesConj, namesUnit, namesSum, namesProd, namesFactor, names, numbersCond, numbersDisj, numbersConj, numbersUnit, numbersSum, numbersProd, numbersFactor, numbers}
-use Rattle.rule.specs.Draft.{Draft, framesCond, framesDisj, framesConj, framesUnit, framesSum, framesProd, framesFactor, frames}
+use Rattle.rule.specs.declared.parts.Limit.{Limit}
+use Rattle.rule.specs.ReadLimits.{depthLimit}
+use Rattle.rule.specs.Grammar.{Rule, rule}
+use Rattle.rule.specs.Draft.{Draft}
+use Rattle.rule.specs.Items.{Item, enters, puts, itemsCond}
+use Rattle.rule.specs.Measure.{deepest, depth, framesIn, frames, Named, declared, used, Sized, sized-by, flat, namesOf, numbersOf}
+use Rattle.rule.specs.Measure.{declares, names, numbers}
 use Rattle.rule.specs.Machine.{Act, declare, uses, sized, enter, out, deeper}
-use Rattle.rule.proofs.Walk.{readCond, readDisj, readConj, readUnit, readSum, readProd, readFactor, readNames, readRule}
+use Rattle.rule.proofs.Walk.{down, readEach, readName, readNumber, readDraft, readItems, readNames, readRule}
 
+-- ---- the part of a reading that concerns frames, names, numbers, depth
 abbrev pub note-frame : Act → List Draft → List Draft
 note-frame (declare r p) l = l
 note-frame (uses r p) l = l
@@ -44,137 +48,113 @@ note-depth (sized b p) l = l
 note-depth (enter d) l = max l d
 note-depth (out f) l = l
 
-mutual
-  pub frames-cond : (x : Cond) (d : ℕ) (l : List Draft) → readCond (List Draft) note-frame d x l ≡ l ++ framesCond x
-  frames-cond (a-disj x) d l = frames-disj x d l
-  frames-cond (implies x y) d l = rw (frames-cond y (deeper d) (readDisj (List Draft) note-frame d x l), frames-disj x d (l)) (simp append-assoc)
+-- ---- names and numbers that a register leaves
+module _ {L : Type 0} (note : Act → L → L) where
+  idle-names : ((r : Role) (p : Place) (l : L) → note (declare r p) l ≡ l) → ((r : Role) (p : Place) (l : L) → note (uses r p) l ≡ l)
+      → (ns : List Named) (l : L) → readEach (readName L note) ns l ≡ l
+  idle-names d u [] l = refl
+  idle-names d u (declared r p ∷ ns) l = idle-names d u ns (note (declare r p) l) ∙ d r p l
+  idle-names d u (used r p ∷ ns) l = idle-names d u ns (note (uses r p) l) ∙ u r p l
 
-  frames-disj : (x : Disj) (d : ℕ) (l : List Draft) → readDisj (List Draft) note-frame d x l ≡ l ++ framesDisj x
-  frames-disj (a-conj x) d l = frames-conj x d l
-  frames-disj (or x y) d l = rw (frames-conj y d (readDisj (List Draft) note-frame d x l), frames-disj x d (l)) (simp append-assoc)
+  idle-numbers : ((b : Limit) (p : Place) (l : L) → note (sized b p) l ≡ l) → (vs : List Sized) (l : L) → readEach (readNumber L note) vs l ≡ l
+  idle-numbers h [] l = refl
+  idle-numbers h (sized-by b p ∷ vs) l = idle-numbers h vs (note (sized b p) l) ∙ h b p l
 
-  frames-conj : (x : Conj) (d : ℕ) (l : List Draft) → readConj (List Draft) note-frame d x l ≡ l ++ framesConj x
-  frames-conj (a-unit x) d l = frames-unit x d l
-  frames-conj (and x y) d l = rw (frames-unit y d (readConj (List Draft) note-frame d x l), frames-conj x d (l)) (simp append-assoc)
+-- ---- items of which each frame adds h of it
+module _ {B : Type 0} (note : Act → List B → List B) (h : Draft → List B) (still : (k : ℕ) (l : List B) → note (enter k) l ≡ l)
+    (adds : (f : Draft) (l : List B) → readDraft (List B) note f l ≡ l ++ h f) where
+  noted : (d : ℕ) (is : List Item) (l : List B) → readItems (List B) note d is l ≡ l ++ flat h (framesIn is)
+  noted d [] l = sym (append-nil l)
+  noted d (enters k ∷ is) l = rw (still (down k d) l) (noted d is l)
+  noted d (puts f ∷ is) l = noted d is (readDraft (List B) note f l) ∙ rw (adds f l) (append-assoc l (h f) (flat h (framesIn is)))
 
-  frames-unit : (x : CUnit) (d : ℕ) (l : List Draft) → readUnit (List Draft) note-frame d x l ≡ l ++ framesUnit x
-  frames-unit (not x) d l = rw (frames-unit x (deeper d) l) (simp append-assoc)
-  frames-unit (group x) d l = frames-cond x (deeper d) l
-  frames-unit (relation x c y) d l = rw (frames-sum y d (readSum (List Draft) note-frame d x l), frames-sum x d (l)) (simp append-assoc)
+-- frames
+abbrev own : Draft → List Draft
+own f = f ∷ []
 
-  frames-sum : (x : Sum) (d : ℕ) (l : List Draft) → readSum (List Draft) note-frame d x l ≡ l ++ framesSum x
-  frames-sum (a-prod x) d l = frames-prod x d l
-  frames-sum (add x g y) d l = rw (frames-prod y d (readSum (List Draft) note-frame d x l), frames-sum x d (l)) (simp append-assoc)
+flat-own : (fs : List Draft) → flat own fs ≡ fs
+flat-own [] = refl
+flat-own (f ∷ fs) = ap (λ (l : List Draft). f ∷ l) (flat-own fs)
 
-  frames-prod : (x : Prod) (d : ℕ) (l : List Draft) → readProd (List Draft) note-frame d x l ≡ l ++ framesProd x
-  frames-prod (a-factor x) d l = frames-factor x d l
-  frames-prod (multiply x y) d l = rw (frames-factor y d (readProd (List Draft) note-frame d x l), frames-prod x d (l)) (simp append-assoc)
+no-name-frame : (ns : List Named) (l : List Draft) → readEach (readName (List Draft) note-frame) ns l ≡ l
+no-name-frame = idle-names note-frame (λ r p l. refl) (λ r p l. refl)
 
-  frames-factor : (x : Factor) (d : ℕ) (l : List Draft) → readFactor (List Draft) note-frame d x l ≡ l ++ framesFactor x
-  frames-factor (literal p) d l = refl
-  frames-factor var d l = refl
-  frames-factor (parens x) d l = frames-sum x (deeper d) l
-  frames-factor (absolute x) d l = rw (frames-sum x (deeper d) l) (simp append-assoc)
-  frames-factor (reference n e (index Once Unshifted)) d l = refl
-  frames-factor (reference n e (index Once (By g p))) d l = refl
-  frames-factor (reference n e (index (Times f) Unshifted)) d l = refl
-  frames-factor (reference n e (index (Times f) (By g p))) d l = refl
+adds-frame : (f : Draft) (l : List Draft) → readDraft (List Draft) note-frame f l ≡ l ++ own f
+adds-frame f l = ap (λ (m : List Draft). m ++ own f) (idle-numbers note-frame (λ b p m. refl) (numbersOf f) _ ∙ no-name-frame (namesOf f) l)
 
-frames-declared : (r : Role) (ps : List Place) (l : List Draft) → readNames (List Draft) note-frame r ps l ≡ l
-frames-declared r [] l = refl
-frames-declared r (p ∷ ps) l = frames-declared r ps l
+pub frames-items : (d : ℕ) (is : List Item) (l : List Draft) → readItems (List Draft) note-frame d is l ≡ l ++ framesIn is
+frames-items d is l = noted note-frame own (λ k m. refl) adds-frame d is l ∙ ap (λ (m : List Draft). l ++ m) (flat-own (framesIn is))
 
 pub frames-read : (x : Rule) → readRule (List Draft) note-frame x [] ≡ frames x
-frames-read (rule e es n ns c) = rw (frames-declared Event es [], frames-declared Note ns []) (frames-cond c 0 [])
+frames-read (rule e es n ns c) =
+    frames-items 0 (itemsCond c) _
+    ∙ ap (λ (l : List Draft). l ++ framesIn (itemsCond c)) (no-name-frame (declares Note (n ∷ ns)) _ ∙ no-name-frame (declares Event (e ∷ es)) [])
 
-mutual
-  names-cond : (x : Cond) (d : ℕ) (l : List Named) → readCond (List Named) note-name d x l ≡ l ++ namesCond x
-  names-cond (a-disj x) d l = names-disj x d l
-  names-cond (implies x y) d l = rw (names-cond y (deeper d) (readDisj (List Named) note-name d x l), names-disj x d (l)) (simp append-assoc)
+-- names
+names-listed : (ns l : List Named) → readEach (readName (List Named) note-name) ns l ≡ l ++ ns
+names-listed [] l = sym (append-nil l)
+names-listed (declared r p ∷ ns) l = names-listed ns (l ++ declared r p ∷ []) ∙ append-assoc l (declared r p ∷ []) ns
+names-listed (used r p ∷ ns) l = names-listed ns (l ++ used r p ∷ []) ∙ append-assoc l (used r p ∷ []) ns
 
-  names-disj : (x : Disj) (d : ℕ) (l : List Named) → readDisj (List Named) note-name d x l ≡ l ++ namesDisj x
-  names-disj (a-conj x) d l = names-conj x d l
-  names-disj (or x y) d l = rw (names-conj y d (readDisj (List Named) note-name d x l), names-disj x d (l)) (simp append-assoc)
-
-  names-conj : (x : Conj) (d : ℕ) (l : List Named) → readConj (List Named) note-name d x l ≡ l ++ namesConj x
-  names-conj (a-unit x) d l = names-unit x d l
-  names-conj (and x y) d l = rw (names-unit y d (readConj (List Named) note-name d x l), names-conj x d (l)) (simp append-assoc)
-
-  names-unit : (x : CUnit) (d : ℕ) (l : List Named) → readUnit (List Named) note-name d x l ≡ l ++ namesUnit x
-  names-unit (not x) d l = rw (names-unit x (deeper d) l) refl
-  names-unit (group x) d l = names-cond x (deeper d) l
-  names-unit (relation x c y) d l = rw (names-sum y d (readSum (List Named) note-name d x l), names-sum x d (l)) (simp append-assoc)
-
-  names-sum : (x : Sum) (d : ℕ) (l : List Named) → readSum (List Named) note-name d x l ≡ l ++ namesSum x
-  names-sum (a-prod x) d l = names-prod x d l
-  names-sum (add x g y) d l = rw (names-prod y d (readSum (List Named) note-name d x l), names-sum x d (l)) (simp append-assoc)
-
-  names-prod : (x : Prod) (d : ℕ) (l : List Named) → readProd (List Named) note-name d x l ≡ l ++ namesProd x
-  names-prod (a-factor x) d l = names-factor x d l
-  names-prod (multiply x y) d l = rw (names-factor y d (readProd (List Named) note-name d x l), names-prod x d (l)) (simp append-assoc)
-
-  names-factor : (x : Factor) (d : ℕ) (l : List Named) → readFactor (List Named) note-name d x l ≡ l ++ namesFactor x
-  names-factor (literal p) d l = sym (append-nil l)
-  names-factor var d l = sym (append-nil l)
-  names-factor (parens x) d l = names-sum x (deeper d) l
-  names-factor (absolute x) d l = rw (names-sum x (deeper d) l) refl
-  names-factor (reference n e (index Once Unshifted)) d l = append-assoc l (used Note n ∷ []) (used Event e ∷ [])
-  names-factor (reference n e (index Once (By g p))) d l = append-assoc l (used Note n ∷ []) (used Event e ∷ [])
-  names-factor (reference n e (index (Times f) Unshifted)) d l = append-assoc l (used Note n ∷ []) (used Event e ∷ [])
-  names-factor (reference n e (index (Times f) (By g p))) d l = append-assoc l (used Note n ∷ []) (used Event e ∷ [])
-
-names-declared : (r : Role) (ps : List Place) (l : List Named) → readNames (List Named) note-name r ps l ≡ l ++ declares r ps
-names-declared r [] l = sym (append-nil l)
-names-declared r (p ∷ ps) l = names-declared r ps (l ++ declared r p ∷ []) ∙ append-assoc l (declared r p ∷ []) (declares r ps)
+adds-names : (f : Draft) (l : List Named) → readDraft (List Named) note-name f l ≡ l ++ namesOf f
+adds-names f l = idle-numbers note-name (λ b p m. refl) (numbersOf f) _ ∙ names-listed (namesOf f) l
 
 pub names-read : (x : Rule) → readRule (List Named) note-name x [] ≡ names x
 names-read (rule e es n ns c) =
-    rw (
-      names-cond c 0 (readNames (List Named) note-name Note ns (readNames (List Named) note-name Event es (declared Event e ∷ []) ++ declared Note n ∷ [])),
-      names-declared Note ns (readNames (List Named) note-name Event es (declared Event e ∷ []) ++ declared Note n ∷ []),
-      names-declared Event es (declared Event e ∷ []),
-    )
-    (simp append-assoc)
+    noted note-name namesOf (λ k m. refl) adds-names 0 (itemsCond c) _
+    ∙ ap (λ (l : List Named). l ++ flat namesOf (framesIn (itemsCond c)))
+    (names-listed (declares Note (n ∷ ns)) (readNames (List Named) note-name Event (e ∷ es) [])
+    ∙ ap (λ (l : List Named). l ++ declares Note (n ∷ ns)) (names-listed (declares Event (e ∷ es)) []))
 
-mutual
-  numbers-cond : (x : Cond) (d : ℕ) (l : List Sized) → readCond (List Sized) note-number d x l ≡ l ++ numbersCond x
-  numbers-cond (a-disj x) d l = numbers-disj x d l
-  numbers-cond (implies x y) d l = rw (numbers-cond y (deeper d) (readDisj (List Sized) note-number d x l), numbers-disj x d (l)) (simp append-assoc)
+-- numbers
+numbers-listed : (vs l : List Sized) → readEach (readNumber (List Sized) note-number) vs l ≡ l ++ vs
+numbers-listed [] l = sym (append-nil l)
+numbers-listed (sized-by b p ∷ vs) l = numbers-listed vs (l ++ sized-by b p ∷ []) ∙ append-assoc l (sized-by b p ∷ []) vs
 
-  numbers-disj : (x : Disj) (d : ℕ) (l : List Sized) → readDisj (List Sized) note-number d x l ≡ l ++ numbersDisj x
-  numbers-disj (a-conj x) d l = numbers-conj x d l
-  numbers-disj (or x y) d l = rw (numbers-conj y d (readDisj (List Sized) note-number d x l), numbers-disj x d (l)) (simp append-assoc)
+no-name-number : (ns : List Named) (l : List Sized) → readEach (readName (List Sized) note-number) ns l ≡ l
+no-name-number = idle-names note-number (λ r p l. refl) (λ r p l. refl)
 
-  numbers-conj : (x : Conj) (d : ℕ) (l : List Sized) → readConj (List Sized) note-number d x l ≡ l ++ numbersConj x
-  numbers-conj (a-unit x) d l = numbers-unit x d l
-  numbers-conj (and x y) d l = rw (numbers-unit y d (readConj (List Sized) note-number d x l), numbers-conj x d (l)) (simp append-assoc)
-
-  numbers-unit : (x : CUnit) (d : ℕ) (l : List Sized) → readUnit (List Sized) note-number d x l ≡ l ++ numbersUnit x
-  numbers-unit (not x) d l = rw (numbers-unit x (deeper d) l) refl
-  numbers-unit (group x) d l = numbers-cond x (deeper d) l
-  numbers-unit (relation x c y) d l = rw (numbers-sum y d (readSum (List Sized) note-number d x l), numbers-sum x d (l)) (simp append-assoc)
-
-  numbers-sum : (x : Sum) (d : ℕ) (l : List Sized) → readSum (List Sized) note-number d x l ≡ l ++ numbersSum x
-  numbers-sum (a-prod x) d l = numbers-prod x d l
-  numbers-sum (add x g y) d l = rw (numbers-prod y d (readSum (List Sized) note-number d x l), numbers-sum x d (l)) (simp append-assoc)
-
-  numbers-prod : (x : Prod) (d : ℕ) (l : List Sized) → readProd (List Sized) note-number d x l ≡ l ++ numbersProd x
-  numbers-prod (a-factor x) d l = numbers-factor x d l
-  numbers-prod (multiply x y) d l = rw (numbers-factor y d (readProd (List Sized) note-number d x l), numbers-prod x d (l)) (simp append-assoc)
-
-  numbers-factor : (x : Factor) (d : ℕ) (l : List Sized) → readFactor (List Sized) note-number d x l ≡ l ++ numbersFactor x
-  numbers-factor (literal p) d l = refl
-  numbers-factor var d l = sym (append-nil l)
-  numbers-factor (parens x) d l = numbers-sum x (deeper d) l
-  numbers-factor (absolute x) d l = rw (numbers-sum x (deeper d) l) refl
-  numbers-factor (reference n e (index Once Unshifted)) d l = sym (append-nil l)
-  numbers-factor (reference n e (index Once (By g p))) d l = refl
-  numbers-factor (reference n e (index (Times f) Unshifted)) d l = refl
-  numbers-factor (reference n e (index (Times f) (By g p))) d l = append-assoc l (sized-by OfFactor f ∷ []) (sized-by OfOffset p ∷ [])
-
-numbers-declared : (r : Role) (ps : List Place) (l : List Sized) → readNames (List Sized) note-number r ps l ≡ l
-numbers-declared r [] l = refl
-numbers-declared r (p ∷ ps) l = numbers-declared r ps l
+adds-numbers : (f : Draft) (l : List Sized) → readDraft (List Sized) note-number f l ≡ l ++ numbersOf f
+adds-numbers f l = numbers-listed (numbersOf f) _ ∙ ap (λ (m : List Sized). m ++ numbersOf f) (no-name-number (namesOf f) l)
 
 pub numbers-read : (x : Rule) → readRule (List Sized) note-number x [] ≡ numbers x
-numbers-read (rule e es n ns c) = rw (numbers-declared Event es [], numbers-declared Note ns []) (numbers-cond c 0 [])
+numbers-read (rule e es n ns c) =
+    noted note-number numbersOf (λ k m. refl) adds-numbers 0 (itemsCond c) _
+    ∙ ap (λ (l : List Sized). l ++ flat numbersOf (framesIn (itemsCond c))) (no-name-number (declares Note (n ∷ ns)) _ ∙ no-name-number (declares Event (e ∷ es)) [])
+
+-- ---- depth: the register stops at 17
+deeper-is : (d : ℕ) → d ≤ 17 → deeper d ≡ min 17 (d + 1)
+unfolding deeper
+deeper-is d h = go (leb d depthLimit) refl
+  where
+    go : (x : Bool) → leb d depthLimit ≡ x → cond x (d + 1) d ≡ min 17 (d + 1)
+    go true e = let q : d ≤ 16 = leb-true d 16 e in omega arith
+    go false e = let q : 16 < d = leb-false d 16 e in omega arith
+
+down-is : (k d : ℕ) → d ≤ 17 → down k d ≡ min 17 (d + k)
+down-is zero d h = omega arith
+down-is (suc k) d h = let e = deeper-is d h in let f = down-is k (deeper d) (omega arith) in omega arith
+
+no-name-depth : (ns : List Named) (t : ℕ) → readEach (readName ℕ note-depth) ns t ≡ t
+no-name-depth = idle-names note-depth (λ r p t. refl) (λ r p t. refl)
+
+keeps-depth : (f : Draft) (t : ℕ) → readDraft ℕ note-depth f t ≡ t
+keeps-depth f t = idle-numbers note-depth (λ b p u. refl) (numbersOf f) _ ∙ no-name-depth (namesOf f) t
+
+cap-max : (a b : ℕ) → min 17 (max a b) ≡ max (min 17 a) (min 17 b)
+cap-max a b = omega arith
+
+max-three : (t a b : ℕ) → max (max t a) b ≡ max t (max a b)
+max-three t a b = omega arith
+
+depth-items : (is : List Item) (t : ℕ) → readItems ℕ note-depth 0 is t ≡ max t (min 17 (deepest is))
+depth-items [] t = omega arith
+depth-items (enters k ∷ is) t =
+    let e : down k 0 ≡ min 17 k = let q = down-is k 0 (omega arith) in omega arith in
+    depth-items is (max t (down k 0)) ∙ (max-three t (down k 0) (min 17 (deepest is)) ∙ ap (max t) (ap (λ (w : ℕ). max w (min 17 (deepest is))) e ∙ sym (cap-max k (deepest is))))
+depth-items (puts f ∷ is) t = rw (keeps-depth f t) (depth-items is t)
+
+-- the greatest depth entered, which stops at 17, is the tree's
+pub depth-read : (x : Rule) → readRule ℕ note-depth x 0 ≡ min 17 (depth x)
+depth-read (rule e es n ns c) =
+    rw (no-name-depth (declares Event (e ∷ es)) 0, no-name-depth (declares Note (n ∷ ns)) 0) (let q = depth-items (itemsCond c) 0 in omega arith)

@@ -4,35 +4,24 @@ use mathlib.Core.Path.{_≡_, refl, ap}
 use mathlib.Core.Bool.{Bool, true, false, cond}
 use mathlib.Core.Option.{Option, none, some}
 use mathlib.Core.List.{List, [], _∷_, _++_, append-assoc, append-nil}
-use Prim.Native.Nat.{ℕ, zero, suc, _+_, _≤_, _<_}
+use Prim.Native.Nat.{ℕ, suc, _≤_, _<_}
 use native.Mathlib.Omega.{arith}
-use lib.Dec.{ltb, leb, eqb}
-use lib.IntN.{natAbs}
+use lib.Dec.{leb, eqb}
 use lib.ListN.{length, length-append}
-use borrow.Author.Tests.{ltb-false, leb-false, eqb-false}
-use Rattle.numbers.proofs.Ints.{natAbs-neg}
-use Rattle.rule.specs.Limits.{factorLimit, offsetLimit, literalLimit}
+use borrow.Author.Tests.{leb-false}
 use Rattle.rule.specs.Name.{longName}
-use Rattle.rule.specs.Grammar
-use Rattle.rule.specs.Tree.{LimitsR}
-use Rattle.rule.specs.Measure.{Named, declared, used, Sized, sized-by, scaleNumbers, shiftNumbers, declares, names, namesCond, namesDisj, namesConj, namesUnit, namesSum, namesProd, namesFactor, numbers, numbersCond, numbersDisj, numbersConj, numbersUnit, numbersSum, numbersProd, numbersFactor}
-use Rattle.rule.specs.Draft.{Draft, plain, frames, framesCond, framesDisj, framesConj, framesUnit, framesSum, framesProd, framesFactor}
+use Rattle.rule.specs.Grammar.{Rule}
+use Rattle.rule.specs.Measure.{Named, declared, used, Sized, sized-by, flat, namesOf, numbersOf, header, frames, names, numbers}
 use Rattle.rule.specs.Spelling.{same-role, room, beyond}
 use Rattle.rule.proofs.Judge.{codes, bad-name, spot, first-name, first-number}
 use Rattle.rule.specs.Memory.{position, among}
 use Rattle.rule.specs.declared.parts.Place.{Place}
 use Rattle.rule.specs.declared.parts.Role.{Role}
 use Rattle.rule.specs.declared.parts.Role.the-variants.{Event, Note}
-use Rattle.rule.specs.declared.parts.Limit.the-variants.{OfLiteral}
-use Rattle.rule.specs.declared.parts.Sign.the-variants.{Plus, Minus}
-use Rattle.rule.specs.declared.parts.Scale.{Scale}
-use Rattle.rule.specs.declared.parts.Scale.the-variants.{Once, Times}
-use Rattle.rule.specs.declared.parts.Shift.{Shift}
-use Rattle.rule.specs.declared.parts.Shift.the-variants.{Unshifted, By}
-use Rattle.rule.specs.Meaning.{factorAt, offsetAt, referenceAt}
-use Rattle.rule.proofs.Drafts.{All, all-join, all-left, all-right, LimitsD}
+use Rattle.rule.proofs.Drafts.{All, all-right, Fine, NameFits, LimitsD}
+use Rattle.rule.proofs.SpellLists.{all-map, all-flat}
 
-no-place : {p : Place} → _≡_ {A = Option Place} (some p) none → ⊥
+pub no-place : {p : Place} → _≡_ {A = Option Place} (some p) none → ⊥
 no-place e = let z : _≡_ {A = ℕ} 0 1 = cc in omega arith
 
 -- ---- a name that stands among others has a number below their count
@@ -123,14 +112,11 @@ module _ (code value : Place → ℕ) where
       (rw (codes-append q before (used q p ∷ l)) (among-more (code p) (codes code value q before) (codes code value q l) (used-among before q p f)), rw append-assoc at (all-known (before ++ used q p ∷ []) l g))
 
   -- ---- numbers
-  abbrev pub Fine : Sized → Type 0
-  Fine (sized-by l p) = beyond l (value p) ≡ false
-
-  pub all-fine : (l : List Sized) → first-number code value l ≡ none → All Fine l
+  pub all-fine : (l : List Sized) → first-number code value l ≡ none → All (Fine value) l
   all-fine [] e = tt
   all-fine (sized-by l p ∷ xs) e = go (beyond l (value p)) (all-fine xs) e
     where
-      go : (b : Bool) → (first-number code value xs ≡ none → All Fine xs) → cond b (some p) (first-number code value xs) ≡ none → (b ≡ false) × All Fine xs
+      go : (b : Bool) → (first-number code value xs ≡ none → All (Fine value) xs) → cond b (some p) (first-number code value xs) ≡ none → (b ≡ false) × All (Fine value) xs
       go true k f = absurd (no-place f)
       go false k f = (refl, k f)
 
@@ -140,91 +126,22 @@ module _ (code value : Place → ℕ) where
     abbrev pub numbered : Role → Place → ℕ
     numbered r p = position (code p) (T r)
 
-    abbrev Fits : Draft → Type 0
-    Fits d = LimitsD (numbered Event) (numbered Note) value d
-
     below : (r : Role) (p : Place) → among (code p) (T r) ≡ true → numbered r p < room r
     below r p e = let h = position-below (code p) (T r) e in let g = few r in omega arith
 
-    literal-fits : (p : Place) → beyond OfLiteral (value p) ≡ false → value p ≤ literalLimit
-    literal-fits p e = ltb-false literalLimit (value p) e
+    name-fits : (n : Named) → Known T n → NameFits (numbered Event) (numbered Note) value n
+    name-fits (declared r p) h = tt
+    name-fits (used Event p) h = below Event p h
+    name-fits (used Note p) h = below Note p h
 
-    factor-fits : (f : Scale) → All Fine (scaleNumbers f) → (1 ≤ factorAt (numbered Event) (numbered Note) value f) × (factorAt (numbered Event) (numbered Note) value f ≤ factorLimit)
-    factor-fits Once h = (omega arith, omega arith)
-    factor-fits (Times p) h = go (eqb (value p) 0) refl (h .0)
-      where
-        go : (b : Bool) → eqb (value p) 0 ≡ b → cond b true (ltb factorLimit (value p)) ≡ false → (1 ≤ value p) × (value p ≤ factorLimit)
-        go true e f = let z : _≡_ {A = ℕ} 0 1 = cc in absurd (omega arith)
-        go false e f = (some-value (value p) (eqb-false (value p) 0 e), ltb-false factorLimit (value p) f)
-          where
-            some-value : (v : ℕ) → (v ≡ 0 → ⊥) → 1 ≤ v
-            some-value zero h = absurd (h refl)
-            some-value (suc v) h = omega arith
-
-    offset-fits : (o : Shift) → All Fine (shiftNumbers o) → natAbs (offsetAt (numbered Event) (numbered Note) value o) ≤ offsetLimit
-    offset-fits Unshifted h = omega arith
-    offset-fits (By Plus p) h = ltb-false offsetLimit (value p) (h .0)
-    offset-fits (By Minus p) h = rw natAbs-neg (ltb-false offsetLimit (value p) (h .0))
-
-    reference-fits : (n e : Place) (f : Scale) (o : Shift) → among (code n) (T Note) ≡ true → among (code e) (T Event) ≡ true → All Fine (scaleNumbers f) → All Fine (shiftNumbers o)
-        → LimitsR (referenceAt (numbered Event) (numbered Note) value n e (Grammar.index f o))
-    reference-fits n e f o a b h k =
-        record { event = below Event e b; note = below Note n a; least = factor-fits f h .0; factor = factor-fits f h .1; offset = offset-fits o k }
-
-    -- both sides of an operation, and its own frame
-    both : (xs ys : List Draft) (k : ℕ) → All Fits xs → All Fits ys → All Fits (xs ++ ys ++ plain k ∷ [])
-    both xs ys k p q = all-join Fits (xs ++ ys) (plain k ∷ []) (all-join Fits xs ys p q) (tt, tt)
-
-    abbrev Good : List Named → List Sized → List Draft → Type 0
-    Good ns vs ds = All (Known T) ns → All Fine vs → All Fits ds
-
-    two : (ns ns′ : List Named) (vs vs′ : List Sized) (ds ds′ : List Draft) (k : ℕ) → Good ns vs ds → Good ns′ vs′ ds′ → Good (ns ++ ns′) (vs ++ vs′) (ds ++ ds′ ++ plain k ∷ [])
-    two ns ns′ vs vs′ ds ds′ k p q a b =
-        both ds ds′ k (p (all-left (Known T) ns ns′ a) (all-left Fine vs vs′ b)) (q (all-right (Known T) ns ns′ a) (all-right Fine vs vs′ b))
-
-    one : (ns : List Named) (vs : List Sized) (ds : List Draft) (k : ℕ) → Good ns vs ds → Good ns vs (ds ++ plain k ∷ [])
-    one ns vs ds k p a b = all-join Fits ds (plain k ∷ []) (p a b) (tt, tt)
-
-    mutual
-      fits-sum : (x : Grammar.Sum) → Good (namesSum x) (numbersSum x) (framesSum x)
-      fits-sum (Grammar.a-prod x) = fits-prod x
-      fits-sum (Grammar.add x g y) = two (namesSum x) (namesProd y) (numbersSum x) (numbersProd y) (framesSum x) (framesProd y) _ (fits-sum x) (fits-prod y)
-
-      fits-prod : (x : Grammar.Prod) → Good (namesProd x) (numbersProd x) (framesProd x)
-      fits-prod (Grammar.a-factor x) = fits-factor x
-      fits-prod (Grammar.multiply x y) = two (namesProd x) (namesFactor y) (numbersProd x) (numbersFactor y) (framesProd x) (framesFactor y) _ (fits-prod x) (fits-factor y)
-
-      fits-factor : (x : Grammar.Factor) → Good (namesFactor x) (numbersFactor x) (framesFactor x)
-      fits-factor (Grammar.literal p) = λ a b. (literal-fits p (b .0), tt)
-      fits-factor Grammar.var = λ a b. (tt, tt)
-      fits-factor (Grammar.parens x) = fits-sum x
-      fits-factor (Grammar.absolute x) = one (namesSum x) (numbersSum x) (framesSum x) _ (fits-sum x)
-      fits-factor (Grammar.reference n e (Grammar.index f o)) =
-          λ a b. (reference-fits n e f o (a .0) (a .1 .0) (all-left Fine (scaleNumbers f) (shiftNumbers o) b) (all-right Fine (scaleNumbers f) (shiftNumbers o) b), tt)
-
-    mutual
-      fits-cond : (x : Grammar.Cond) → Good (namesCond x) (numbersCond x) (framesCond x)
-      fits-cond (Grammar.a-disj x) = fits-disj x
-      fits-cond (Grammar.implies x y) = two (namesDisj x) (namesCond y) (numbersDisj x) (numbersCond y) (framesDisj x) (framesCond y) _ (fits-disj x) (fits-cond y)
-
-      fits-disj : (x : Grammar.Disj) → Good (namesDisj x) (numbersDisj x) (framesDisj x)
-      fits-disj (Grammar.a-conj x) = fits-conj x
-      fits-disj (Grammar.or x y) = two (namesDisj x) (namesConj y) (numbersDisj x) (numbersConj y) (framesDisj x) (framesConj y) _ (fits-disj x) (fits-conj y)
-
-      fits-conj : (x : Grammar.Conj) → Good (namesConj x) (numbersConj x) (framesConj x)
-      fits-conj (Grammar.a-unit x) = fits-unit x
-      fits-conj (Grammar.and x y) = two (namesConj x) (namesUnit y) (numbersConj x) (numbersUnit y) (framesConj x) (framesUnit y) _ (fits-conj x) (fits-unit y)
-
-      fits-unit : (x : Grammar.CUnit) → Good (namesUnit x) (numbersUnit x) (framesUnit x)
-      fits-unit (Grammar.not x) = one (namesUnit x) (numbersUnit x) (framesUnit x) _ (fits-unit x)
-      fits-unit (Grammar.group x) = fits-cond x
-      fits-unit (Grammar.relation x c y) = two (namesSum x) (namesSum y) (numbersSum x) (numbersSum y) (framesSum x) (framesSum y) _ (fits-sum x) (fits-sum y)
-
-    pub fits-rule : (x : Grammar.Rule) → Good (names x) (numbers x) (frames x)
-    fits-rule (Grammar.rule e es n ns c) a b = fits-cond c (all-right (Known T) (declares Event (e ∷ es) ++ declares Note (n ∷ ns)) (namesCond c) a) b
+    fits-rule : (x : Rule) → All (Known T) (names x) → All (Fine value) (numbers x) → All (LimitsD (numbered Event) (numbered Note) value) (frames x)
+    fits-rule x a b =
+        all-flat (Known T) (Fine value) (LimitsD (numbered Event) (numbered Note) value) namesOf numbersOf
+        (λ d p q. (all-map (Known T) (NameFits (numbered Event) (numbered Note) value) (namesOf d) name-fits p, q))
+        (frames x) (all-right (Known T) (header x) (flat namesOf (frames x)) a) b
 
   -- where no name is bad and no number
-  pub frames-fit : (x : Grammar.Rule) → first-name code value [] (names x) ≡ none → first-number code value (numbers x) ≡ none
+  pub frames-fit : (x : Rule) → first-name code value [] (names x) ≡ none → first-number code value (numbers x) ≡ none
       → All (LimitsD (λ p. position (code p) (codes code value Event (names x))) (λ p. position (code p) (codes code value Note (names x))) value) (frames x)
   frames-fit x e f = fits-rule (λ r. codes code value r (names x)) (λ r. few-codes r [] (names x) (none-yet r) e) x (all-known [] (names x) e) (all-fine (numbers x) f)
     where

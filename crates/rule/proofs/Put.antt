@@ -4,8 +4,7 @@ use mathlib.Core.List.{List, [], _∷_}
 use lib.ListN.{replicate}
 use Rattle.rule.specs.Limits.{bufferBytes}
 use Rattle.rule.specs.Grammar.{Rule}
-use Rattle.rule.specs.Measure.{names}
-use Rattle.rule.specs.Draft.{frames}
+use Rattle.rule.specs.Measure.{frames, names}
 use Rattle.rule.specs.Memory.{put, fields, codeAt, valueAt}
 use Rattle.rule.specs.declared.parts.Role.the-variants.{Event, Note}
 use Rattle.rule.specs.declared.memory.Fields.{Fields}

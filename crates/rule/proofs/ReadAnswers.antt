@@ -12,8 +12,7 @@ use lib.ListN.{length, take}
 use Rattle.rule.specs.Token.{tokens}
 use Rattle.rule.specs.Grammar.{Rule, yield, words, Wrong-at}
 use Rattle.rule.specs.Tree.{postfix}
-use Rattle.rule.specs.Measure.{depth, names, numbers}
-use Rattle.rule.specs.Draft.{frames}
+use Rattle.rule.specs.Measure.{frames, depth, names, numbers}
 use Rattle.rule.proofs.Judge.{refused-by, read-as, first-name, first-number, after-number, after-name, outcome}
 use Rattle.rule.specs.Memory.{codeAt, valueAt}
 use Rattle.rule.specs.Check.{checkedOf}

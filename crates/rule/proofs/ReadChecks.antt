@@ -11,7 +11,7 @@ use Rattle.rule.specs.Limits.{frameBytes}
 use Rattle.rule.specs.Frames.{Bytes}
 use Rattle.rule.specs.Grammar.{Rule}
 use Rattle.rule.specs.Tree.{Cond, IsRule, references, parts, NoneExceeds}
-use Rattle.rule.specs.Draft.{frames}
+use Rattle.rule.specs.Measure.{frames}
 use Rattle.rule.specs.Check.{checkedOf}
 use Rattle.rule.proofs.Numbers.{numberOf}
 use Rattle.rule.specs.Opening.{Whole, Place, Opening, refused-9, refused-10, refused-7, refused-8, accepted, refused}

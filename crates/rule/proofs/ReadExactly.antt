@@ -11,7 +11,7 @@ use Rattle.rule.specs.Token.{tokens}
 use Rattle.rule.specs.Grammar.{Rule, yield, words}
 use Rattle.rule.specs.Tree.{postfix, bytesOf}
 use Rattle.rule.specs.Build.{treeOf}
-use Rattle.rule.specs.Draft.{frames}
+use Rattle.rule.specs.Measure.{frames}
 use Rattle.rule.specs.Meaning.{meaning}
 use Rattle.rule.specs.Reading.{readOf}
 use Rattle.rule.proofs.Put.{treeBytes}

@@ -9,8 +9,7 @@ use lib.ListN.{length, take, replicate}
 use borrow.Author.Tests.{le-ltb}
 use Rattle.rule.specs.Grammar.{Rule}
 use Rattle.rule.specs.Tree.{postfix, bytesOf}
-use Rattle.rule.specs.Measure.{depth}
-use Rattle.rule.specs.Draft.{frames}
+use Rattle.rule.specs.Measure.{frames, depth}
 use Rattle.rule.proofs.Judge.{Outcome, read-as, telling, outcome}
 use Rattle.rule.specs.Memory.{Mem, fresh, told, codeAt, valueAt, acts}
 use Rattle.rule.specs.Check.{checkedOf}

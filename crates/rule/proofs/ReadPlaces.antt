@@ -11,8 +11,7 @@ use borrow.Author.Tests.{lt-ltb}
 use Rattle.rule.specs.Token.{tokens}
 use Rattle.rule.specs.Grammar.{Rule, Wrong-at}
 use Rattle.rule.specs.Tree.{references, parts, NoneExceeds}
-use Rattle.rule.specs.Measure.{depth}
-use Rattle.rule.specs.Draft.{frames}
+use Rattle.rule.specs.Measure.{frames, depth}
 use Rattle.rule.proofs.Judge.{Outcome, refused-by, outcome}
 use Rattle.rule.specs.Memory.{codeAt, valueAt}
 use Rattle.rule.specs.Meaning.{meaning}

@@ -13,19 +13,19 @@ use Rattle.rule.specs.declared.parts.Place.{Place}
 use Rattle.rule.specs.declared.parts.Role.{Role}
 use Rattle.rule.specs.declared.parts.Role.the-variants.{Event, Note}
 use Rattle.rule.specs.declared.parts.Limit.{Limit}
-use Rattle.rule.specs.declared.parts.Scale.the-variants.{Once, Times}
-use Rattle.rule.specs.declared.parts.Shift.the-variants.{Unshifted, By}
-use Rattle.rule.specs.Grammar.{Index, index, Cond, a-disj, implies, Disj, a-conj, or, Conj, a-unit, and, CUnit, not, group, relation, Sum, a-prod, add, Prod, a-factor, multiply, Factor, literal, var, parens, absolute, reference, Rule, rule}
-use Rattle.rule.specs.Measure.{Named, declared, used, Sized, sized-by, depth, names, numbers}
-use Rattle.rule.specs.Draft.{Draft, frames}
-use Rattle.rule.specs.Machine.{Act, declare, uses, sized, enter, out, deeper}
-use Rattle.rule.proofs.Walk.{readIndex, readCond, readDisj, readConj, readUnit, readSum, readProd, readFactor, readNames, readRule}
+use Rattle.rule.specs.Grammar.{Rule, rule}
+use Rattle.rule.specs.Measure.{Named, declared, used, Sized, sized-by, namesOf, numbersOf, declares, depth, frames, names, numbers}
+use Rattle.rule.specs.Draft.{Draft}
+use Rattle.rule.specs.Items.{Item, enters, puts, itemsCond}
+use Rattle.rule.specs.Machine.{Act, declare, uses, sized, enter, out}
+use Rattle.rule.proofs.Walk.{readEach, readName, readNumber, readDraft, readItems, readRule}
+use Rattle.rule.proofs.Drafts.{All, Used, names-used}
+use Rattle.rule.proofs.Numbered.{no-place, codes-append}
 use Rattle.rule.proofs.Judge.{refused-by, read-as, telling, after-number, after-name, outcome, codes, bad-name, spot, first-name, first-number}
-use Rattle.rule.specs.Spelling.{same-role, room}
+use Rattle.rule.specs.Spelling.{room}
 use Rattle.rule.specs.Name.{longName}
 use Rattle.rule.specs.Memory.{Mem, fresh, table, enlist, first, blame, misnamed, remember, told, among, bad-number}
-use Rattle.rule.proofs.Measures.{note-frame, note-name, note-number, note-depth, frames-read, names-read, numbers-read}
-use Rattle.rule.proofs.Depth.{depth-read}
+use Rattle.rule.proofs.Measures.{note-frame, note-name, note-number, note-depth, frames-read, names-read, numbers-read, depth-read}
 
 abbrev pub Body : Act → Type 0
 Body (declare r p) = ⊥
@@ -34,55 +34,34 @@ Body (sized b p) = Unit
 Body (enter d) = Unit
 Body (out f) = Unit
 
--- what each act of a condition keeps, the reading of a condition keeps
+-- what each act of a condition keeps, the reading of its items keeps
 module _ (M L : Type 0) (act : Act → M → M) (log : Act → L → L) (R : M → L → Type 0) (keep : (a : Act) → Body a → (m : M) (l : L) → R m l → R (act a m) (log a l)) where
-  sim-index : (n e : Place) (x : Index) {m : M} {l : L} → R m l → R (readIndex M act n e x m) (readIndex L log n e x l)
-  sim-index n e (index Once Unshifted) r = keep _ tt _ _ r
-  sim-index n e (index Once (By g p)) r = keep _ tt _ _ (keep _ tt _ _ r)
-  sim-index n e (index (Times f) Unshifted) r = keep _ tt _ _ (keep _ tt _ _ r)
-  sim-index n e (index (Times f) (By g p)) r = keep _ tt _ _ (keep _ tt _ _ (keep _ tt _ _ r))
+  sim-numbers : (vs : List Sized) {m : M} {l : L} → R m l → R (readEach (readNumber M act) vs m) (readEach (readNumber L log) vs l)
+  sim-numbers [] r = r
+  sim-numbers (sized-by b p ∷ vs) r = sim-numbers vs (keep _ tt _ _ r)
 
-  mutual
-    pub sim-cond : (x : Cond) (d : ℕ) {m : M} {l : L} → R m l → R (readCond M act d x m) (readCond L log d x l)
-    sim-cond (a-disj x) d r = sim-disj x d r
-    sim-cond (implies x y) d r = keep _ tt _ _ (sim-cond y (deeper d) (keep _ tt _ _ (sim-disj x d r)))
+  sim-used : (ns : List Named) → All Used ns → {m : M} {l : L} → R m l → R (readEach (readName M act) ns m) (readEach (readName L log) ns l)
+  sim-used [] u r = r
+  sim-used (declared q p ∷ ns) u r = absurd (u .0)
+  sim-used (used q p ∷ ns) u r = sim-used ns (u .1) (keep _ tt _ _ r)
 
-    sim-disj : (x : Disj) (d : ℕ) {m : M} {l : L} → R m l → R (readDisj M act d x m) (readDisj L log d x l)
-    sim-disj (a-conj x) d r = sim-conj x d r
-    sim-disj (or x y) d r = keep _ tt _ _ (sim-conj y d (sim-disj x d r))
+  sim-draft : (f : Draft) {m : M} {l : L} → R m l → R (readDraft M act f m) (readDraft L log f l)
+  sim-draft f r = keep _ tt _ _ (sim-numbers (numbersOf f) (sim-used (namesOf f) (names-used f) r))
 
-    sim-conj : (x : Conj) (d : ℕ) {m : M} {l : L} → R m l → R (readConj M act d x m) (readConj L log d x l)
-    sim-conj (a-unit x) d r = sim-unit x d r
-    sim-conj (and x y) d r = keep _ tt _ _ (sim-unit y d (sim-conj x d r))
-
-    sim-unit : (x : CUnit) (d : ℕ) {m : M} {l : L} → R m l → R (readUnit M act d x m) (readUnit L log d x l)
-    sim-unit (not x) d r = keep _ tt _ _ (sim-unit x (deeper d) (keep _ tt _ _ r))
-    sim-unit (group x) d r = sim-cond x (deeper d) (keep _ tt _ _ r)
-    sim-unit (relation x c y) d r = keep _ tt _ _ (sim-sum y d (sim-sum x d r))
-
-    sim-sum : (x : Sum) (d : ℕ) {m : M} {l : L} → R m l → R (readSum M act d x m) (readSum L log d x l)
-    sim-sum (a-prod x) d r = sim-prod x d r
-    sim-sum (add x g y) d r = keep _ tt _ _ (sim-prod y d (sim-sum x d r))
-
-    sim-prod : (x : Prod) (d : ℕ) {m : M} {l : L} → R m l → R (readProd M act d x m) (readProd L log d x l)
-    sim-prod (a-factor x) d r = sim-factor x d r
-    sim-prod (multiply x y) d r = keep _ tt _ _ (sim-factor y d (sim-prod x d r))
-
-    sim-factor : (x : Factor) (d : ℕ) {m : M} {l : L} → R m l → R (readFactor M act d x m) (readFactor L log d x l)
-    sim-factor (literal p) d r = keep _ tt _ _ (keep _ tt _ _ r)
-    sim-factor var d r = keep _ tt _ _ r
-    sim-factor (parens x) d r = sim-sum x (deeper d) (keep _ tt _ _ r)
-    sim-factor (absolute x) d r = keep _ tt _ _ (sim-sum x (deeper d) (keep _ tt _ _ r))
-    sim-factor (reference n e x) d r = sim-index n e x (keep _ tt _ _ (keep _ tt _ _ r))
+  pub sim-items : (is : List Item) (d : ℕ) {m : M} {l : L} → R m l → R (readItems M act d is m) (readItems L log d is l)
+  sim-items [] d r = r
+  sim-items (enters k ∷ is) d r = sim-items is d (keep _ tt _ _ r)
+  sim-items (puts f ∷ is) d r = sim-items is d (sim-draft f r)
 
 -- what each act keeps, a reading keeps
 module _ (M L : Type 0) (act : Act → M → M) (log : Act → L → L) (R : M → L → Type 0) (keep : (a : Act) (m : M) (l : L) → R m l → R (act a m) (log a l)) where
-  sim-names : (q : Role) (ps : List Place) {m : M} {l : L} → R m l → R (readNames M act q ps m) (readNames L log q ps l)
-  sim-names q [] r = r
-  sim-names q (p ∷ ps) r = sim-names q ps (keep _ _ _ r)
+  sim-names : (ns : List Named) {m : M} {l : L} → R m l → R (readEach (readName M act) ns m) (readEach (readName L log) ns l)
+  sim-names [] r = r
+  sim-names (declared q p ∷ ns) r = sim-names ns (keep _ _ _ r)
+  sim-names (used q p ∷ ns) r = sim-names ns (keep _ _ _ r)
 
   pub simulate : (x : Rule) {m : M} {l : L} → R m l → R (readRule M act x m) (readRule L log x l)
-  simulate (rule e es n ns c) r = sim-cond M L act log R (λ a b. keep a) c 0 (sim-names Note ns (keep _ _ _ (sim-names Event es (keep _ _ _ r))))
+  simulate (rule e es n ns c) r = sim-items M L act log R (λ a b. keep a) (itemsCond c) 0 (sim-names (declares Note (n ∷ ns)) (sim-names (declares Event (e ∷ es)) r))
 
 -- ---- a field that an act on names leaves
 pub untouched : (A : Type 0) (field : Mem → A) (r : Role) (p : Place) (c : ℕ) (m : Mem) → field (blame p m) ≡ field m → field (enlist r c m) ≡ field m → (b : Bool) → field (cond b (blame p m) (enlist r c m)) ≡ field m
@@ -194,26 +173,9 @@ module _ (code value : Place → ℕ) where
       go true ih = refl
       go false ih = ih
 
-  codes-snoc : (r : Role) (l : List Named) (x : Named) → codes code value r (l ++ x ∷ []) ≡ codes code value r l ++ codes code value r (x ∷ [])
-  codes-snoc r [] x = refl
-  codes-snoc r (used q p ∷ l) x = codes-snoc r l x
-  codes-snoc r (declared q p ∷ l) x = go (same-role r q) (codes-snoc r l x)
-    where
-      go : (b : Bool) → codes code value r (l ++ x ∷ []) ≡ codes code value r l ++ codes code value r (x ∷ [])
-          → cond b (code p ∷ codes code value r (l ++ x ∷ [])) (codes code value r (l ++ x ∷ [])) ≡ cond b (code p ∷ codes code value r l) (codes code value r l) ++ codes code value r (x ∷ [])
-      go true ih = ap (λ z. code p ∷ z) ih
-      go false ih = ih
-
   pub record Listed (m : Mem) (l : List Named) : Type 0 where
     pub first-is : m .name ≡ spot1 (first-name code value [] l)
     pub tables : first-name code value [] l ≡ none → (m .events ≡ codes code value Event l) × (m .notes ≡ codes code value Note l)
-
-  no-some : {p : Place} → _≡_ {A = Option Place} (some p) none → ⊥
-  no-some e = subst Is e tt
-    where
-      Is : Option Place → Type 0
-      Is (some p) = Unit {0}
-      Is none = ⊥
 
   table-is : (r : Role) (m : Mem) (l : List Named) → (m .events ≡ codes code value Event l) × (m .notes ≡ codes code value Note l) → table r m ≡ codes code value r l
   table-is Event m l t = t .0
@@ -228,24 +190,24 @@ module _ (code value : Place → ℕ) where
 
   enlisted : (r : Role) (p : Place) (m : Mem) (l : List Named) → (m .events ≡ codes code value Event l) × (m .notes ≡ codes code value Note l)
       → (enlist r (code p) m .events ≡ codes code value Event (l ++ declared r p ∷ [])) × (enlist r (code p) m .notes ≡ codes code value Note (l ++ declared r p ∷ []))
-  enlisted Event p m l t = (rw (codes-snoc Event l (declared Event p), t .0), rw (codes-snoc Note l (declared Event p), t .1) (sym (append-nil (codes code value Note l))))
-  enlisted Note p m l t = (rw (codes-snoc Event l (declared Note p), t .0) (sym (append-nil (codes code value Event l))), rw (codes-snoc Note l (declared Note p), t .1))
+  enlisted Event p m l t = (rw (codes-append code value Event l (declared Event p ∷ []), t .0), rw (codes-append code value Note l (declared Event p ∷ []), t .1) (sym (append-nil (codes code value Note l))))
+  enlisted Note p m l t = (rw (codes-append code value Event l (declared Note p ∷ []), t .0) (sym (append-nil (codes code value Event l))), rw (codes-append code value Note l (declared Note p ∷ []), t .1))
 
   used-same : (r q : Role) (p : Place) (l : List Named) → codes code value r (l ++ used q p ∷ []) ≡ codes code value r l
-  used-same r q p l = codes-snoc r l (used q p) ∙ append-nil (codes code value r l)
+  used-same r q p l = codes-append code value r l (used q p ∷ []) ∙ append-nil (codes code value r l)
 
   declare-kept : (r : Role) (p : Place) (m : Mem) (l : List Named) → Listed m l → (o : Option Place) → first-name code value [] l ≡ o → (b : Bool) → misnamed code value r p m ≡ b
       → Listed (cond b (blame p m) (enlist r (code p) m)) (l ++ declared r p ∷ [])
   declare-kept r p m l h (some q) e true f =
       let z : first-name code value [] (l ++ declared r p ∷ []) ≡ some q = rw (name-snoc [] l (declared r p), e) in
-      record { first-is = rw (z, h .first-is, e) (blamed-once q p); tables = λ y. absurd (no-some (sym z ∙ y)) }
+      record { first-is = rw (z, h .first-is, e) (blamed-once q p); tables = λ y. absurd (no-place (sym z ∙ y)) }
   declare-kept r p m l h (some q) e false f =
       let z : first-name code value [] (l ++ declared r p ∷ []) ≡ some q = rw (name-snoc [] l (declared r p), e) in
-      record { first-is = enlist-name r (code p) m ∙ (h .first-is ∙ (ap (λ x. spot1 x) e ∙ sym (ap (λ x. spot1 x) z))); tables = λ y. absurd (no-some (sym z ∙ y)) }
+      record { first-is = enlist-name r (code p) m ∙ (h .first-is ∙ (ap (λ x. spot1 x) e ∙ sym (ap (λ x. spot1 x) z))); tables = λ y. absurd (no-place (sym z ∙ y)) }
   declare-kept r p m l h none e true f =
       let bad : bad-name code value l (declared r p) ≡ true = subst (λ (x : List ℕ). cond (leb longName (code p)) true (cond (among (code p) x) true (leb (room r) (length x))) ≡ true) (table-is r m l (h .tables e)) f in
       let z : first-name code value [] (l ++ declared r p ∷ []) ≡ some p = rw (name-snoc [] l (declared r p), e, bad) in
-      record { first-is = rw (z, h .first-is, e); tables = λ y. absurd (no-some (sym z ∙ y)) }
+      record { first-is = rw (z, h .first-is, e); tables = λ y. absurd (no-place (sym z ∙ y)) }
   declare-kept r p m l h none e false f =
       let bad : bad-name code value l (declared r p) ≡ false = subst (λ (x : List ℕ). cond (leb longName (code p)) true (cond (among (code p) x) true (leb (room r) (length x))) ≡ false) (table-is r m l (h .tables e)) f in
       let z : first-name code value [] (l ++ declared r p ∷ []) ≡ none = rw (name-snoc [] l (declared r p), e, bad) in
@@ -255,10 +217,10 @@ module _ (code value : Place → ℕ) where
       → Listed (cond b m (blame p m)) (l ++ used r p ∷ [])
   use-kept r p m l h (some q) e true f =
       let z : first-name code value [] (l ++ used r p ∷ []) ≡ some q = rw (name-snoc [] l (used r p), e) in
-      record { first-is = rw (z, h .first-is, e); tables = λ y. absurd (no-some (sym z ∙ y)) }
+      record { first-is = rw (z, h .first-is, e); tables = λ y. absurd (no-place (sym z ∙ y)) }
   use-kept r p m l h (some q) e false f =
       let z : first-name code value [] (l ++ used r p ∷ []) ≡ some q = rw (name-snoc [] l (used r p), e) in
-      record { first-is = rw (z, h .first-is, e) (blamed-once q p); tables = λ y. absurd (no-some (sym z ∙ y)) }
+      record { first-is = rw (z, h .first-is, e) (blamed-once q p); tables = λ y. absurd (no-place (sym z ∙ y)) }
   use-kept r p m l h none e true f =
       let found : among (code p) (codes code value r l) ≡ true = subst (λ (x : List ℕ). among (code p) x ≡ true) (table-is r m l (h .tables e)) f in
       let z : first-name code value [] (l ++ used r p ∷ []) ≡ none = rw (name-snoc [] l (used r p), e, found) in
@@ -266,7 +228,7 @@ module _ (code value : Place → ℕ) where
   use-kept r p m l h none e false f =
       let missed : among (code p) (codes code value r l) ≡ false = subst (λ (x : List ℕ). among (code p) x ≡ false) (table-is r m l (h .tables e)) f in
       let z : first-name code value [] (l ++ used r p ∷ []) ≡ some p = rw (name-snoc [] l (used r p), e, missed) in
-      record { first-is = rw (z, h .first-is, e); tables = λ y. absurd (no-some (sym z ∙ y)) }
+      record { first-is = rw (z, h .first-is, e); tables = λ y. absurd (no-place (sym z ∙ y)) }
 
   name-kept : (a : Act) (m : Mem) (l : List Named) → Listed m l → Listed (remember code value a m) (note-name a l)
   name-kept (declare r p) m l h = declare-kept r p m l h (first-name code value [] l) refl (misnamed code value r p m) refl

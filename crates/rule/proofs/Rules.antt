@@ -18,12 +18,15 @@ module _ (M : Type 0) (act : Act → M → M) (n : ℕ) (m : M) where
   pub taken : (x : Rule) (ts : List Token) → yield x ≡ words ts → run M act n start m ts ≡ accepted (readRule M act x m)
   taken x ts e = accepts M act n ts (subst (λ (ws : List Word). Gen M act start m ws (readRule M act x m)) e (genRule M act x)) (good-start M act)
 
+  one-memory : {a b : M} → _≡_ {A = Answer M} (accepted a) (accepted b) → a ≡ b
+  one-memory e = cc
+
   abbrev Says-rule : List Token → Answer M → Type 0
   Says-rule ts (accepted m′) = (x : Rule) × (yield x ≡ words ts) × (m′ ≡ readRule M act x m)
   Says-rule ts (refused p) = Wrong-at n ts p
 
   begins : (ts : List Token) → Begins M act start m ts → Begins-rule ts
-  begins ts (ws, m′, g) = let (x, e, r) = ruled M act g in (x, ws, e)
+  begins ts (ws, m′, g) = let (x, e) = ruled M act g in (x, ws, e)
 
   begins-back : (ts : List Token) → Begins-rule ts → Begins M act start m ts
   begins-back ts (x, ws, e) = (ws, readRule M act x m, subst (λ (v : List Word). Gen M act start m v (readRule M act x m)) e (genRule M act x))
@@ -34,10 +37,10 @@ module _ (M : Type 0) (act : Act → M → M) (n : ℕ) (m : M) where
 
   wrong-back : {ts : List Token} {p : ℕ} → Wrong-at n ts p → Wrong M act n start m ts p
   wrong-back (Grammar.at-token us t vs y z) = Machines.at-token us t vs (begins-back us y) (λ b. z (begins (us ++ t ∷ []) b))
-  wrong-back (Grammar.at-end ts y z) = Machines.at-end ts (begins-back ts y) (λ (m′, g). let (x, e, r) = ruled M act g in z (x, e))
+  wrong-back (Grammar.at-end ts y z) = Machines.at-end ts (begins-back ts y) (λ (m′, g). z (ruled M act g))
 
   as-rule : (ts : List Token) (a : Answer M) → Says M act n start m ts a → Says-rule ts a
-  as-rule ts (accepted m′) g = ruled M act g
+  as-rule ts (accepted m′) g = let (x, e) = ruled M act g in (x, e, one-memory (sym (accepts M act n ts g (good-start M act)) ∙ taken x ts e))
   as-rule ts (refused p) w = wrong w
 
   says : (ts : List Token) (a : Answer M) → run M act n start m ts ≡ a → Says-rule ts a
@@ -49,10 +52,7 @@ module _ (M : Type 0) (act : Act → M → M) (n : ℕ) (m : M) where
 
   -- Unambiguous: two trees that spell the same tokens are read alike.
   pub alike : (x y : Rule) (ts : List Token) → yield x ≡ words ts → yield y ≡ words ts → readRule M act x m ≡ readRule M act y m
-  alike x y ts e f = inj (sym (taken x ts e) ∙ taken y ts f)
-    where
-      inj : {a b : M} → _≡_ {A = Answer M} (accepted a) (accepted b) → a ≡ b
-      inj e = cc
+  alike x y ts e f = one-memory (sym (taken x ts e) ∙ taken y ts f)
 
   -- 3. The place: refused at p exactly if p is the place of the first token that with those before it begins no rule, or n if the tokens begin one and are none.
   pub refused-at : (ts : List Token) (p : ℕ) → (run M act n start m ts ≡ refused p) ↔ Wrong-at n ts p

@@ -4,45 +4,24 @@ use mathlib.Core.Bool.{Bool, true, false, cond}
 use mathlib.Core.List.{List, [], _∷_, List·Memᴰ}
 use Prim.Native.Nat.{ℕ, zero, suc}
 use native.Mathlib.Omega.{arith}
-use borrow.Author.Tests.{eqb-true}
 use lib.Dec.{eqb}
 use Rattle.rule.specs.Class.{digit, Letters, OfClass}
 use Rattle.rule.specs.Token.{endKind, nameKind, numberKind, tokenAt, spelling, tokensIn, tokensFrom, tokens}
-use Rattle.rule.specs.Grammar.{mark, name, number, place, words, Rule, yield}
-use Rattle.rule.specs.Measure.{names, numbers}
+use Rattle.rule.specs.Grammar.{place, words, Rule, yield}
+use Rattle.rule.specs.Measure.{Named, declared, used, names, Sized, sized-by, numbers}
+use Rattle.rule.specs.Machine.{Act, declare, uses, sized, enter, out, start}
 use Rattle.rule.specs.declared.Token.{Token}
 use Rattle.rule.specs.declared.parts.Place.{Place}
 use Rattle.rule.proofs.Runs.{word-letters, number-digits}
 use Rattle.rule.proofs.Runs as runs
 use Rattle.rule.specs.Spelling.{TokenOf, nameAt, numberAt, letters}
-use Rattle.rule.proofs.Drafts.{All}
-use Rattle.rule.proofs.SpellLists.{all-in, all-map, all-own, all-each}
-use Rattle.rule.proofs.SpellWords.{namesIn, numbersIn, names-spelled, numbers-spelled}
-
--- ---- the name words of tokens are at the name tokens, the number words at the number tokens
-module _ (P : Place → Type 0) where
-  all-names : (ts : List Token) → All (λ t. t .kind ≡ nameKind → P (place t)) ts → All P (namesIn (words ts))
-  all-names [] h = tt
-  all-names (t ∷ ts) h = go (eqb (t .kind) 1) (eqb (t .kind) 2) refl (all-names ts (h .1))
-    where
-      go : (x y : Bool) → eqb (t .kind) 1 ≡ x → All P (namesIn (words ts)) → All P (namesIn (cond x (name (place t)) (cond y (number (place t)) (mark (t .kind))) ∷ words ts))
-      go true y e ih = (h .0 (eqb-true _ _ e), ih)
-      go false true e ih = ih
-      go false false e ih = ih
-
-  all-numbers : (ts : List Token) → All (λ t. t .kind ≡ numberKind → P (place t)) ts → All P (numbersIn (words ts))
-  all-numbers [] h = tt
-  all-numbers (t ∷ ts) h = go (eqb (t .kind) 1) (eqb (t .kind) 2) refl (all-numbers ts (h .1))
-    where
-      go : (x y : Bool) → eqb (t .kind) 2 ≡ y → All P (numbersIn (words ts)) → All P (numbersIn (cond x (name (place t)) (cond y (number (place t)) (mark (t .kind))) ∷ words ts))
-      go true y e ih = ih
-      go false true e ih = (h .0 (eqb-true _ _ e), ih)
-      go false false e ih = ih
+use Rattle.rule.proofs.Drafts.{All, all-join}
+use Rattle.rule.proofs.SpellLists.{all-in, all-map, all-own}
+use Rattle.rule.proofs.Measures.{note-name, note-number, names-read, numbers-read}
+use Rattle.rule.proofs.Rules.{taken}
+use Rattle.rule.proofs.Keeps.{At, Holds, Keeper, run-keeps}
 
 module _ (text : List ℕ) where
-  owned : (k : ℕ) → All (λ t. t .kind ≡ k → TokenOf text k (place t)) (tokens text)
-  owned k = all-map (λ t. List·Memᴰ t (tokens text)) (λ t. t .kind ≡ k → TokenOf text k (place t)) (tokens text) (λ t i e. record { token = t; listed = i; kind = e; placed = refl }) (all-own (tokens text))
-
   -- ---- a token of the text is the next one from some place on
   abbrev Found : Token → Type 0
   Found t = (at : ℕ) × (t ≡ tokenAt text at)
@@ -72,13 +51,42 @@ module _ (text : List ℕ) where
       let (at, e) = all-in Found (q .listed) found in
       subst (λ (z : Place). OfClass digit (letters text z)) (ap place (sym e) ∙ q .placed) (number-digits text at (ap (λ (t : Token). t .kind) (sym e) ∙ q .kind))
 
-  module _ (x : Rule) (y : yield x ≡ words (tokens text)) where
-    -- a tree's names stand at name tokens, its numbers at number tokens
-    pub names-tokens : All (λ n. TokenOf text nameKind (nameAt n)) (names x)
-    names-tokens = all-each nameAt (TokenOf text nameKind) (names x) (subst (λ (l : List Place). All (TokenOf text nameKind) l) (ap namesIn (sym y) ∙ names-spelled x) (all-names (TokenOf text nameKind) (tokens text) (owned nameKind)))
+  -- the place of a name, of a number
+  abbrev Of-name : Named → Type 0
+  Of-name n = TokenOf text nameKind (nameAt n)
 
-    pub numbers-tokens : All (λ n. TokenOf text numberKind (numberAt n)) (numbers x)
-    numbers-tokens = all-each numberAt (TokenOf text numberKind) (numbers x) (subst (λ (l : List Place). All (TokenOf text numberKind) l) (ap numbersIn (sym y) ∙ numbers-spelled x) (all-numbers (TokenOf text numberKind) (tokens text) (owned numberKind)))
+  abbrev Of-number : Sized → Type 0
+  Of-number n = TokenOf text numberKind (numberAt n)
+
+  module _ (x : Rule) (y : yield x ≡ words (tokens text)) where
+    -- a tree's names stand at name tokens, its numbers at number tokens: so they do after each token that the machine takes
+    pub names-tokens : All Of-name (names x)
+    names-tokens = subst (All Of-name) (names-read x) (subst (Holds (List Named) note-name (All Of-name) (λ p. Unit)) (taken (List Named) note-name 0 [] x (tokens text) y)
+        (run-keeps (List Named) note-name (All Of-name) 0 (λ p. Unit) tt (λ f l h. h) (tokens text) (all-map _ _ (tokens text) keeper (all-own (tokens text))) start [] tt tt))
+      where
+        keeper : (t : Token) → List·Memᴰ t (tokens text) → Keeper (List Named) note-name (All Of-name) (λ p. Unit) t
+        keeper t i = (tt, λ a. keep a)
+          where
+            keep : (a : Act) → At (t .kind) (place t) a → (l : List Named) → All Of-name l → All Of-name (note-name a l)
+            keep (declare r p) h l k = all-join Of-name l (declared r p ∷ []) k (record { token = t; listed = i; kind = h .0; placed = sym (h .1) }, tt)
+            keep (uses r p) h l k = all-join Of-name l (used r p ∷ []) k (record { token = t; listed = i; kind = h .0; placed = sym (h .1) }, tt)
+            keep (sized b p) h l k = k
+            keep (enter d) h l k = k
+            keep (out f) h l k = k
+
+    pub numbers-tokens : All Of-number (numbers x)
+    numbers-tokens = subst (All Of-number) (numbers-read x) (subst (Holds (List Sized) note-number (All Of-number) (λ p. Unit)) (taken (List Sized) note-number 0 [] x (tokens text) y)
+        (run-keeps (List Sized) note-number (All Of-number) 0 (λ p. Unit) tt (λ f l h. h) (tokens text) (all-map _ _ (tokens text) keeper (all-own (tokens text))) start [] tt tt))
+      where
+        keeper : (t : Token) → List·Memᴰ t (tokens text) → Keeper (List Sized) note-number (All Of-number) (λ p. Unit) t
+        keeper t i = (tt, λ a. keep a)
+          where
+            keep : (a : Act) → At (t .kind) (place t) a → (l : List Sized) → All Of-number l → All Of-number (note-number a l)
+            keep (declare r p) h l k = k
+            keep (uses r p) h l k = k
+            keep (sized b p) h l k = all-join Of-number l (sized-by b p ∷ []) k (record { token = t; listed = i; kind = h .0; placed = sym (h .1) }, tt)
+            keep (enter d) h l k = k
+            keep (out f) h l k = k
 
     -- so the names are letters, the numbers digits
     pub names-lettered : All (λ n. Letters (letters text (nameAt n))) (names x)

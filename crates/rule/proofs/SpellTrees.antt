@@ -1,230 +1,236 @@
--- A text is spelled by one tree only: two trees of one text have one shape (proofs/SpellShapes), and of one shape the words tell
--- "!" from "{" and "abs" from "(". Assumes nothing.
+-- A text is spelled by one tree only: two trees of one text have one shape, and a tree is read back from its shape and its words,
+-- which tell "!" from "{" and "abs" from "(". Assumes nothing.
 use mathlib.Core.Path.{_≡_, refl, ap, ap₂, sym, _∙_}
-use mathlib.Core.Bool.{cond}
+use mathlib.Core.Bool.{false, cond}
 use mathlib.Core.List.{List, [], _∷_}
-use Prim.Native.Nat.{ℕ, _≤_}
+use Prim.Native.Nat.{ℕ}
 use native.Mathlib.Omega.{arith}
-use lib.Dec.{eqb, leb}
+use lib.Dec.{eqb}
 use Rattle.rule.specs.declared.Token.{Token}
 use Rattle.rule.specs.declared.parts.Place.{Place}
-use Rattle.rule.specs.declared.parts.Sign.{Sign}
 use Rattle.rule.specs.declared.parts.Sign.the-variants.{Plus, Minus}
 use Rattle.rule.specs.declared.parts.Scale.{Scale}
 use Rattle.rule.specs.declared.parts.Scale.the-variants.{Once, Times}
 use Rattle.rule.specs.declared.parts.Shift.{Shift}
 use Rattle.rule.specs.declared.parts.Shift.the-variants.{Unshifted, By}
-use Rattle.rule.specs.Grammar.{Word, mark, Rel, equal, unequal, less, at-most, more, at-least, relMark, signMark, spellScale, spellShift, spellCond, spellDisj, spellConj, spellUnit, spellSum, spellProd, spellFactor, spellNames, yield, words, index, Cond, a-disj, implies, Disj, a-conj, or, Conj, a-unit, and, CUnit, not, group, relation, Sum, a-prod, add, Prod, a-factor, multiply, Factor, literal, var, parens, absolute, reference, Rule, rule}
-use Rattle.rule.specs.Measure.{depth}
-use Rattle.rule.specs.Draft.{relKind, signKind}
-use Rattle.rule.proofs.SpellShapes.{Shape, leaf, one, two, shapeCond, shapeDisj, shapeConj, shapeUnit, shapeSum, shapeProd, shapeFactor, shapeRule, shape-same}
+use Rattle.rule.specs.Frames.{Connective}
+use Rattle.rule.specs.Token.{arrowKind, barsKind, ampersandsKind}
+use Rattle.rule.specs.Grammar.{semicolon, bang, closeBrace, openParen, closeParen, closeBracket, star, plusMark, minusMark}
+use Rattle.rule.specs.Grammar.{Word, mark, name, number, Rel, equal, unequal, less, at-most, more, at-least, relMark, rels, signMark, signs, byMark, spellCond, spellDisj, spellConj, spellUnit, spellSum, spellProd, spellFactor, spellNames, yield, words}
+use Rattle.rule.specs.Grammar.{index, Cond, a-disj, implies, Disj, a-conj, or, Conj, a-unit, and, CUnit, not, group, relation, Sum, a-prod, add, Prod, a-factor, multiply, Factor, literal, var, parens, absolute, reference, Rule, rule}
+use Rattle.rule.specs.Tree
+use Rattle.rule.specs.Draft.{Draft}
+use Rattle.rule.specs.Measure.{depth, frames}
+use Rattle.rule.specs.Meaning.{meaningCond, meaningDisj, meaningConj, meaningUnit, meaningSum, meaningProd, meaningFactor, meaningOf}
+use Rattle.rule.proofs.Put.{each}
+use Rattle.rule.proofs.Rules.{alike}
+use Rattle.rule.proofs.Measures.{note-frame, frames-read}
+use Rattle.rule.proofs.Drafts.{frameOf}
+use Rattle.rule.proofs.Means.{postfix-frames}
+use Rattle.rule.proofs.Parse.{unique}
+use Rattle.rule.proofs.SpellTurn.{turnCond, turnDisj, turnConj, turnUnit, turnSum, turnProd, turnFactor, turn, turnedTokens, spells-turned}
 
--- ---- the shape says which line of the grammar a part has: a lower number binds closer
-abbrev rank : Shape → ℕ
-rank (leaf d) = 0
-rank (one k a) = cond (eqb k 0x14) 0 3
-rank (two k a b) = cond (eqb k 0x13) 1 (cond (leb k 0x12) 2 (cond (eqb k 0x32) 4 (cond (eqb k 0x33) 5 (cond (eqb k 0x34) 6 3))))
+-- ---- the shape of a tree: what the turned tree means, with 0 for every name and number
+abbrev blank : Place → ℕ
+blank p = 0
 
-rank-rel : (c : Rel) (a b : Shape) → rank (two (relKind c) a b) ≡ 3
-rank-rel equal a b = refl
-rank-rel unequal a b = refl
-rank-rel less a b = refl
-rank-rel at-most a b = refl
-rank-rel more a b = refl
-rank-rel at-least a b = refl
+abbrev shapeCond : Cond → Tree.Cond
+shapeCond x = meaningCond blank blank blank (turnCond x)
 
-rank-sign : (g : Sign) (a b : Shape) → rank (two (signKind g) a b) ≡ 2
-rank-sign Plus a b = refl
-rank-sign Minus a b = refl
+abbrev shapeDisj : Disj → Tree.Cond
+shapeDisj x = meaningDisj blank blank blank (turnDisj x)
 
-rank-factor : (x : Factor) → rank (shapeFactor x) ≡ 0
-rank-factor (literal p) = refl
-rank-factor var = refl
-rank-factor (parens x) = refl
-rank-factor (absolute x) = refl
-rank-factor (reference n e (index f o)) = refl
+abbrev shapeConj : Conj → Tree.Cond
+shapeConj x = meaningConj blank blank blank (turnConj x)
 
-rank-prod : (x : Prod) → rank (shapeProd x) ≤ 1
-rank-prod (a-factor x) = omega (arith, rank-factor x)
-rank-prod (multiply x y) = omega arith
+abbrev shapeUnit : CUnit → Tree.Cond
+shapeUnit x = meaningUnit blank blank blank (turnUnit x)
 
-rank-unit : (x : CUnit) → rank (shapeUnit x) ≡ 3
-rank-unit (not x) = refl
-rank-unit (group x) = refl
-rank-unit (relation x c y) = rank-rel c (shapeSum x) (shapeSum y)
+abbrev shapeSum : Sum → Tree.Sum
+shapeSum x = meaningSum blank blank blank (turnSum x)
 
-rank-conj : (x : Conj) → rank (shapeConj x) ≤ 4
-rank-conj (a-unit x) = omega (arith, rank-unit x)
-rank-conj (and x y) = omega arith
+abbrev shapeProd : Prod → Tree.Sum
+shapeProd x = meaningProd blank blank blank (turnProd x)
 
-rank-disj : (x : Disj) → rank (shapeDisj x) ≤ 5
-rank-disj (a-conj x) = omega (arith, rank-conj x)
-rank-disj (or x y) = omega arith
+abbrev shapeFactor : Factor → Tree.Sum
+shapeFactor x = meaningFactor blank blank blank (turnFactor x)
 
--- ---- of one shape, the words tell the tree
--- the relation and the sign that a mark is
-abbrev relOf : ℕ → Rel
-relOf k = cond (eqb k 61) equal (cond (eqb k 133) unequal (cond (eqb k 60) less (cond (eqb k 134) at-most (cond (eqb k 62) more at-least))))
+abbrev shape : Rule → Tree.Cond
+shape x = meaningOf blank blank blank (turn x)
 
-rel-of : (c : Rel) → relOf (relMark c) ≡ c
-rel-of equal = refl
-rel-of unequal = refl
-rel-of less = refl
-rel-of at-most = refl
-rel-of more = refl
-rel-of at-least = refl
+-- two trees of one text have the same, since the frames of the turned trees are the same
+shape-same : (x y : Rule) (ts : List Token) → yield x ≡ words ts → yield y ≡ words ts → shape x ≡ shape y
+shape-same x y ts e f =
+    let both = alike (List Draft) note-frame 0 [] (turn x) (turn y) (turnedTokens false ts) (spells-turned x ts e) (spells-turned y ts f) in
+    let same : frames (turn x) ≡ frames (turn y) = sym (frames-read (turn x)) ∙ (both ∙ frames-read (turn y)) in
+    unique (shape x) (shape y) (postfix-frames blank blank blank (turn x) ∙ (ap (each (frameOf blank blank blank)) same ∙ sym (postfix-frames blank blank blank (turn y))))
 
-abbrev signOf : ℕ → Sign
-signOf k = cond (eqb k 43) Plus Minus
+-- ---- a tree is read back from its shape and its words: each function gives the tree, and the words after it
+abbrev rest : List Word → List Word
+rest [] = []
+rest (w ∷ ws) = ws
 
-sign-of : (g : Sign) → signOf (signMark g) ≡ g
-sign-of Plus = refl
-sign-of Minus = refl
+-- the place of the first word, 0 for a mark or for none
+abbrev placeIn : List Word → Place
+placeIn [] = record { start = 0; end = 0 }
+placeIn (mark k ∷ ws) = record { start = 0; end = 0 }
+placeIn (name p ∷ ws) = p
+placeIn (number p ∷ ws) = p
 
--- two words at the front of the same words are the same, and so is the rest
+-- the kind of the first word, 0 for a name or a number or for none
+abbrev markIn : List Word → ℕ
+markIn [] = 0
+markIn (mark k ∷ ws) = k
+markIn (name p ∷ ws) = 0
+markIn (number p ∷ ws) = 0
+
+abbrev scaleIn : List Word → Scale × List Word
+scaleIn [] = (Once, [])
+scaleIn (mark k ∷ ws) = (Once, mark k ∷ ws)
+scaleIn (name p ∷ ws) = (Once, ws)
+scaleIn (number p ∷ ws) = (Times p, rest ws)
+
+abbrev shiftIn : List Word → Shift × List Word
+shiftIn ws = cond (eqb (markIn ws) closeBracket) (Unshifted, ws) (By (byMark signMark (markIn ws) (λ g. g) Plus signs) (placeIn (rest ws)), rest (rest ws))
+
+abbrev leaf : Factor → Sum
+leaf x = a-prod (a-factor x)
+
+abbrev referenceIn : List Word → Sum × List Word
+referenceIn ws =
+    let f = scaleIn (rest (rest (rest (rest ws)))) in
+    let o = shiftIn (rest (f .1)) in
+    (leaf (reference (placeIn ws) (placeIn (rest (rest ws))) (index (f .0) (o .0))), rest (rest (o .1)))
+
+-- the parts of which a tree of one part consists, or any
+abbrev prodIn : Sum → Prod
+prodIn (a-prod x) = x
+prodIn (add x g y) = y
+
+abbrev factorIn : Prod → Factor
+factorIn (a-factor x) = x
+factorIn (multiply x y) = y
+
+abbrev sumBack : Tree.Sum → List Word → Sum × List Word
+sumBack (Tree.literal n) ws = (leaf (literal (placeIn ws)), rest ws)
+sumBack Tree.instance ws = (leaf var, rest ws)
+sumBack (Tree.reference r) ws = referenceIn ws
+sumBack (Tree.arithmetic o a b) ws =
+    let p = sumBack a ws in
+    let q = sumBack b (rest (p .1)) in
+    (cond (eqb (markIn (p .1)) star) (a-prod (multiply (prodIn (p .0)) (factorIn (prodIn (q .0))))) (add (p .0) (byMark signMark (markIn (p .1)) (λ g. g) Plus signs) (prodIn (q .0))), q .1)
+sumBack (Tree.abs a) ws =
+    let p = sumBack a (rest ws) in
+    let q = sumBack a (rest (rest ws)) in
+    cond (eqb (markIn ws) openParen) (leaf (parens (p .0)), rest (p .1)) (leaf (absolute (q .0)), rest (q .1))
+
+mutual
+  back-sum : (x : Sum) (r : List Word) → sumBack (shapeSum x) (spellSum x r) ≡ (x, r)
+  back-sum (a-prod x) r = back-prod x r
+  back-sum (add x Plus y) r = rw (back-sum x (mark plusMark ∷ spellProd y r), back-prod y r)
+  back-sum (add x Minus y) r = rw (back-sum x (mark minusMark ∷ spellProd y r), back-prod y r)
+
+  back-prod : (x : Prod) (r : List Word) → sumBack (shapeProd x) (spellProd x r) ≡ (a-prod x, r)
+  back-prod (a-factor x) r = back-factor x r
+  back-prod (multiply x y) r = rw (back-prod x (mark star ∷ spellFactor y r), back-factor y r)
+
+  back-factor : (x : Factor) (r : List Word) → sumBack (shapeFactor x) (spellFactor x r) ≡ (leaf x, r)
+  back-factor (literal p) r = refl
+  back-factor var r = refl
+  back-factor (parens x) r = rw (back-sum x (mark closeParen ∷ r))
+  back-factor (absolute x) r = rw (back-sum x (mark closeParen ∷ r))
+  back-factor (reference n e (index Once Unshifted)) r = refl
+  back-factor (reference n e (index Once (By Plus p))) r = refl
+  back-factor (reference n e (index Once (By Minus p))) r = refl
+  back-factor (reference n e (index (Times f) Unshifted)) r = refl
+  back-factor (reference n e (index (Times f) (By Plus p))) r = refl
+  back-factor (reference n e (index (Times f) (By Minus p))) r = refl
+
+-- ---- and conditions
+abbrev disjIn : Cond → Disj
+disjIn (a-disj x) = x
+disjIn (implies x y) = x
+
+abbrev conjIn : Disj → Conj
+conjIn (a-conj x) = x
+conjIn (or x y) = y
+
+abbrev unitIn : Conj → CUnit
+unitIn (a-unit x) = x
+unitIn (and x y) = y
+
+abbrev oneUnit : CUnit → Cond
+oneUnit x = a-disj (a-conj (a-unit x))
+
+abbrev joined : Connective → Cond → Cond → Cond
+joined Connective.and x y = a-disj (a-conj (and (conjIn (disjIn x)) (unitIn (conjIn (disjIn y)))))
+joined Connective.or x y = a-disj (or (disjIn x) (conjIn (disjIn y)))
+joined Connective.implies x y = implies (disjIn x) y
+
+abbrev condBack : Tree.Cond → List Word → Cond × List Word
+condBack (Tree.relation r a b) ws =
+    let p = sumBack a ws in
+    let q = sumBack b (rest (p .1)) in
+    (oneUnit (relation (p .0) (byMark relMark (markIn (p .1)) (λ c. c) equal rels) (q .0)), q .1)
+condBack (Tree.not t) ws =
+    let p = condBack t (rest ws) in
+    cond (eqb (markIn ws) bang) (oneUnit (not (unitIn (conjIn (disjIn (p .0))))), p .1) (oneUnit (group (p .0)), rest (p .1))
+condBack (Tree.connective j s t) ws =
+    let p = condBack s ws in
+    let q = condBack t (rest (p .1)) in
+    (joined j (p .0) (q .0), q .1)
+
+rel-back : (c : Rel) → byMark relMark (relMark c) (λ d. d) equal rels ≡ c
+rel-back equal = refl
+rel-back unequal = refl
+rel-back less = refl
+rel-back at-most = refl
+rel-back more = refl
+rel-back at-least = refl
+
+mutual
+  back-cond : (x : Cond) (r : List Word) → condBack (shapeCond x) (spellCond x r) ≡ (x, r)
+  back-cond (a-disj x) r = back-disj x r
+  back-cond (implies x y) r = rw (back-disj x (mark arrowKind ∷ spellCond y r), back-cond y r)
+
+  back-disj : (x : Disj) (r : List Word) → condBack (shapeDisj x) (spellDisj x r) ≡ (a-disj x, r)
+  back-disj (a-conj x) r = back-conj x r
+  back-disj (or x y) r = rw (back-disj x (mark barsKind ∷ spellConj y r), back-conj y r)
+
+  back-conj : (x : Conj) (r : List Word) → condBack (shapeConj x) (spellConj x r) ≡ (a-disj (a-conj x), r)
+  back-conj (a-unit x) r = back-unit x r
+  back-conj (and x y) r = rw (back-conj x (mark ampersandsKind ∷ spellUnit y r), back-unit y r)
+
+  back-unit : (x : CUnit) (r : List Word) → condBack (shapeUnit x) (spellUnit x r) ≡ (oneUnit x, r)
+  back-unit (not x) r = rw (back-unit x r)
+  back-unit (group x) r = rw (back-cond x (mark closeBrace ∷ r))
+  back-unit (relation x c y) r = rw (back-sum x (mark (relMark c) ∷ spellSum y r), back-sum y r, rel-back c)
+
+-- ---- a whole rule
 module _ {v w : Word} {r s : List Word} (e : v ∷ r ≡ w ∷ s) where
   front : v ≡ w
   front = cc
 
-  rest : r ≡ s
-  rest = cc
-
-marks : {j k : ℕ} → mark j ≡ mark k → j ≡ k
-marks e = cc
-
-rel-apart : (c d : Rel) → mark (relMark c) ≡ mark (relMark d) → c ≡ d
-rel-apart c d e = sym (rel-of c) ∙ (ap relOf (marks e) ∙ rel-of d)
-
-sign-apart : (g h : Sign) → mark (signMark g) ≡ mark (signMark h) → g ≡ h
-sign-apart g h e = sym (sign-of g) ∙ (ap signOf (marks e) ∙ sign-of h)
-
--- the words of an index, within its brackets, and then r
-abbrev inBrackets : Scale → Shift → List Word → List Word
-inBrackets f o r = spellScale f (mark 5 ∷ spellShift o (mark 93 ∷ mark 41 ∷ r))
-
-after-index : (f : Scale) (o : Shift) (r s : List Word) → inBrackets f o r ≡ inBrackets f o s → r ≡ s
-after-index Once Unshifted r s e = rest (rest (rest e))
-after-index Once (By g p) r s e = rest (rest (rest (rest (rest e))))
-after-index (Times q) Unshifted r s e = rest (rest (rest (rest (rest e))))
-after-index (Times q) (By g p) r s e = rest (rest (rest (rest (rest (rest (rest e))))))
-
-abbrev Same : {A : Type 0} → A → A → List Word → List Word → Type 0
-Same x y r s = (x ≡ y) × (r ≡ s)
-
-parts-one : {k j : ℕ} {a b : Shape} → one k a ≡ one j b → a ≡ b
-parts-one e = cc
-
-parts-left : {k j : ℕ} {a b c d : Shape} → two k a b ≡ two j c d → a ≡ c
-parts-left e = cc
-
-parts-right : {k j : ℕ} {a b c d : Shape} → two k a b ≡ two j c d → b ≡ d
-parts-right e = cc
+  behind : r ≡ s
+  behind = cc
 
 never : {A : Type 0} → _≡_ {A = ℕ} 0 1 → A
 never e = absurd (omega arith)
 
-mutual
-  same-cond : (x y : Cond) (r s : List Word) → shapeCond x ≡ shapeCond y → spellCond x r ≡ spellCond y s → Same x y r s
-  same-cond (a-disj x) (a-disj y) r s k w = let (e, f) = same-disj x y r s k w in (ap a-disj e, f)
-  same-cond (a-disj x) (implies y z) r s k w = absurd (omega (arith, rank-disj x, ap rank k))
-  same-cond (implies x y) (a-disj z) r s k w = absurd (omega (arith, rank-disj z, ap rank k))
-  same-cond (implies x y) (implies z v) r s k w =
-      let (e, f) = same-disj x z _ _ (parts-left k) w in
-      let (g, h) = same-cond y v r s (parts-right k) (rest f) in
-      (ap₂ implies e g, h)
-
-  same-disj : (x y : Disj) (r s : List Word) → shapeDisj x ≡ shapeDisj y → spellDisj x r ≡ spellDisj y s → Same x y r s
-  same-disj (a-conj x) (a-conj y) r s k w = let (e, f) = same-conj x y r s k w in (ap a-conj e, f)
-  same-disj (a-conj x) (or y z) r s k w = absurd (omega (arith, rank-conj x, ap rank k))
-  same-disj (or x y) (a-conj z) r s k w = absurd (omega (arith, rank-conj z, ap rank k))
-  same-disj (or x y) (or z v) r s k w =
-      let (e, f) = same-disj x z _ _ (parts-left k) w in
-      let (g, h) = same-conj y v r s (parts-right k) (rest f) in
-      (ap₂ or e g, h)
-
-  same-conj : (x y : Conj) (r s : List Word) → shapeConj x ≡ shapeConj y → spellConj x r ≡ spellConj y s → Same x y r s
-  same-conj (a-unit x) (a-unit y) r s k w = let (e, f) = same-unit x y r s k w in (ap a-unit e, f)
-  same-conj (a-unit x) (and y z) r s k w = absurd (omega (arith, rank-unit x, ap rank k))
-  same-conj (and x y) (a-unit z) r s k w = absurd (omega (arith, rank-unit z, ap rank k))
-  same-conj (and x y) (and z v) r s k w =
-      let (e, f) = same-conj x z _ _ (parts-left k) w in
-      let (g, h) = same-unit y v r s (parts-right k) (rest f) in
-      (ap₂ and e g, h)
-
-  same-unit : (x y : CUnit) (r s : List Word) → shapeUnit x ≡ shapeUnit y → spellUnit x r ≡ spellUnit y s → Same x y r s
-  same-unit (not x) (not y) r s k w = let (e, f) = same-unit x y r s (parts-one k) (rest w) in (ap not e, f)
-  same-unit (not x) (group y) r s k w = absurd (omega (arith, marks (front w)))
-  same-unit (not x) (relation y c z) r s k w = never (cc)
-  same-unit (group x) (not y) r s k w = absurd (omega (arith, marks (front w)))
-  same-unit (group x) (group y) r s k w = let (e, f) = same-cond x y _ _ (parts-one k) (rest w) in (ap group e, rest f)
-  same-unit (group x) (relation y c z) r s k w = never (cc)
-  same-unit (relation x c y) (not z) r s k w = never (cc)
-  same-unit (relation x c y) (group z) r s k w = never (cc)
-  same-unit (relation x c y) (relation z d v) r s k w =
-      let (e, f) = same-sum x z _ _ (parts-left k) w in
-      let (g, h) = same-sum y v r s (parts-right k) (rest f) in
-      (ap₂ (λ (l : Sum) (q : Rel × Sum). relation l (q .0) (q .1)) e (ap₂ (λ (q : Rel) (l : Sum). (q, l)) (rel-apart c d (front f)) g), h)
-
-  same-sum : (x y : Sum) (r s : List Word) → shapeSum x ≡ shapeSum y → spellSum x r ≡ spellSum y s → Same x y r s
-  same-sum (a-prod x) (a-prod y) r s k w = let (e, f) = same-prod x y r s k w in (ap a-prod e, f)
-  same-sum (a-prod x) (add y g z) r s k w = absurd (omega (arith, rank-prod x, ap rank k, rank-sign g (shapeSum y) (shapeProd z)))
-  same-sum (add x g y) (a-prod z) r s k w = absurd (omega (arith, rank-prod z, ap rank k, rank-sign g (shapeSum x) (shapeProd y)))
-  same-sum (add x g y) (add z d v) r s k w =
-      let (e, f) = same-sum x z _ _ (parts-left k) w in
-      let (i, h) = same-prod y v r s (parts-right k) (rest f) in
-      (ap₂ (λ (l : Sum) (q : Sign × Prod). add l (q .0) (q .1)) e (ap₂ (λ (q : Sign) (l : Prod). (q, l)) (sign-apart g d (front f)) i), h)
-
-  same-prod : (x y : Prod) (r s : List Word) → shapeProd x ≡ shapeProd y → spellProd x r ≡ spellProd y s → Same x y r s
-  same-prod (a-factor x) (a-factor y) r s k w = let (e, f) = same-factor x y r s k w in (ap a-factor e, f)
-  same-prod (a-factor x) (multiply y z) r s k w = absurd (omega (arith, rank-factor x, ap rank k))
-  same-prod (multiply x y) (a-factor z) r s k w = absurd (omega (arith, rank-factor z, ap rank k))
-  same-prod (multiply x y) (multiply z v) r s k w =
-      let (e, f) = same-prod x z _ _ (parts-left k) w in
-      let (g, h) = same-factor y v r s (parts-right k) (rest f) in
-      (ap₂ multiply e g, h)
-
-  same-factor : (x y : Factor) (r s : List Word) → shapeFactor x ≡ shapeFactor y → spellFactor x r ≡ spellFactor y s → Same x y r s
-  same-factor (literal p) (literal q) r s k w = (cc, rest w)
-  same-factor var var r s k w = (refl, rest w)
-  same-factor (parens x) (parens y) r s k w = let (e, f) = same-sum x y _ _ (parts-one k) (rest w) in (ap parens e, rest f)
-  same-factor (parens x) (absolute y) r s k w = absurd (omega (arith, marks (front w)))
-  same-factor (absolute x) (parens y) r s k w = absurd (omega (arith, marks (front w)))
-  same-factor (absolute x) (absolute y) r s k w = let (e, f) = same-sum x y _ _ (parts-one k) (rest (rest w)) in (ap absolute e, rest f)
-  same-factor (reference n e (index f o)) (reference m d (index g u)) r s k w =
-      let a : f ≡ g = cc in
-      let b : o ≡ u = cc in
-      let t = rest (rest (rest (rest w))) in
-      (cc, after-index g u r s (sym (ap₂ (λ (z : Scale) (y : Shift). inBrackets z y r) a b) ∙ t))
-  same-factor (literal p) var r s k w = never (cc)
-  same-factor (literal p) (parens y) r s k w = never (cc)
-  same-factor (literal p) (absolute y) r s k w = never (cc)
-  same-factor (literal p) (reference m d (index g u)) r s k w = never (cc)
-  same-factor var (literal q) r s k w = never (cc)
-  same-factor var (parens y) r s k w = never (cc)
-  same-factor var (absolute y) r s k w = never (cc)
-  same-factor var (reference m d (index g u)) r s k w = never (cc)
-  same-factor (parens x) (literal q) r s k w = never (cc)
-  same-factor (parens x) var r s k w = never (cc)
-  same-factor (parens x) (reference m d (index g u)) r s k w = never (cc)
-  same-factor (absolute x) (literal q) r s k w = never (cc)
-  same-factor (absolute x) var r s k w = never (cc)
-  same-factor (absolute x) (reference m d (index g u)) r s k w = never (cc)
-  same-factor (reference n e (index f o)) (literal q) r s k w = never (cc)
-  same-factor (reference n e (index f o)) var r s k w = never (cc)
-  same-factor (reference n e (index f o)) (parens y) r s k w = never (cc)
-  same-factor (reference n e (index f o)) (absolute y) r s k w = never (cc)
-
-same-names : (ps qs : List Place) (r s : List Word) → spellNames ps (mark 59 ∷ r) ≡ spellNames qs (mark 59 ∷ s) → Same ps qs r s
-same-names [] [] r s w = (refl, rest w)
+same-names : (ps qs : List Place) (r s : List Word) → spellNames ps (mark semicolon ∷ r) ≡ spellNames qs (mark semicolon ∷ s) → (ps ≡ qs) × (r ≡ s)
+same-names [] [] r s w = (refl, behind w)
 same-names [] (q ∷ qs) r s w = never (cc)
 same-names (p ∷ ps) [] r s w = never (cc)
-same-names (p ∷ ps) (q ∷ qs) r s w = let (e, f) = same-names ps qs r s (rest w) in (ap₂ (λ (h : Place) (l : List Place). h ∷ l) (cc (front w)) e, f)
+same-names (p ∷ ps) (q ∷ qs) r s w = let (e, f) = same-names ps qs r s (behind w) in (ap₂ (λ (h : Place) (l : List Place). h ∷ l) (cc (front w)) e, f)
 
-same-rule : (x y : Rule) → shapeRule x ≡ shapeRule y → yield x ≡ yield y → x ≡ y
+same-cond : (c b : Cond) → shapeCond c ≡ shapeCond b → spellCond c [] ≡ spellCond b [] → c ≡ b
+same-cond c b k w = ap (λ (p : Cond × List Word). p .0) (sym (back-cond c []) ∙ (ap₂ condBack k w ∙ back-cond b []))
+
+same-rule : (x y : Rule) → shape x ≡ shape y → yield x ≡ yield y → x ≡ y
 same-rule (rule e es n ns c) (rule d ds m ms b) k w =
-    let (p, q) = same-names (e ∷ es) (d ∷ ds) _ _ (rest w) in
-    let (u, v) = same-names (n ∷ ns) (m ∷ ms) _ _ (rest q) in
-    let (g, h) = same-cond c b [] [] k v in
+    let (p, q) = same-names (e ∷ es) (d ∷ ds) _ _ (behind w) in
+    let (u, v) = same-names (n ∷ ns) (m ∷ ms) _ _ (behind q) in
+    let g = same-cond c b k v in
     cc
 
 -- two trees that spell the same tokens are one

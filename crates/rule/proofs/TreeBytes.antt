@@ -2,7 +2,7 @@
 use mathlib.Core.Path.{_≡_, refl, ap, ap₂, sym, subst, _∙_}
 use mathlib.Core.List.{List, [], _∷_, _++_}
 use mathlib.Core.Option.{none}
-use Prim.Native.Nat.{ℕ, zero, suc, _+_, _-_, _*_, _≤_}
+use Prim.Native.Nat.{ℕ, zero, suc, _-_, _*_, _≤_}
 use native.Mathlib.Omega.{arith}
 use lib.IntN.{pos, negℤ, natAbs}
 use lib.ListN.{length, take, replicate}
@@ -13,8 +13,8 @@ use Rattle.numbers.proofs.Ints.{natAbs-neg}
 use Rattle.rule.specs.Limits.{factorLimit, offsetLimit, frameLimit, frameBytes, bufferBytes}
 use Rattle.rule.specs.Grammar.{Rule}
 use Rattle.rule.specs.Tree.{Cond, Limits, postfix, bytesOf, IsRule}
-use Rattle.rule.specs.Measure.{names, numbers}
-use Rattle.rule.specs.Draft.{Draft, lit, index-var, ref, plain, frames}
+use Rattle.rule.specs.Measure.{frames, names, numbers}
+use Rattle.rule.specs.Draft.{Draft, lit, index-var, ref, plain}
 use Rattle.rule.proofs.Judge.{codes, first-name, first-number}
 use Rattle.rule.specs.Memory.{position, negated, factorOf, offsetOf, fields, codeAt, valueAt}
 use Rattle.rule.proofs.Put.{each, treeBytes}
@@ -31,7 +31,8 @@ use Rattle.rule.specs.declared.parts.Shift.the-variants.{Unshifted, By}
 use Rattle.rule.specs.Meaning.{factorAt, offsetAt, meaning}
 use Rattle.rule.proofs.SpellSame.{first-name-same, first-number-same}
 use Rattle.rule.proofs.SpellMeaning.{codedNumber, codedMeaning, meaning-same}
-use Rattle.rule.proofs.Drafts.{All, length-each, frameOf, postfix-frames, LimitsD, limits-frames}
+use Rattle.rule.proofs.Drafts.{All, length-each, frameOf, LimitsD, reference-fits}
+use Rattle.rule.proofs.Means.{postfix-frames, limits-frames}
 use Rattle.rule.proofs.Numbered.{frames-fit}
 use Rattle.rule.proofs.Filled.{eight, packed, packed-length, filled}
 
@@ -61,7 +62,7 @@ module _ (code value : Place → ℕ) (E N : List ℕ) where
   same-eight : (d : Draft) → LimitsD event note value d → eight (fields code value E N d) ≡ bytesOf (frameOf event note value d ∷ [])
   same-eight (lit p) l = refl
   same-eight index-var l = refl
-  same-eight (ref n e f o) l = rw (same-factor f (l .factor), same-offset o (l .offset))
+  same-eight (ref n e f o) l = let q = reference-fits event note value n e f o l in rw (same-factor f (q .factor), same-offset o (q .offset))
   same-eight (plain k) l = refl
 
   -- ---- all frames

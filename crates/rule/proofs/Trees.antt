@@ -1,63 +1,72 @@
 -- Trees and derivations: each tree has one, and each derivation comes from trees. Assumes nothing.
-use mathlib.Core.Path.{_≡_, refl, ap, sym, _∙_}
-use mathlib.Core.List.{List, [], _∷_}
+use mathlib.Core.Path.{_≡_, refl, ap, sym, subst, _∙_}
+use mathlib.Core.List.{List, [], _∷_, _++_}
 use mathlib.Core.Option.{Option, none, some}
 use Prim.Native.Nat.{ℕ}
 use Rattle.rule.specs.declared.parts.Place.{Place}
 use Rattle.rule.specs.declared.parts.Role.{Role}
 use Rattle.rule.specs.declared.parts.Role.the-variants.{Event, Note}
-use Rattle.rule.specs.declared.parts.Limit.the-variants.{OfOffset}
 use Rattle.rule.specs.declared.parts.Sign.{Sign}
 use Rattle.rule.specs.declared.parts.Scale.the-variants.{Once, Times}
 use Rattle.rule.specs.declared.parts.Shift.{Shift}
 use Rattle.rule.specs.declared.parts.Shift.the-variants.{Unshifted, By}
 use Rattle.rule.specs.Grammar.{Word, mark, name, number, Rel, Index, index, Cond, a-disj, Disj, a-conj, or, Conj, a-unit, and, CUnit, Sum, a-prod, add, Prod, a-factor, multiply, Factor, Rule, rule, yield, relMark, signMark, spellShift, spellIndex, spellCond, spellDisj, spellConj, spellUnit, spellSum, spellProd, spellFactor, spellNames}
-use Rattle.rule.specs.Draft.{ref, plain, signKind, relKind}
-use Rattle.rule.specs.Machine.{Act, declare, uses, sized, enter, out, deeper, Sym, unit, ands, ors, arrow, factor, muls, adds, rel, want, name-of, names-of, ref-event, ref-index, ref-shift, ref-by, doing, prod, sum, conj, condition, start}
-use Rattle.rule.proofs.Walk.{readShift, readIndex, readCond, readDisj, readConj, readUnit, readSum, readProd, readFactor, readNames, readRule}
+use Rattle.rule.specs.Frames.{Arithmetic, Connective, Kind}
+use Rattle.rule.specs.Draft.{ref, relationOf, signOf}
+use Rattle.rule.specs.Measure.{scaleNumbers, shiftNumbers}
+use Rattle.rule.specs.Items.{itemsCond, itemsDisj, itemsConj, itemsUnit, itemsSum, itemsProd, itemsFactor}
+use Rattle.rule.specs.Machine.{Act, out, Sym, unit, ands, ors, arrow, factor, muls, adds, rel, want, name-of, names-of, ref-event, ref-index, ref-shift, ref-by, doing, prod, sum, conj, condition, start}
+use Rattle.rule.proofs.Walk.{readEach, readNumber, readItems, readNames, readRule, read-in, read-two, read-one-in, read-two-in}
 use Rattle.rule.specs.Grammar
 use Rattle.rule.proofs.Gen.{Gen, done, token, does, not, group, relation, compare, and-more, and-none, or-more, or-none, implies, implies-none, add-more, add-none, mul-more, mul-none, literal, var, parens, absolute, reference, event, scaled, unscaled, shifted, shift-none, by-number, named, name-more, name-none}
 
 module _ (M : Type 0) (act : Act → M → M) where
+  abbrev readIndex : Place → Place → Index → M → M
+  readIndex n e (index f o) m = act (out (ref n e f o)) (readEach (readNumber M act) (scaleNumbers f ++ shiftNumbers o) m)
+
   -- ---- each tree has a derivation
-  genIndex : (x : Index) {n e : Place} {s : List Sym} {m m′ : M} {ws : List Word} → Gen M act s (readIndex M act n e x m) ws m′ → Gen M act (ref-index n e ∷ s) m (spellIndex x ws) m′
+  genIndex : (x : Index) {n e : Place} {s : List Sym} {m m′ : M} {ws : List Word} → Gen M act s (readIndex n e x m) ws m′ → Gen M act (ref-index n e ∷ s) m (spellIndex x ws) m′
   genIndex (index Once Unshifted) g = unscaled (shift-none g)
   genIndex (index Once (By q p)) g = unscaled (shifted q (by-number p g))
   genIndex (index (Times f) Unshifted) g = scaled f (token (token (shift-none g)))
   genIndex (index (Times f) (By q p)) g = scaled f (token (token (shifted q (by-number p g))))
 
+  -- a derivation from the same memory
+  from : {s : List Sym} {m n m′ : M} {ws : List Word} → n ≡ m → Gen M act s n ws m′ → Gen M act s m ws m′
+  from {s} {m′ = m′} {ws} e g = subst (λ (z : M). Gen M act s z ws m′) e g
+
   mutual
-    pub genCond : (x : Cond) {d : ℕ} {s : List Sym} {m m′ : M} {ws : List Word} → Gen M act s (readCond M act d x m) ws m′ → Gen M act (condition d s) m (spellCond x ws) m′
+    pub genCond : (x : Cond) {d : ℕ} {s : List Sym} {m m′ : M} {ws : List Word} → Gen M act s (readItems M act d (itemsCond x) m) ws m′ → Gen M act (condition d s) m (spellCond x ws) m′
     genCond (a-disj x) g = genDisj x (or-none (implies-none g))
-    genCond (Grammar.implies x y) g = genDisj x (or-none (implies (genCond y (does g))))
+    genCond (Grammar.implies x y) {d} {m = m} g = genDisj x (or-none (implies (genCond y (does (from (read-two-in M act d (itemsDisj x) (itemsCond y) (Kind.connective Connective.implies) m) g)))))
 
-    genDisj : (x : Disj) {d : ℕ} {s : List Sym} {m m′ : M} {ws : List Word} → Gen M act (ors d ∷ s) (readDisj M act d x m) ws m′ → Gen M act (conj d (ors d ∷ s)) m (spellDisj x ws) m′
+    genDisj : (x : Disj) {d : ℕ} {s : List Sym} {m m′ : M} {ws : List Word} → Gen M act (ors d ∷ s) (readItems M act d (itemsDisj x) m) ws m′ → Gen M act (conj d (ors d ∷ s)) m (spellDisj x ws) m′
     genDisj (a-conj x) g = genConj x (and-none g)
-    genDisj (or x y) g = genDisj x (or-more (genConj y (and-none (does g))))
+    genDisj (or x y) {d} {m = m} g = genDisj x (or-more (genConj y (and-none (does (from (read-two M act d (itemsDisj x) (itemsConj y) (Kind.connective Connective.or) m) g)))))
 
-    genConj : (x : Conj) {d : ℕ} {s : List Sym} {m m′ : M} {ws : List Word} → Gen M act (ands d ∷ s) (readConj M act d x m) ws m′ → Gen M act (conj d s) m (spellConj x ws) m′
+    genConj : (x : Conj) {d : ℕ} {s : List Sym} {m m′ : M} {ws : List Word} → Gen M act (ands d ∷ s) (readItems M act d (itemsConj x) m) ws m′ → Gen M act (conj d s) m (spellConj x ws) m′
     genConj (a-unit x) g = genUnit x g
-    genConj (and x y) g = genConj x (and-more (genUnit y (does g)))
+    genConj (and x y) {d} {m = m} g = genConj x (and-more (genUnit y (does (from (read-two M act d (itemsConj x) (itemsUnit y) (Kind.connective Connective.and) m) g))))
 
-    genUnit : (x : CUnit) {d : ℕ} {s : List Sym} {m m′ : M} {ws : List Word} → Gen M act s (readUnit M act d x m) ws m′ → Gen M act (unit d ∷ s) m (spellUnit x ws) m′
-    genUnit (Grammar.not x) g = not (genUnit x (does g))
-    genUnit (Grammar.group x) g = group (genCond x (token g))
-    genUnit (Grammar.relation x c y) g = relation (genSum x (add-none (compare c (genSum y (add-none (does g))))))
+    genUnit : (x : CUnit) {d : ℕ} {s : List Sym} {m m′ : M} {ws : List Word} → Gen M act s (readItems M act d (itemsUnit x) m) ws m′ → Gen M act (unit d ∷ s) m (spellUnit x ws) m′
+    genUnit (Grammar.not x) {d} {m = m} g = not (genUnit x (does (from (read-one-in M act d (itemsUnit x) Kind.negation m) g)))
+    genUnit (Grammar.group x) {d} {m = m} g = group (genCond x (token (from (read-in M act d (itemsCond x) m) g)))
+    genUnit (Grammar.relation x c y) {d} {m = m} g = relation (genSum x (add-none (compare c (genSum y (add-none (does (from (read-two M act d (itemsSum x) (itemsSum y) (Kind.relation (relationOf c)) m) g)))))))
 
-    genSum : (x : Sum) {d : ℕ} {s : List Sym} {m m′ : M} {ws : List Word} → Gen M act (adds d ∷ s) (readSum M act d x m) ws m′ → Gen M act (sum d s) m (spellSum x ws) m′
+    genSum : (x : Sum) {d : ℕ} {s : List Sym} {m m′ : M} {ws : List Word} → Gen M act (adds d ∷ s) (readItems M act d (itemsSum x) m) ws m′ → Gen M act (sum d s) m (spellSum x ws) m′
     genSum (a-prod x) g = genProd x (mul-none g)
-    genSum (add x q y) g = genSum x (add-more q (genProd y (mul-none (does g))))
+    genSum (add x q y) {d} {m = m} g = genSum x (add-more q (genProd y (mul-none (does (from (read-two M act d (itemsSum x) (itemsProd y) (Kind.arithmetic (signOf q)) m) g)))))
 
-    genProd : (x : Prod) {d : ℕ} {s : List Sym} {m m′ : M} {ws : List Word} → Gen M act (muls d ∷ s) (readProd M act d x m) ws m′ → Gen M act (prod d s) m (spellProd x ws) m′
+    genProd : (x : Prod) {d : ℕ} {s : List Sym} {m m′ : M} {ws : List Word} → Gen M act (muls d ∷ s) (readItems M act d (itemsProd x) m) ws m′ → Gen M act (prod d s) m (spellProd x ws) m′
     genProd (a-factor x) g = genFactor x g
-    genProd (multiply x y) g = genProd x (mul-more (genFactor y (does g)))
+    genProd (multiply x y) {d} {m = m} g = genProd x (mul-more (genFactor y (does (from (read-two M act d (itemsProd x) (itemsFactor y) (Kind.arithmetic Arithmetic.multiply) m) g))))
 
-    genFactor : (x : Factor) {d : ℕ} {s : List Sym} {m m′ : M} {ws : List Word} → Gen M act s (readFactor M act d x m) ws m′ → Gen M act (factor d ∷ s) m (spellFactor x ws) m′
+    genFactor : (x : Factor) {d : ℕ} {s : List Sym} {m m′ : M} {ws : List Word} → Gen M act s (readItems M act d (itemsFactor x) m) ws m′ → Gen M act (factor d ∷ s) m (spellFactor x ws) m′
     genFactor (Grammar.literal p) g = literal p g
     genFactor Grammar.var g = var g
-    genFactor (Grammar.parens x) g = parens (genSum x (add-none (token g)))
-    genFactor (Grammar.absolute x) g = absolute (token (genSum x (add-none (token (does g)))))
-    genFactor (Grammar.reference n e x) g = reference n (token (event e (token (genIndex x (token (token g))))))
+    genFactor (Grammar.parens x) {d} {m = m} g = parens (genSum x (add-none (token (from (read-in M act d (itemsSum x) m) g))))
+    genFactor (Grammar.absolute x) {d} {m = m} g = absolute (token (genSum x (add-none (token (does (from (read-one-in M act d (itemsSum x) Kind.absolute m) g))))))
+    genFactor (Grammar.reference n e (index f o)) g = reference n (token (event e (token (genIndex (index f o) (token (token g))))))
 
   genNames : (r : Role) (ps : List Place) {s : List Sym} {m m′ : M} {ws : List Word} → Gen M act s (readNames M act r ps m) ws m′ → Gen M act (names-of r ∷ s) m (spellNames ps ws) m′
   genNames r [] g = name-none g
@@ -190,127 +199,56 @@ abbrev spellForest : (s : List Sym) → Forest s → List Word
 spellForest [] f = []
 spellForest (x ∷ s) f = spellSym x (f .0) (spellForest s (f .1))
 
+-- each derivation comes from trees
+record Made (s : List Sym) (ws : List Word) : Type 0 where
+  trees : Forest s
+  spelled : ws ≡ spellForest s trees
+
+lift : {s s₁ : List Sym} {ws : List Word} → Made s ws → (W : List Word → List Word) (F : Forest s → Forest s₁) → ((f : Forest s) → W (spellForest s f) ≡ spellForest s₁ (F f))
+    → Made s₁ (W ws)
+lift q W F a = record { trees = F (q .trees); spelled = ap W (q .spelled) ∙ a (q .trees) }
+
 module _ (M : Type 0) (act : Act → M → M) where
-  abbrev readUnits : ℕ → List CUnit → M → M
-  readUnits d [] m = m
-  readUnits d (u ∷ us) m = readUnits d us (act (out (plain 0x32)) (readUnit M act d u m))
-
-  abbrev readConjs : ℕ → List Conj → M → M
-  readConjs d [] m = m
-  readConjs d (u ∷ us) m = readConjs d us (act (out (plain 0x33)) (readConj M act d u m))
-
-  abbrev readThen : ℕ → Option Cond → M → M
-  readThen d none m = m
-  readThen d (some y) m = act (out (plain 0x34)) (readCond M act (deeper d) y (act (enter (deeper d)) m))
-
-  abbrev readFactors : ℕ → List Factor → M → M
-  readFactors d [] m = m
-  readFactors d (u ∷ us) m = readFactors d us (act (out (plain 0x13)) (readFactor M act d u m))
-
-  abbrev readAddends : ℕ → List (Sign × Prod) → M → M
-  readAddends d [] m = m
-  readAddends d (u ∷ us) m = readAddends d us (act (out (plain (signKind (u .0)))) (readProd M act d (u .1) m))
-
-  read-conj-of : (d : ℕ) (c : Conj) (us : List CUnit) (m : M) → readConj M act d (conj-of c us) m ≡ readUnits d us (readConj M act d c m)
-  read-conj-of d c [] m = refl
-  read-conj-of d c (u ∷ us) m = read-conj-of d (and c u) us m
-
-  read-disj-of : (d : ℕ) (c : Disj) (us : List Conj) (m : M) → readDisj M act d (disj-of c us) m ≡ readConjs d us (readDisj M act d c m)
-  read-disj-of d c [] m = refl
-  read-disj-of d c (u ∷ us) m = read-disj-of d (or c u) us m
-
-  read-cond-of : (d : ℕ) (x : Disj) (o : Option Cond) (m : M) → readCond M act d (cond-of x o) m ≡ readThen d o (readDisj M act d x m)
-  read-cond-of d x none m = refl
-  read-cond-of d x (some y) m = refl
-
-  read-prod-of : (d : ℕ) (c : Prod) (us : List Factor) (m : M) → readProd M act d (prod-of c us) m ≡ readFactors d us (readProd M act d c m)
-  read-prod-of d c [] m = refl
-  read-prod-of d c (u ∷ us) m = read-prod-of d (multiply c u) us m
-
-  read-sum-of : (d : ℕ) (c : Sum) (us : List (Sign × Prod)) (m : M) → readSum M act d (sum-of c us) m ≡ readAddends d us (readSum M act d c m)
-  read-sum-of d c [] m = refl
-  read-sum-of d c (u ∷ us) m = read-sum-of d (add c (u .0) (u .1)) us m
-
-  read-whole-cond : (d : ℕ) (u : CUnit) (us : List CUnit) (cs : List Conj) (o : Option Cond) (m : M) → readCond M act d (whole-cond u us cs o) m ≡ readThen d o (readConjs d cs (readUnits d us (readUnit M act d u m)))
-  read-whole-cond d u us cs o m =
-      read-cond-of d (disj-of (a-conj (whole-conj u us)) cs) o m ∙ ap (λ x. readThen d o x) (read-disj-of d (a-conj (whole-conj u us)) cs m ∙ ap (λ x. readConjs d cs x) (read-conj-of d (a-unit u) us m))
-
-  read-whole-sum : (d : ℕ) (f : Factor) (fs : List Factor) (qs : List (Sign × Prod)) (m : M) → readSum M act d (whole-sum f fs qs) m ≡ readAddends d qs (readFactors d fs (readFactor M act d f m))
-  read-whole-sum d f fs qs m = read-sum-of d (a-prod (whole-prod f fs)) qs m ∙ ap (λ x. readAddends d qs x) (read-prod-of d (a-factor f) fs m)
-
-  abbrev readSym : (x : Sym) → Tree-of x → M → M
-  readSym (unit d) t m = readUnit M act d t m
-  readSym (ands d) t m = readUnits d t m
-  readSym (ors d) t m = readConjs d t m
-  readSym (arrow d) t m = readThen d t m
-  readSym (factor d) t m = readFactor M act d t m
-  readSym (muls d) t m = readFactors d t m
-  readSym (adds d) t m = readAddends d t m
-  readSym (rel d) t m = act (out (plain (relKind (t .0)))) (readSum M act d (t .1) m)
-  readSym (want k) t m = m
-  readSym (name-of r) t m = act (declare r t) m
-  readSym (names-of r) t m = readNames M act r t m
-  readSym (ref-event n) t m = readIndex M act n (t .0) (t .1) (act (uses Event (t .0)) m)
-  readSym (ref-index n e) t m = readIndex M act n e t m
-  readSym (ref-shift n e f) t m = act (out (ref n e f t)) (readShift M act t m)
-  readSym (ref-by n e f g) t m = act (out (ref n e f (By g t))) (act (sized OfOffset t) m)
-  readSym (doing a) t m = act a m
-
-  abbrev readForest : (s : List Sym) → Forest s → M → M
-  readForest [] f m = m
-  readForest (x ∷ s) f m = readForest s (f .1) (readSym x (f .0) m)
-
-  -- each derivation comes from trees
-  record Made (s : List Sym) (m : M) (ws : List Word) (m′ : M) : Type 0 where
-    trees : Forest s
-    spelled : ws ≡ spellForest s trees
-    was-read : m′ ≡ readForest s trees m
-
-  lift : {s s₁ : List Sym} {m m₁ m′ : M} {ws : List Word} → Made s m ws m′ → (W : List Word → List Word) (F : Forest s → Forest s₁)
-      → ((f : Forest s) → W (spellForest s f) ≡ spellForest s₁ (F f)) → ((f : Forest s) → readForest s f m ≡ readForest s₁ (F f) m₁) → Made s₁ m₁ (W ws) m′
-  lift q W F a b = record { trees = F (q .trees); spelled = ap W (q .spelled) ∙ a (q .trees); was-read = q .was-read ∙ b (q .trees) }
-
-  made : {s : List Sym} {m m′ : M} {ws : List Word} → Gen M act s m ws m′ → Made s m ws m′
-  made done = record { trees = tt; spelled = refl; was-read = refl }
-  made (token {k} g) = lift (made g) (λ r. mark k ∷ r) (λ f. (tt, f)) (λ f. refl) (λ f. refl)
-  made (does g) = lift (made g) (λ r. r) (λ f. (tt, f)) (λ f. refl) (λ f. refl)
-  made (not g) = lift (made g) (λ r. mark 33 ∷ r) (λ f. (Grammar.not (f .0), f .1 .1)) (λ f. refl) (λ f. refl)
-  made (group {d} {s} g) = lift (made g) (λ r. mark 123 ∷ r) (λ f. (Grammar.group (whole-cond (f .0) (f .1 .0) (f .1 .1 .0) (f .1 .1 .1 .0)), f .1 .1 .1 .1 .1)) (λ f. rw (spell-whole-cond (f .0) (f .1 .0) (f .1 .1 .0) (f .1 .1 .1 .0) _)) (λ f. sym (ap (λ x. readForest s (f .1 .1 .1 .1 .1) x) (read-whole-cond (deeper d) (f .0) (f .1 .0) (f .1 .1 .0) (f .1 .1 .1 .0) _)))
-  made (relation {d} {s} g) = lift (made g) (λ r. r) (λ f. (Grammar.relation (whole-sum (f .0) (f .1 .0) (f .1 .1 .0)) (f .1 .1 .1 .0 .0) (f .1 .1 .1 .0 .1), f .1 .1 .1 .1)) (λ f. rw (spell-whole-sum (f .0) (f .1 .0) (f .1 .1 .0) _)) (λ f. sym (ap (λ x. readForest s (f .1 .1 .1 .1) (act (out (plain (relKind (f .1 .1 .1 .0 .0)))) (readSum M act d (f .1 .1 .1 .0 .1) x))) (read-whole-sum d (f .0) (f .1 .0) (f .1 .1 .0) _)))
-  made (compare {d} {s} c g) = lift (made g) (λ r. mark (relMark c) ∷ r) (λ f. ((c, whole-sum (f .0) (f .1 .0) (f .1 .1 .0)), f .1 .1 .1 .1)) (λ f. rw (spell-whole-sum (f .0) (f .1 .0) (f .1 .1 .0) _)) (λ f. sym (ap (λ x. readForest s (f .1 .1 .1 .1) (act (out (plain (relKind c))) x)) (read-whole-sum d (f .0) (f .1 .0) (f .1 .1 .0) _)))
-  made (and-more g) = lift (made g) (λ r. mark 132 ∷ r) (λ f. (f .0 ∷ f .1 .1 .0, f .1 .1 .1)) (λ f. refl) (λ f. refl)
-  made (and-none g) = lift (made g) (λ r. r) (λ f. ([], f)) (λ f. refl) (λ f. refl)
-  made (or-more {d} {s} g) = lift (made g) (λ r. mark 131 ∷ r) (λ f. (whole-conj (f .0) (f .1 .0) ∷ f .1 .1 .1 .0, f .1 .1 .1 .1)) (λ f. rw (spell-conj-of (a-unit (f .0)) (f .1 .0) _)) (λ f. sym (ap (λ x. readForest s (f .1 .1 .1 .1) (readConjs d (f .1 .1 .1 .0) (act (out (plain 0x33)) x))) (read-conj-of d (a-unit (f .0)) (f .1 .0) _)))
-  made (or-none g) = lift (made g) (λ r. r) (λ f. ([], f)) (λ f. refl) (λ f. refl)
-  made (implies {d} {s} g) = lift (made g) (λ r. mark 130 ∷ r) (λ f. (some (whole-cond (f .0) (f .1 .0) (f .1 .1 .0) (f .1 .1 .1 .0)), f .1 .1 .1 .1 .1)) (λ f. rw (spell-whole-cond (f .0) (f .1 .0) (f .1 .1 .0) (f .1 .1 .1 .0) _)) (λ f. sym (ap (λ x. readForest s (f .1 .1 .1 .1 .1) (act (out (plain 0x34)) x)) (read-whole-cond (deeper d) (f .0) (f .1 .0) (f .1 .1 .0) (f .1 .1 .1 .0) _)))
-  made (implies-none g) = lift (made g) (λ r. r) (λ f. (none, f)) (λ f. refl) (λ f. refl)
-  made (add-more {d} {s} q g) = lift (made g) (λ r. mark (signMark q) ∷ r) (λ f. ((q, whole-prod (f .0) (f .1 .0)) ∷ f .1 .1 .1 .0, f .1 .1 .1 .1)) (λ f. rw (spell-prod-of (a-factor (f .0)) (f .1 .0) _)) (λ f. sym (ap (λ x. readForest s (f .1 .1 .1 .1) (readAddends d (f .1 .1 .1 .0) (act (out (plain (signKind q))) x))) (read-prod-of d (a-factor (f .0)) (f .1 .0) _)))
-  made (add-none g) = lift (made g) (λ r. r) (λ f. ([], f)) (λ f. refl) (λ f. refl)
-  made (mul-more g) = lift (made g) (λ r. mark 42 ∷ r) (λ f. (f .0 ∷ f .1 .1 .0, f .1 .1 .1)) (λ f. refl) (λ f. refl)
-  made (mul-none g) = lift (made g) (λ r. r) (λ f. ([], f)) (λ f. refl) (λ f. refl)
-  made (literal p g) = lift (made g) (λ r. number p ∷ r) (λ f. (Grammar.literal p, f)) (λ f. refl) (λ f. refl)
-  made (var g) = lift (made g) (λ r. mark 5 ∷ r) (λ f. (Grammar.var, f)) (λ f. refl) (λ f. refl)
-  made (parens {d} {s} g) = lift (made g) (λ r. mark 40 ∷ r) (λ f. (Grammar.parens (whole-sum (f .0) (f .1 .0) (f .1 .1 .0)), f .1 .1 .1 .1)) (λ f. rw (spell-whole-sum (f .0) (f .1 .0) (f .1 .1 .0) _)) (λ f. sym (ap (λ x. readForest s (f .1 .1 .1 .1) x) (read-whole-sum (deeper d) (f .0) (f .1 .0) (f .1 .1 .0) _)))
-  made (absolute {d} {s} g) = lift (made g) (λ r. mark 6 ∷ r) (λ f. (Grammar.absolute (whole-sum (f .1 .0) (f .1 .1 .0) (f .1 .1 .1 .0)), f .1 .1 .1 .1 .1 .1)) (λ f. rw (spell-whole-sum (f .1 .0) (f .1 .1 .0) (f .1 .1 .1 .0) _)) (λ f. sym (ap (λ x. readForest s (f .1 .1 .1 .1 .1 .1) (act (out (plain 0x14)) x)) (read-whole-sum (deeper d) (f .1 .0) (f .1 .1 .0) (f .1 .1 .1 .0) _)))
-  made (reference p g) = lift (made g) (λ r. name p ∷ r) (λ f. (Grammar.reference p (f .1 .0 .0) (f .1 .0 .1), f .1 .1)) (λ f. refl) (λ f. refl)
-  made (event p g) = lift (made g) (λ r. name p ∷ r) (λ f. ((p, f .1 .0), f .1 .1 .1 .1)) (λ f. refl) (λ f. refl)
-  made (scaled p g) = lift (made g) (λ r. number p ∷ r) (λ f. (index (Times p) (f .1 .1 .0), f .1 .1 .1)) (λ f. refl) (λ f. refl)
-  made (unscaled g) = lift (made g) (λ r. mark 5 ∷ r) (λ f. (index Once (f .0), f .1)) (λ f. refl) (λ f. refl)
-  made (shifted q g) = lift (made g) (λ r. mark (signMark q) ∷ r) (λ f. (By q (f .0), f .1)) (λ f. refl) (λ f. refl)
-  made (shift-none g) = lift (made g) (λ r. r) (λ f. (Unshifted, f)) (λ f. refl) (λ f. refl)
-  made (by-number p g) = lift (made g) (λ r. number p ∷ r) (λ f. (p, f)) (λ f. refl) (λ f. refl)
-  made (named p g) = lift (made g) (λ r. name p ∷ r) (λ f. (p, f)) (λ f. refl) (λ f. refl)
-  made (name-more p g) = lift (made g) (λ r. name p ∷ r) (λ f. (p ∷ f .0, f .1)) (λ f. refl) (λ f. refl)
-  made (name-none g) = lift (made g) (λ r. r) (λ f. ([], f)) (λ f. refl) (λ f. refl)
+  made : {s : List Sym} {m m′ : M} {ws : List Word} → Gen M act s m ws m′ → Made s ws
+  made done = record { trees = tt; spelled = refl }
+  made (token {k} g) = lift (made g) (λ r. mark k ∷ r) (λ f. (tt, f)) (λ f. refl)
+  made (does g) = lift (made g) (λ r. r) (λ f. (tt, f)) (λ f. refl)
+  made (not g) = lift (made g) (λ r. mark 33 ∷ r) (λ f. (Grammar.not (f .0), f .1 .1)) (λ f. refl)
+  made (group g) = lift (made g) (λ r. mark 123 ∷ r) (λ f. (Grammar.group (whole-cond (f .0) (f .1 .0) (f .1 .1 .0) (f .1 .1 .1 .0)), f .1 .1 .1 .1 .1)) (λ f. rw (spell-whole-cond (f .0) (f .1 .0) (f .1 .1 .0) (f .1 .1 .1 .0) _))
+  made (relation g) = lift (made g) (λ r. r) (λ f. (Grammar.relation (whole-sum (f .0) (f .1 .0) (f .1 .1 .0)) (f .1 .1 .1 .0 .0) (f .1 .1 .1 .0 .1), f .1 .1 .1 .1)) (λ f. rw (spell-whole-sum (f .0) (f .1 .0) (f .1 .1 .0) _))
+  made (compare c g) = lift (made g) (λ r. mark (relMark c) ∷ r) (λ f. ((c, whole-sum (f .0) (f .1 .0) (f .1 .1 .0)), f .1 .1 .1 .1)) (λ f. rw (spell-whole-sum (f .0) (f .1 .0) (f .1 .1 .0) _))
+  made (and-more g) = lift (made g) (λ r. mark 132 ∷ r) (λ f. (f .0 ∷ f .1 .1 .0, f .1 .1 .1)) (λ f. refl)
+  made (and-none g) = lift (made g) (λ r. r) (λ f. ([], f)) (λ f. refl)
+  made (or-more g) = lift (made g) (λ r. mark 131 ∷ r) (λ f. (whole-conj (f .0) (f .1 .0) ∷ f .1 .1 .1 .0, f .1 .1 .1 .1)) (λ f. rw (spell-conj-of (a-unit (f .0)) (f .1 .0) _))
+  made (or-none g) = lift (made g) (λ r. r) (λ f. ([], f)) (λ f. refl)
+  made (implies g) = lift (made g) (λ r. mark 130 ∷ r) (λ f. (some (whole-cond (f .0) (f .1 .0) (f .1 .1 .0) (f .1 .1 .1 .0)), f .1 .1 .1 .1 .1)) (λ f. rw (spell-whole-cond (f .0) (f .1 .0) (f .1 .1 .0) (f .1 .1 .1 .0) _))
+  made (implies-none g) = lift (made g) (λ r. r) (λ f. (none, f)) (λ f. refl)
+  made (add-more q g) = lift (made g) (λ r. mark (signMark q) ∷ r) (λ f. ((q, whole-prod (f .0) (f .1 .0)) ∷ f .1 .1 .1 .0, f .1 .1 .1 .1)) (λ f. rw (spell-prod-of (a-factor (f .0)) (f .1 .0) _))
+  made (add-none g) = lift (made g) (λ r. r) (λ f. ([], f)) (λ f. refl)
+  made (mul-more g) = lift (made g) (λ r. mark 42 ∷ r) (λ f. (f .0 ∷ f .1 .1 .0, f .1 .1 .1)) (λ f. refl)
+  made (mul-none g) = lift (made g) (λ r. r) (λ f. ([], f)) (λ f. refl)
+  made (literal p g) = lift (made g) (λ r. number p ∷ r) (λ f. (Grammar.literal p, f)) (λ f. refl)
+  made (var g) = lift (made g) (λ r. mark 5 ∷ r) (λ f. (Grammar.var, f)) (λ f. refl)
+  made (parens g) = lift (made g) (λ r. mark 40 ∷ r) (λ f. (Grammar.parens (whole-sum (f .0) (f .1 .0) (f .1 .1 .0)), f .1 .1 .1 .1)) (λ f. rw (spell-whole-sum (f .0) (f .1 .0) (f .1 .1 .0) _))
+  made (absolute g) = lift (made g) (λ r. mark 6 ∷ r) (λ f. (Grammar.absolute (whole-sum (f .1 .0) (f .1 .1 .0) (f .1 .1 .1 .0)), f .1 .1 .1 .1 .1 .1)) (λ f. rw (spell-whole-sum (f .1 .0) (f .1 .1 .0) (f .1 .1 .1 .0) _))
+  made (reference p g) = lift (made g) (λ r. name p ∷ r) (λ f. (Grammar.reference p (f .1 .0 .0) (f .1 .0 .1), f .1 .1)) (λ f. refl)
+  made (event p g) = lift (made g) (λ r. name p ∷ r) (λ f. ((p, f .1 .0), f .1 .1 .1 .1)) (λ f. refl)
+  made (scaled p g) = lift (made g) (λ r. number p ∷ r) (λ f. (index (Times p) (f .1 .1 .0), f .1 .1 .1)) (λ f. refl)
+  made (unscaled g) = lift (made g) (λ r. mark 5 ∷ r) (λ f. (index Once (f .0), f .1)) (λ f. refl)
+  made (shifted q g) = lift (made g) (λ r. mark (signMark q) ∷ r) (λ f. (By q (f .0), f .1)) (λ f. refl)
+  made (shift-none g) = lift (made g) (λ r. r) (λ f. (Unshifted, f)) (λ f. refl)
+  made (by-number p g) = lift (made g) (λ r. number p ∷ r) (λ f. (p, f)) (λ f. refl)
+  made (named p g) = lift (made g) (λ r. name p ∷ r) (λ f. (p, f)) (λ f. refl)
+  made (name-more p g) = lift (made g) (λ r. name p ∷ r) (λ f. (p ∷ f .0, f .1)) (λ f. refl)
+  made (name-none g) = lift (made g) (λ r. r) (λ f. ([], f)) (λ f. refl)
 
   -- a derivation of a whole rule comes from a tree
-  pub ruled : {m m′ : M} {ws : List Word} → Gen M act start m ws m′ → (x : Rule) × (yield x ≡ ws) × (m′ ≡ readRule M act x m)
-  ruled {m} g = go (made g)
+  pub ruled : {m m′ : M} {ws : List Word} → Gen M act start m ws m′ → (x : Rule) × (yield x ≡ ws)
+  ruled g = go (made g)
     where
-      go : {m′ : M} {ws : List Word} → Made start m ws m′ → (x : Rule) × (yield x ≡ ws) × (m′ ≡ readRule M act x m)
+      go : {ws : List Word} → Made start ws → (x : Rule) × (yield x ≡ ws)
       go q =
           let f = q .trees in
           let h = f .1 .1 .1 .1 in
           let c = h .1 .1 .1 .1 in
-          let x : Rule = rule (f .1 .0) (f .1 .1 .0) (h .1 .0) (h .1 .1 .0) (whole-cond (c .0) (c .1 .0) (c .1 .1 .0) (c .1 .1 .1 .0)) in
-          (x, (rw (spell-whole-cond (c .0) (c .1 .0) (c .1 .1 .0) (c .1 .1 .1 .0) []) (sym (q .spelled))), rw (read-whole-cond 0 (c .0) (c .1 .0) (c .1 .1 .0) (c .1 .1 .1 .0) _) (q .was-read))
+          (rule (f .1 .0) (f .1 .1 .0) (h .1 .0) (h .1 .1 .0) (whole-cond (c .0) (c .1 .0) (c .1 .1 .0) (c .1 .1 .1 .0)), rw (spell-whole-cond (c .0) (c .1 .0) (c .1 .1 .0) (c .1 .1 .1 .0) []) (sym (q .spelled)))

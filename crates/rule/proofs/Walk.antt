@@ -1,67 +1,79 @@
--- What reading a tree does to a memory: its acts, in the order of the text. Assumes nothing: definitions.
-use mathlib.Core.List.{List, [], _∷_}
-use Prim.Native.Nat.{ℕ}
+-- What reading a tree does to a memory: what its items do, in the order of the text. Assumes nothing.
+use mathlib.Core.Path.{_≡_, refl, ap, _∙_}
+use mathlib.Core.List.{List, [], _∷_, _++_}
+use Prim.Native.Nat.{ℕ, zero, suc}
 use Rattle.rule.specs.declared.parts.Place.{Place}
 use Rattle.rule.specs.declared.parts.Role.{Role}
 use Rattle.rule.specs.declared.parts.Role.the-variants.{Event, Note}
-use Rattle.rule.specs.declared.parts.Limit.the-variants.{OfLiteral, OfFactor, OfOffset}
-use Rattle.rule.specs.declared.parts.Scale.{Scale}
-use Rattle.rule.specs.declared.parts.Scale.the-variants.{Once, Times}
-use Rattle.rule.specs.declared.parts.Shift.{Shift}
-use Rattle.rule.specs.declared.parts.Shift.the-variants.{Unshifted, By}
-use Rattle.rule.specs.Grammar.{Index, index, Cond, a-disj, implies, Disj, a-conj, or, Conj, a-unit, and, CUnit, not, group, relation, Sum, a-prod, add, Prod, a-factor, multiply, Factor, literal, var, parens, absolute, reference, Rule, rule}
-use Rattle.rule.specs.Draft.{lit, index-var, ref, plain, signKind, relKind}
+use Rattle.rule.specs.Frames.{Kind}
+use Rattle.rule.specs.Grammar.{Rule, rule}
+use Rattle.rule.specs.Draft.{Draft, alone}
+use Rattle.rule.specs.Items.{Item, enters, puts, deepened, inside, operates, itemsCond}
+use Rattle.rule.specs.Measure.{Named, declared, used, Sized, sized-by, namesOf, numbersOf, declares}
 use Rattle.rule.specs.Machine.{Act, declare, uses, sized, enter, out, deeper}
 
--- What reading a tree at depth d does to a memory.
+-- k levels deeper than d, as the machine counts
+abbrev pub down : ℕ → ℕ → ℕ
+down zero d = d
+down (suc k) d = down k (deeper d)
+
+-- f of each member, one after the other
+abbrev pub readEach : {A M : Type 0} → (A → M → M) → List A → M → M
+readEach f [] m = m
+readEach f (x ∷ xs) m = readEach f xs (f x m)
+
 module _ (M : Type 0) (act : Act → M → M) where
-  abbrev pub readScale : Scale → M → M
-  readScale Once m = m
-  readScale (Times p) m = act (sized OfFactor p) m
+  abbrev pub readName : Named → M → M
+  readName (declared r p) m = act (declare r p) m
+  readName (used r p) m = act (uses r p) m
 
-  abbrev pub readShift : Shift → M → M
-  readShift Unshifted m = m
-  readShift (By g p) m = act (sized OfOffset p) m
+  abbrev pub readNumber : Sized → M → M
+  readNumber (sized-by l p) m = act (sized l p) m
 
-  abbrev pub readIndex : Place → Place → Index → M → M
-  readIndex n e (index f o) m = act (out (ref n e f o)) (readShift o (readScale f m))
+  -- a frame: its names and numbers, then the frame itself
+  abbrev pub readDraft : Draft → M → M
+  readDraft f m = act (out f) (readEach readNumber (numbersOf f) (readEach readName (namesOf f) m))
 
-  abbrev mutual
-    pub readCond : ℕ → Cond → M → M
-    readCond d (a-disj x) m = readDisj d x m
-    readCond d (implies x y) m = act (out (plain 0x34)) (readCond (deeper d) y (act (enter (deeper d)) (readDisj d x m)))
-
-    pub readDisj : ℕ → Disj → M → M
-    readDisj d (a-conj x) m = readConj d x m
-    readDisj d (or x y) m = act (out (plain 0x33)) (readConj d y (readDisj d x m))
-
-    pub readConj : ℕ → Conj → M → M
-    readConj d (a-unit x) m = readUnit d x m
-    readConj d (and x y) m = act (out (plain 0x32)) (readUnit d y (readConj d x m))
-
-    pub readUnit : ℕ → CUnit → M → M
-    readUnit d (not x) m = act (out (plain 0x31)) (readUnit (deeper d) x (act (enter (deeper d)) m))
-    readUnit d (group x) m = readCond (deeper d) x (act (enter (deeper d)) m)
-    readUnit d (relation x c y) m = act (out (plain (relKind c))) (readSum d y (readSum d x m))
-
-    pub readSum : ℕ → Sum → M → M
-    readSum d (a-prod x) m = readProd d x m
-    readSum d (add x g y) m = act (out (plain (signKind g))) (readProd d y (readSum d x m))
-
-    pub readProd : ℕ → Prod → M → M
-    readProd d (a-factor x) m = readFactor d x m
-    readProd d (multiply x y) m = act (out (plain 0x13)) (readFactor d y (readProd d x m))
-
-    pub readFactor : ℕ → Factor → M → M
-    readFactor d (literal p) m = act (out (lit p)) (act (sized OfLiteral p) m)
-    readFactor d var m = act (out index-var) m
-    readFactor d (parens x) m = readSum (deeper d) x (act (enter (deeper d)) m)
-    readFactor d (absolute x) m = act (out (plain 0x14)) (readSum (deeper d) x (act (enter (deeper d)) m))
-    readFactor d (reference n e x) m = readIndex n e x (act (uses Event e) (act (uses Note n) m))
+  -- items that stand at depth d
+  abbrev pub readItems : ℕ → List Item → M → M
+  readItems d [] m = m
+  readItems d (enters k ∷ l) m = readItems d l (act (enter (down k d)) m)
+  readItems d (puts f ∷ l) m = readItems d l (readDraft f m)
 
   abbrev pub readNames : Role → List Place → M → M
-  readNames r [] m = m
-  readNames r (p ∷ ps) m = readNames r ps (act (declare r p) m)
+  readNames r ps m = readEach readName (declares r ps) m
 
   abbrev pub readRule : Rule → M → M
-  readRule (rule e es n ns c) m = readCond 0 c (readNames Note ns (act (declare Note n) (readNames Event es (act (declare Event e) m))))
+  readRule (rule e es n ns c) m = readItems 0 (itemsCond c) (readNames Note (n ∷ ns) (readNames Event (e ∷ es) m))
+
+  -- items and then others
+  read-append : (d : ℕ) (a b : List Item) (m : M) → readItems d (a ++ b) m ≡ readItems d b (readItems d a m)
+  read-append d [] b m = refl
+  read-append d (enters k ∷ a) b m = read-append d a b (act (enter (down k d)) m)
+  read-append d (puts f ∷ a) b m = read-append d a b (readDraft f m)
+
+  -- one level further in
+  pub read-in : (d : ℕ) (a : List Item) (m : M) → readItems d (inside a) m ≡ readItems (deeper d) a (act (enter (deeper d)) m)
+  read-in d a m = go a (act (enter (deeper d)) m)
+    where
+      go : (l : List Item) (m₁ : M) → readItems d (deepened l) m₁ ≡ readItems (deeper d) l m₁
+      go [] m₁ = refl
+      go (enters k ∷ l) m₁ = go l (act (enter (down k (deeper d))) m₁)
+      go (puts f ∷ l) m₁ = go l (readDraft f m₁)
+
+  -- an operation, after one operand and after two
+  read-one : (d : ℕ) (a : List Item) (k : Kind) (m : M) → readItems d (a ++ operates k) m ≡ act (out (alone k)) (readItems d a m)
+  read-one d a k m = read-append d a (operates k) m
+
+  pub read-two : (d : ℕ) (a b : List Item) (k : Kind) (m : M)
+      → readItems d (a ++ b ++ operates k) m ≡ act (out (alone k)) (readItems d b (readItems d a m))
+  read-two d a b k m = read-one d (a ++ b) k m ∙ ap (act (out (alone k))) (read-append d a b m)
+
+  -- the last operand one level further in
+  pub read-one-in : (d : ℕ) (a : List Item) (k : Kind) (m : M)
+      → readItems d (inside a ++ operates k) m ≡ act (out (alone k)) (readItems (deeper d) a (act (enter (deeper d)) m))
+  read-one-in d a k m = read-one d (inside a) k m ∙ ap (act (out (alone k))) (read-in d a m)
+
+  pub read-two-in : (d : ℕ) (a b : List Item) (k : Kind) (m : M)
+      → readItems d (a ++ inside b ++ operates k) m ≡ act (out (alone k)) (readItems (deeper d) b (act (enter (deeper d)) (readItems d a m)))
+  read-two-in d a b k m = read-two d a (inside b) k m ∙ ap (act (out (alone k))) (read-in d b (readItems d a m))

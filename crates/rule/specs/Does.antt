@@ -2,12 +2,11 @@
 use mathlib.Core.Path.{_≡_}
 use mathlib.Core.List.{List}
 use Prim.Native.Nat.{ℕ, _≤_, _<_}
-use mathlib.Core.Bool.{cond}
-use lib.Dec.{eqb}
 use lib.ListN.{length}
-use Rattle.rule.specs.Frames.{Arithmetic, Relation, Kind, kindByte}
-use Rattle.rule.specs.Token.{unequalKind, atMostKind, atLeastKind, tokensFrom}
-use Rattle.rule.specs.Grammar.{plusMark, minusMark, equalMark, lessMark, moreMark}
+use Rattle.rule.specs.Frames.{Kind, kindByte}
+use Rattle.rule.specs.Token.{tokensFrom}
+use Rattle.rule.specs.Grammar.{relMark, rels, signMark, signs, byMark}
+use Rattle.rule.specs.Draft.{relationOf, signOf}
 use Rattle.rule.specs.Machine.{Sym, Answer, refused, run}
 use Rattle.rule.specs.Memory.{Mem, acts, mem}
 use Rattle.rule.specs.declared.parts.Place.{Place}
@@ -54,14 +53,8 @@ InsideShift n (By g p) = Inside n p
 
 -- the kind of frame that a token stands for, 0 for none: of "+" and "-"
 unfoldable pub signByte : ℕ → ℕ
-signByte k = cond (eqb k plusMark) (kindByte (Kind.arithmetic Arithmetic.add)) (cond (eqb k minusMark) (kindByte (Kind.arithmetic Arithmetic.subtract)) 0)
+signByte k = byMark signMark k (λ g. kindByte (Kind.arithmetic (signOf g))) 0 signs
 
 -- and of the relations
 unfoldable pub relByte : ℕ → ℕ
-relByte k =
-    cond (eqb k equalMark) (kindByte (Kind.relation Relation.equal))
-    (cond (eqb k unequalKind) (kindByte (Kind.relation Relation.unequal))
-    (cond (eqb k lessMark) (kindByte (Kind.relation Relation.less))
-    (cond (eqb k atMostKind) (kindByte (Kind.relation Relation.atMost))
-    (cond (eqb k moreMark) (kindByte (Kind.relation Relation.more))
-    (cond (eqb k atLeastKind) (kindByte (Kind.relation Relation.atLeast)) 0)))))
+relByte k = byMark relMark k (λ c. kindByte (Kind.relation (relationOf c))) 0 rels

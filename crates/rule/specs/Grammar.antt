@@ -86,10 +86,23 @@ relMark at-most = atMostKind
 relMark more = moreMark
 relMark at-least = atLeastKind
 
+-- all of them, in this order
+abbrev pub rels : List Rel
+rels = equal ∷ unequal ∷ less ∷ at-most ∷ more ∷ at-least ∷ []
+
 -- "+" or "-"
 abbrev pub signMark : Sign → ℕ
 signMark Plus = plusMark
 signMark Minus = minusMark
+
+-- both, in this order
+abbrev pub signs : List Sign
+signs = Plus ∷ Minus ∷ []
+
+-- at a token of kind k: f of the first in the list that has k for its mark, or z
+abbrev pub byMark : {A B : Type 0} → (A → ℕ) → ℕ → (A → B) → B → List A → B
+byMark its k f z [] = z
+byMark its k f z (x ∷ xs) = cond (eqb k (its x)) (f x) (byMark its k f z xs)
 
 -- each function: the words of the tree, and then r; [number "*"]
 abbrev pub spellScale : Scale → List Word → List Word

@@ -4,16 +4,17 @@ pub mod Token
 pub mod Limits
 pub mod ReadLimits
 pub mod Grammar
+pub mod Frames
+pub mod Draft
+pub mod Items
 pub mod Measure
 pub mod Spelling
-pub mod Frames
 pub mod Tree
 pub mod Meaning
 pub mod Told
 pub mod Opening
 pub mod Answers
 -- What the contracts of the code are said by; the theorems in proofs/Main tie it to the definitions above.
-pub mod Draft
 pub mod Name
 pub mod Number
 pub mod Machine

@@ -5,21 +5,22 @@ use mathlib.Core.Bool.{cond}
 use mathlib.Core.List.{List, [], _∷_}
 use lib.Dec.{leb, eqb}
 use Rattle.rule.specs.ReadLimits.{depthLimit}
-use Rattle.rule.specs.Frames.{Arithmetic, Relation, Connective, Kind}
-use Rattle.rule.specs.Token.{nameKind, numberKind, eventsKind, notesKind, indexKind, absKind, arrowKind, barsKind, ampersandsKind, unequalKind, atMostKind, atLeastKind}
+use Rattle.rule.specs.Frames.{Arithmetic, Connective, Kind}
+use Rattle.rule.specs.Token.{nameKind, numberKind, eventsKind, notesKind, indexKind, absKind}
+use Rattle.rule.specs.Token.{arrowKind, barsKind, ampersandsKind}
 use Rattle.rule.specs.declared.Token.{Token}
-use Rattle.rule.specs.Grammar.{semicolon, bang, openBrace, closeBrace, openParen, closeParen, openBracket, closeBracket, star, plusMark, minusMark, equalMark, lessMark, moreMark, place}
+use Rattle.rule.specs.Grammar.{semicolon, bang, openBrace, closeBrace, openParen, closeParen, openBracket, closeBracket, star}
+use Rattle.rule.specs.Grammar.{relMark, rels, signMark, signs, byMark, place}
 use Rattle.rule.specs.declared.parts.Place.{Place}
 use Rattle.rule.specs.declared.parts.Role.{Role}
 use Rattle.rule.specs.declared.parts.Role.the-variants.{Event, Note}
 use Rattle.rule.specs.declared.parts.Limit.{Limit}
 use Rattle.rule.specs.declared.parts.Limit.the-variants.{OfLiteral, OfFactor, OfOffset}
 use Rattle.rule.specs.declared.parts.Sign.{Sign}
-use Rattle.rule.specs.declared.parts.Sign.the-variants.{Plus, Minus}
 use Rattle.rule.specs.declared.parts.Scale.{Scale}
 use Rattle.rule.specs.declared.parts.Scale.the-variants.{Once, Times}
 use Rattle.rule.specs.declared.parts.Shift.the-variants.{Unshifted, By}
-use Rattle.rule.specs.Draft.{Draft, lit, index-var, ref, alone}
+use Rattle.rule.specs.Draft.{Draft, lit, index-var, ref, alone, relationOf, signOf}
 
 -- what reading does, in the order of the text
 pub data Act : Type 0 where
@@ -100,15 +101,8 @@ module _ (M : Type 0) (act : Act → M → M) where
   step (factor d ∷ s) m k p = startFactor d m k p s
   step (muls d ∷ s) m k p = cond (eqb k star) (on (factor d ∷ doing (out (alone (Kind.arithmetic Arithmetic.multiply))) ∷ muls d ∷ s) m) (step s m k p)
   step (adds d ∷ s) m k p =
-      cond (eqb k plusMark) (on (prod d (doing (out (alone (Kind.arithmetic Arithmetic.add))) ∷ adds d ∷ s)) m)
-      (cond (eqb k minusMark) (on (prod d (doing (out (alone (Kind.arithmetic Arithmetic.subtract))) ∷ adds d ∷ s)) m) (step s m k p))
-  step (rel d ∷ s) m k p =
-      cond (eqb k equalMark) (on (sum d (doing (out (alone (Kind.relation Relation.equal))) ∷ s)) m)
-      (cond (eqb k unequalKind) (on (sum d (doing (out (alone (Kind.relation Relation.unequal))) ∷ s)) m)
-      (cond (eqb k lessMark) (on (sum d (doing (out (alone (Kind.relation Relation.less))) ∷ s)) m)
-      (cond (eqb k atMostKind) (on (sum d (doing (out (alone (Kind.relation Relation.atMost))) ∷ s)) m)
-      (cond (eqb k moreMark) (on (sum d (doing (out (alone (Kind.relation Relation.more))) ∷ s)) m)
-      (cond (eqb k atLeastKind) (on (sum d (doing (out (alone (Kind.relation Relation.atLeast))) ∷ s)) m) stuck)))))
+      byMark signMark k (λ g. on (prod d (doing (out (alone (Kind.arithmetic (signOf g)))) ∷ adds d ∷ s)) m) (step s m k p) signs
+  step (rel d ∷ s) m k p = byMark relMark k (λ c. on (sum d (doing (out (alone (Kind.relation (relationOf c)))) ∷ s)) m) stuck rels
   step (want x ∷ s) m k p = cond (eqb k x) (on s m) stuck
   step (name-of r ∷ s) m k p = cond (eqb k nameKind) (on s (act (declare r p) m)) stuck
   step (names-of r ∷ s) m k p = cond (eqb k nameKind) (on (names-of r ∷ s) (act (declare r p) m)) (step s m k p)
@@ -117,8 +111,7 @@ module _ (M : Type 0) (act : Act → M → M) where
       cond (eqb k numberKind) (on (want star ∷ want indexKind ∷ ref-shift n e (Times p) ∷ s) (act (sized OfFactor p) m))
       (cond (eqb k indexKind) (on (ref-shift n e Once ∷ s) m) stuck)
   step (ref-shift n e f ∷ s) m k p =
-      cond (eqb k plusMark) (on (ref-by n e f Plus ∷ s) m)
-      (cond (eqb k minusMark) (on (ref-by n e f Minus ∷ s) m) (step s (act (out (ref n e f Unshifted)) m) k p))
+      byMark signMark k (λ g. on (ref-by n e f g ∷ s) m) (step s (act (out (ref n e f Unshifted)) m) k p) signs
   step (ref-by n e f g ∷ s) m k p = cond (eqb k numberKind) (on s (act (out (ref n e f (By g p))) (act (sized OfOffset p) m))) stuck
   step (doing a ∷ s) m k p = step s (act a m) k p
 

@@ -3,32 +3,18 @@
 use Prim.Native.Nat.{ℕ}
 use mathlib.Core.List.{List}
 use lib.IntN.{ℤ, pos, negℤ}
-use Rattle.rule.specs.Frames.{Arithmetic, Relation, Connective}
+use Rattle.rule.specs.Frames.{Arithmetic, Connective}
 use Rattle.rule.specs.Grammar
+use Rattle.rule.specs.Draft.{relationOf, signOf}
 use Rattle.rule.specs.Tree
 use Rattle.rule.specs.Spelling.{numberOfName, decimal, letters}
 use Rattle.rule.specs.declared.parts.Place.{Place}
 use Rattle.rule.specs.declared.parts.Role.the-variants.{Event, Note}
-use Rattle.rule.specs.declared.parts.Sign.{Sign}
 use Rattle.rule.specs.declared.parts.Sign.the-variants.{Plus, Minus}
 use Rattle.rule.specs.declared.parts.Scale.{Scale}
 use Rattle.rule.specs.declared.parts.Scale.the-variants.{Once, Times}
 use Rattle.rule.specs.declared.parts.Shift.{Shift}
 use Rattle.rule.specs.declared.parts.Shift.the-variants.{Unshifted, By}
-
--- rel: "= != < <= > >="
-abbrev pub relationOf : Grammar.Rel → Relation
-relationOf Grammar.equal = Relation.equal
-relationOf Grammar.unequal = Relation.unequal
-relationOf Grammar.less = Relation.less
-relationOf Grammar.at-most = Relation.atMost
-relationOf Grammar.more = Relation.more
-relationOf Grammar.at-least = Relation.atLeast
-
--- sum: "+" adds, "-" subtracts
-abbrev pub signOf : Sign → Arithmetic
-signOf Plus = Arithmetic.add
-signOf Minus = Arithmetic.subtract
 
 -- eventOf and noteOf number a name in its role, value is the number that stands at a place
 module _ (eventOf noteOf value : Place → ℕ) where
