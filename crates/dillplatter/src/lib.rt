@@ -64,9 +64,9 @@ pub extern "C" fn dillplatter_feed(state: State, window: &mut [i32], line: &[u8]
     let fed = checker::feed_parts(&frames, fields, window, line);
     let a = fed.answer;
     let feeding = told::feeding(a);
-    let after = fed.fields;
+    let counted = fed.fields;
     CallResult {
-        state: checker::with_fields(frames, after),
+        state: checker::with_fields(frames, counted),
         answer: feeding.answer,
         number: feeding.number,
         place: feeding.place,
@@ -84,9 +84,9 @@ pub extern "C" fn dillplatter_pull(state: State, window: &[i32], report: &mut [u
     let pulled = checker::pull_parts(&frames, fields, window, report);
     let a = pulled.answer;
     let pulling = told::pulling(a);
-    let after = pulled.fields;
+    let moved = pulled.fields;
     CallResult {
-        state: checker::with_fields(frames, after),
+        state: checker::with_fields(frames, moved),
         answer: pulling.answer,
         number: pulling.number,
         place: pulling.place,
