@@ -120,8 +120,8 @@ module _ {frames : List ℕ} {w : ℕ} {win : List ℤ} (o : Unrefused frames w 
   window-holds = Exactly.window-holds o cs
 
 -- ---- from a rule's text to its verdicts: for every text that `read` accepts, the tree that spells it, every W and unrefused opening
--- with the frames that were filled, and every list of calls: each verdict handed out is that of the value, at its instance over the lines
--- accepted in the list, of the rule that the text means
+-- with the frames that were filled, and every list of calls: each verdict handed out is that of the value, at its instance over the
+-- lines accepted in the list, of the rule that the text means
 pub text-to-verdict : (text buffer filled : List ℕ) (n : ℕ) → readOf text buffer ≡ (reading.Frames n, filled) → (x : Rule) → yield x ≡ words (tokens text)
     → (w : ℕ) (win : List ℤ) → openDef (take (n * frameBytes) filled) w win .answer ≡ opened → (cs : List Call) (i : ℕ) → i < length (handedOut (take (n * frameBytes) filled) w win cs)
     → getD (handedOut (take (n * frameBytes) filled) w win cs) i Unknown
