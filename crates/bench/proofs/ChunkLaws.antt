@@ -20,8 +20,8 @@ use Rattle.checker.specs.Feed.{fedBy, lineIn, fedIf, feedDef}
 use Rattle.checker.specs.Ready.{Ready}
 use Rattle.checker.specs.declared.State.{State}
 use Rattle.bench.specs.Kept.{keptLimit, kept}
-use Rattle.bench.specs.Progress.{Progress, Open, fedLine, afterLine, afterBytes, lastLine}
-use Rattle.bench.specs.Carried.{outBytes, roomy, before, After, openOf, AfterOpen}
+use Rattle.bench.specs.Progress.{Progress, Chunked, fedLine, afterLine, afterBytes, lastLine}
+use Rattle.bench.specs.Carried.{outBytes, roomy, before, After, chunkedOf, AfterChunked}
 use Rattle.bench.specs.declared.Run.{Run}
 use Rattle.bench.proofs.RunLaws.{after-refl, after-trans, line-grows, line-before}
 
@@ -82,7 +82,7 @@ kept-short : (s : List ℕ) → length (take keptLimit s) ≤ keptLimit
 kept-short s = omega (arith, length-take keptLimit s)
 
 -- ---- a chunk's first line, and what is left of it
-abbrev holding : Progress → List ℕ → Open
+abbrev holding : Progress → List ℕ → Chunked
 holding x h = record { progress = x; held = h }
 
 pub split-line : (x : Progress) (h r : List ℕ) → toLF r < length r
@@ -115,15 +115,15 @@ split-none x h (b ∷ r) l e = go (eqb b 10) e (split-none x (kept h (b ∷ []))
     go false m i = i (omega arith) ∙ ap (holding x) (kept-next h b r)
 
 -- ---- what was written before stays in front
-abbrev beforeOpen : List ℕ → Open → Open
+abbrev beforeOpen : List ℕ → Chunked → Chunked
 beforeOpen w o = record { progress = before w (o .progress); held = o .held }
 
-bytes-before : (w : List ℕ) (o : Open) (s : List ℕ) → afterBytes (beforeOpen w o) s ≡ beforeOpen w (afterBytes o s)
+bytes-before : (w : List ℕ) (o : Chunked) (s : List ℕ) → afterBytes (beforeOpen w o) s ≡ beforeOpen w (afterBytes o s)
 unfolding afterBytes
 bytes-before w o [] = refl
 bytes-before w o (b ∷ s) = go (eqb b 10) (λ p. bytes-before w p s)
   where
-    go : (t : Bool) → ((p : Open) → afterBytes (beforeOpen w p) s ≡ beforeOpen w (afterBytes p s))
+    go : (t : Bool) → ((p : Chunked) → afterBytes (beforeOpen w p) s ≡ beforeOpen w (afterBytes p s))
         → afterBytes (cond t (holding (afterLine (before w (o .progress)) (o .held)) []) (holding (before w (o .progress)) (kept (o .held) (b ∷ [])))) s
         ≡ beforeOpen w (afterBytes (cond t (holding (afterLine (o .progress) (o .held)) []) (holding (o .progress) (kept (o .held) (b ∷ [])))) s)
     go true i =
@@ -131,18 +131,18 @@ bytes-before w o (b ∷ s) = go (eqb b 10) (λ p. bytes-before w p s)
         ∙ i (holding (afterLine (o .progress) (o .held)) [])
     go false i = i (holding (o .progress) (kept (o .held) (b ∷ [])))
 
-bytes-grow : (o : Open) (s : List ℕ) → length (o .progress .said) ≤ length (afterBytes o s .progress .said)
+bytes-grow : (o : Chunked) (s : List ℕ) → length (o .progress .said) ≤ length (afterBytes o s .progress .said)
 unfolding afterBytes
 bytes-grow o [] = omega arith
 bytes-grow o (b ∷ s) = go (eqb b 10) (λ p. bytes-grow p s)
   where
-    go : (t : Bool) → ((p : Open) → length (p .progress .said) ≤ length (afterBytes p s .progress .said))
+    go : (t : Bool) → ((p : Chunked) → length (p .progress .said) ≤ length (afterBytes p s .progress .said))
         → length (o .progress .said)
         ≤ length (afterBytes (cond t (holding (afterLine (o .progress) (o .held)) []) (holding (o .progress) (kept (o .held) (b ∷ [])))) s .progress .said)
     go true i = let g = line-grows (o .progress) (o .held) in let j = i (holding (afterLine (o .progress) (o .held)) []) in omega arith
     go false i = i (holding (o .progress) (kept (o .held) (b ∷ [])))
 
-pub open-refl : (o : Open) → AfterOpen o o
+pub open-refl : (o : Chunked) → AfterChunked o o
 open-refl o = record { progress = after-refl (o .progress); held = refl }
 
 -- ---- the loop over a chunk's lines
@@ -163,14 +163,14 @@ never-end s at h f =
 
 -- a line that ends in the chunk
 pub chunk-line : (s : List ℕ) (at b e n : ℕ) → lineAt s at ≡ Line b e n → at < length s → e < n
-    → (want : Open) (x : Progress) (h : List ℕ) (y : Progress) → AfterOpen want (afterBytes (holding x h) (drop at s))
-    → After (afterLine x (h ++ take (e - b) (drop b s))) y → AfterOpen want (afterBytes (holding y []) (drop n s))
+    → (want : Chunked) (x : Progress) (h : List ℕ) (y : Progress) → AfterChunked want (afterBytes (holding x h) (drop at s))
+    → After (afterLine x (h ++ take (e - b) (drop b s))) y → AfterChunked want (afterBytes (holding y []) (drop n s))
 chunk-line s at b e n f l m want x h y w a = go (ltb (endOf s at) (length s)) refl (found .1 .1)
   where
     found : (b ≡ at) × ((e ≡ endOf s at) × (n ≡ cond (ltb (endOf s at) (length s)) (endOf s at + 1) (endOf s at)))
     found = found-at s at b e n l f
 
-    go : (t : Bool) → ltb (endOf s at) (length s) ≡ t → n ≡ cond t (endOf s at + 1) (endOf s at) → AfterOpen want (afterBytes (holding y []) (drop n s))
+    go : (t : Bool) → ltb (endOf s at) (length s) ≡ t → n ≡ cond t (endOf s at + 1) (endOf s at) → AfterChunked want (afterBytes (holding y []) (drop n s))
     go false d c = absurd (omega (arith, found .1 .0))
     go true d c =
         let k = ltb-true (endOf s at) (length s) d in
@@ -197,14 +197,14 @@ chunk-line s at b e n f l m want x h y w a = go (ltb (endOf s at) (length s)) re
 
 -- the rest of a chunk
 pub chunk-rest : (s : List ℕ) (at b e n : ℕ) → lineAt s at ≡ Line b e n → at < length s → n ≤ e
-    → (want : Open) (x : Progress) (h : List ℕ) → length h ≤ keptLimit → AfterOpen want (afterBytes (holding x h) (drop at s))
-    → AfterOpen want (holding x (kept h (take (e - b) (drop b s))))
+    → (want : Chunked) (x : Progress) (h : List ℕ) → length h ≤ keptLimit → AfterChunked want (afterBytes (holding x h) (drop at s))
+    → AfterChunked want (holding x (kept h (take (e - b) (drop b s))))
 chunk-rest s at b e n f l m want x h k w = go (ltb (endOf s at) (length s)) refl (found .1 .1)
   where
     found : (b ≡ at) × ((e ≡ endOf s at) × (n ≡ cond (ltb (endOf s at) (length s)) (endOf s at + 1) (endOf s at)))
     found = found-at s at b e n l f
 
-    go : (t : Bool) → ltb (endOf s at) (length s) ≡ t → n ≡ cond t (endOf s at + 1) (endOf s at) → AfterOpen want (holding x (kept h (take (e - b) (drop b s))))
+    go : (t : Bool) → ltb (endOf s at) (length s) ≡ t → n ≡ cond t (endOf s at + 1) (endOf s at) → AfterChunked want (holding x (kept h (take (e - b) (drop b s))))
     go true d c = absurd (omega (arith, found .1 .0))
     go false d c =
         let o = ltb-false (endOf s at) (length s) d in
@@ -215,7 +215,7 @@ chunk-rest s at b e n f l m want x h k w = go (ltb (endOf s at) (length s)) refl
         let i : take (e - b) (drop b s) ≡ r = rw (found .0) (take-all (e - at) r (omega (arith, found .1 .0))) in
         rw i (rw (split-none x h r k u) at w)
 
-pub bytes-done : (s : List ℕ) (at : ℕ) (o : Open) → length s ≤ at → afterBytes o (drop at s) ≡ o
+pub bytes-done : (s : List ℕ) (at : ℕ) (o : Chunked) → length s ≤ at → afterBytes o (drop at s) ≡ o
 unfolding afterBytes
 bytes-done s at o h = rw (drop-of-length-le s h)
 
@@ -233,4 +233,4 @@ pub record Walked (frames carry0 : List ℕ) (win0 : List ℤ) (out0 s : List �
   pub carry-long : length carry ≡ keptLimit
   pub win-long : length win ≡ length win0
   pub out-long : length out ≡ outBytes
-  pub same : AfterOpen (afterBytes (openOf frames q0 carry0 win0 out0) s) (afterBytes (openOf frames q carry win out) (drop at s))
+  pub same : AfterChunked (afterBytes (chunkedOf frames q0 carry0 win0 out0) s) (afterBytes (chunkedOf frames q carry win out) (drop at s))

@@ -18,14 +18,14 @@ use Rattle.verdict.specs.declared.Verdict.the-variants.{False}
 use Rattle.checker.specs.Answer.{verdict}
 use Rattle.checker.specs.State.{stateFrames, refsIn}
 use Rattle.checker.specs.Open.{windowFits, OpenResult}
-use Rattle.checker.specs.Good.{goodState}
+use Rattle.checker.specs.StateTest.{statePasses}
 use Rattle.checker.specs.Report.{reportBytes}
 use Rattle.checker.specs.Pull.{foundHere, pullDef}
 use Rattle.checker.specs.declared.State.{State}
 use Rattle.checker.proofs.Laws.{let-in}
 use Rattle.bench.specs.Print.{refusedLine, reportPart}
 use Rattle.bench.specs.Kept.{keptLimit}
-use Rattle.bench.specs.Progress.{Progress, blank, UntilWaiting, pulls, pullLimit, fedLine, afterLine, afterLines, Open, afterBytes, atEnd}
+use Rattle.bench.specs.Progress.{Progress, blank, UntilWaiting, pulls, pullLimit, fedLine, afterLine, afterLines, Chunked, afterBytes, atEnd}
 use Rattle.bench.specs.Output.{atStart, withTotals, begun, wholeRun, openedFor, outputOf}
 use Rattle.bench.proofs.ChunkLaws
 use Rattle.bench.proofs.Whole
@@ -33,7 +33,7 @@ use Rattle.bench.proofs.Waiting
 
 -- "pulls until waiting": for a state that 12 lets through, its frames bytes as an array of them is, and a window that 13 does,
 -- pullLimit pulls are enough
-pub pulls-wait : (x : Progress) → goodState (x .state) ≡ true → Bytes (stateFrames (x .state))
+pub pulls-wait : (x : Progress) → statePasses (x .state) ≡ true → Bytes (stateFrames (x .state))
     → windowFits (x .state .width) (x .words) ≡ true → UntilWaiting x (pulls pullLimit x)
 pulls-wait x g b f = Waiting.pulls-wait x (record { admits = let-in (x .state) (x .words) g f; bytes = b })
 
@@ -48,7 +48,7 @@ module _ (text : List ℕ) (n : ℕ) (s : List ℕ) (r : readOf text (replicate 
   line-waits = Waiting.line-waits text _ n s r
 
 -- "a line cut by the buffer's end is one line": chunks one after the other do what all their bytes at once do
-pub chunks-join : (o : Open) (s t : List ℕ) → afterBytes o (s ++ t) ≡ afterBytes (afterBytes o s) t
+pub chunks-join : (o : Chunked) (s t : List ℕ) → afterBytes o (s ++ t) ≡ afterBytes (afterBytes o s) t
 chunks-join = Whole.bytes-cut
 
 -- the bytes of a log, with what is held at its end as a line, are the log's lines, each fed whole

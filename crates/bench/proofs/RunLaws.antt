@@ -25,7 +25,7 @@ use Rattle.checker.specs.declared.feeding.FedFields.{FedFields}
 use Rattle.checker.specs.declared.pulling.PulledFields.{PulledFields}
 use Rattle.checker.specs.declared.parts.Fields.{Fields}
 use Rattle.checker.specs.declared.State.{State}
-use Rattle.checker.proofs.Laws.{open-admitted, feed-admitted, pull-admitted}
+use Rattle.checker.proofs.Laws.{opened-stays, fed-stays, pulled-stays}
 use Rattle.bench.specs.Print.{reportPart}
 use Rattle.bench.specs.Progress.{Progress, blank, pullOf, printed, isVerdict, pulledOnce, pulls, pullLimit, countedBy, fedLine, afterLine}
 use Rattle.bench.specs.Carried.{outBytes, progressOf, roomy, Ends, before, After, Running, Stepped}
@@ -105,12 +105,12 @@ module _ (frames : List ℕ) (f after : Fields) where
   pub ready-pulled : (win : List ℤ) (report : List ℕ) → Ready frames f win → Bytes (stateFrames (stateOf frames f))
       → stateOf frames after ≡ pullDef (stateOf frames f) win report .state → Ready frames after win
   ready-pulled win report r b e =
-      record { long = r .long; let-in = ap (λ (s : State). admission s win) e ∙ pull-admitted (stateOf frames f) win (r .let-in) b report }
+      record { long = r .long; let-in = ap (λ (s : State). admission s win) e ∙ pulled-stays (stateOf frames f) win (r .let-in) b report }
 
   pub ready-fed : (win win′ : List ℤ) (line : List ℕ) → Ready frames f win → stateOf frames after ≡ feedDef (stateOf frames f) win line .state
       → win′ ≡ feedDef (stateOf frames f) win line .words → Ready frames after win′
   ready-fed win win′ line r e w =
-      record { long = r .long; let-in = ap₂ admission e w ∙ feed-admitted (stateOf frames f) win (r .let-in) line }
+      record { long = r .long; let-in = ap₂ admission e w ∙ fed-stays (stateOf frames f) win (r .let-in) line }
 
 -- so is what an opening gives
 pub ready-opened : (frames fs : List ℕ) (w : ℕ) (win : List ℤ) (o : Opened) (win′ : List ℤ) (f : Fields) → Bytes frames → openTold (o .answer) ≡ opened
@@ -119,7 +119,7 @@ ready-opened frames fs w win o win′ f b a l e d =
     let u : Unrefused frames w win = record { bytes = b; answer = sym (ap (λ (x : OpenResult). x .answer) d) ∙ a } in
     record {
       long = l;
-      let-in = ap₂ admission (e ∙ ap (λ (x : OpenResult). x .state) d) (ap (λ (x : OpenResult). x .words) d) ∙ open-admitted u;
+      let-in = ap₂ admission (e ∙ ap (λ (x : OpenResult). x .state) d) (ap (λ (x : OpenResult). x .words) d) ∙ opened-stays u;
     }
 
 -- one pull as the code makes it, whatever the answer

@@ -24,12 +24,12 @@ use Rattle.checker.specs.Answer.{waiting, verdict}
 use Rattle.checker.specs.State.{sumOf, tallyIn, stateFrames, ruleIn, refsIn, withTally, SameRule}
 use Rattle.checker.specs.Open.{OpenResult, openDef}
 use Rattle.checker.specs.Admission.{admitted, admission}
-use Rattle.checker.specs.Good.{allTo, goodCount, goodRule, goodTally, goodState}
+use Rattle.checker.specs.StateTest.{allTo, countPasses, rulePasses, tallyPasses, statePasses}
 use Rattle.checker.specs.Demand.{Unrefused}
 use Rattle.checker.specs.Feed.{feedDef}
 use Rattle.checker.specs.Pull.{offered, pullRead, PullResult, givenHere, pulledBy, pullDef}
 use Rattle.checker.specs.declared.State.{State}
-use Rattle.checker.proofs.Laws.{both-opened, in-good, open-admitted, feed-admitted, pull-admitted, feed-rule, pull-rule}
+use Rattle.checker.proofs.Laws.{both-opened, in-good, opened-stays, fed-stays, pulled-stays, feed-rule, pull-rule}
 use Rattle.bench.specs.Progress.{Progress, blank, pullOf, isVerdict, pulledOnce, UntilWaiting, last, more, pulls, pullLimit, fedLine, afterLine, afterLines}
 use Rattle.bench.specs.Output.{benchWidth, atStart, begun, openedFor}
 use Rattle.bench.proofs.Whole.{read-opened}
@@ -39,11 +39,11 @@ pub record LetIn (x : Progress) : Type 0 where
   pub admits : admission (x .state) (x .words) ≡ admitted
   pub bytes : Bytes (stateFrames (x .state))
 
-low : (s : State) → goodState s ≡ true → s .next .0 ≤ instanceLimit
-unfolding goodState goodTally
+low : (s : State) → statePasses s ≡ true → s .next .0 ≤ instanceLimit
+unfolding statePasses tallyPasses
 low s g =
-    let t = and-true (goodRule s) (goodTally (refsIn s) (s .width) (tallyIn s)) g .1 in
-    let u = and-true (allTo eventLimit (goodCount (refsIn s) (s .width) (tallyIn s))) _ t .1 in
+    let t = and-true (rulePasses s) (tallyPasses (refsIn s) (s .width) (tallyIn s)) g .1 in
+    let u = and-true (allTo eventLimit (countPasses (refsIn s) (s .width) (tallyIn s))) _ t .1 in
     leb-true (s .next .0) instanceLimit (and-true (leb (s .next .0) instanceLimit) (eqb (sumOf (s .totals)) (s .next .0)) u .0)
 
 same-frames : (s t : State) → SameRule s t → stateFrames t ≡ stateFrames s
@@ -76,7 +76,7 @@ module _ (x : Progress) (s : LetIn x) where
   unfolding pulledOnce
   in-pulled =
       record {
-        admits = pull-admitted (x .state) (x .words) (s .admits) (s .bytes) blank;
+        admits = pulled-stays (x .state) (x .words) (s .admits) (s .bytes) blank;
         bytes = subst Bytes (sym (same-frames (x .state) (pullOf x .state) (pull-rule (x .state) (x .words) blank))) (s .bytes);
       }
 
@@ -84,7 +84,7 @@ module _ (x : Progress) (s : LetIn x) where
   unfolding fedLine
   in-fed line =
       record {
-        admits = feed-admitted (x .state) (x .words) (s .admits) line;
+        admits = fed-stays (x .state) (x .words) (s .admits) line;
         bytes = subst Bytes (sym (same-frames (x .state) (feedDef (x .state) (x .words) line .state) (feed-rule (x .state) (x .words) line))) (s .bytes);
       }
 
@@ -119,7 +119,7 @@ in-lines x (l ∷ ls) s =
 in-first : {frames : List ℕ} {win : List ℤ} → Unrefused frames benchWidth win → LetIn (atStart (openDef frames benchWidth win))
 in-first {frames} {win} o =
     record {
-      admits = open-admitted o;
+      admits = opened-stays o;
       bytes = subst Bytes (sym (both-opened o .sim .rule)) (o .bytes);
     }
 

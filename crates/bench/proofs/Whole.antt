@@ -34,15 +34,15 @@ use Rattle.checker.specs.Pull.{nextIn, pulledIf, PullRead, short, waits, gave, 
 use Rattle.checker.specs.declared.State.{State}
 use Rattle.bench.specs.Print.{refusedLine, reportPart}
 use Rattle.bench.specs.Kept.{keptLimit, kept}
-use Rattle.bench.specs.Progress.{Progress, blank, Open, afterLine, afterLines, afterBytes, atEnd}
+use Rattle.bench.specs.Progress.{Progress, blank, Chunked, afterLine, afterLines, afterBytes, atEnd}
 use Rattle.bench.specs.Output.{withTotals, begun, wholeRun, afterOpening, openedFor, afterReading, outputOf}
 use Rattle.bench.proofs.ChunkLaws.{after-kept, kept-on}
 
 -- ---- chunks
-abbrev stepped : Open → ℕ → Open
+abbrev stepped : Chunked → ℕ → Chunked
 stepped o b = cond (eqb b 10) (record { progress = afterLine (o .progress) (o .held); held = [] }) (record { progress = o .progress; held = kept (o .held) (b ∷ []) })
 
-pub bytes-cut : (o : Open) (s t : List ℕ) → afterBytes o (s ++ t) ≡ afterBytes (afterBytes o s) t
+pub bytes-cut : (o : Chunked) (s t : List ℕ) → afterBytes o (s ++ t) ≡ afterBytes (afterBytes o s) t
 unfolding afterBytes
 bytes-cut o [] t = refl
 bytes-cut o (b ∷ s) t = bytes-cut (stepped o b) s t

@@ -8,7 +8,7 @@ use lib.ListN.{length, take}
 use Rattle.checker.specs.Parts.{stateOf}
 use Rattle.checker.specs.Ready.{Ready}
 use Rattle.bench.specs.Kept.{keptLimit}
-use Rattle.bench.specs.Progress.{Progress, Open}
+use Rattle.bench.specs.Progress.{Progress, Chunked}
 use Rattle.bench.specs.declared.Run.{Run}
 
 -- the bytes of the buffer that output waits in
@@ -41,11 +41,11 @@ pub record After (want got : Progress) : Type 0 where
   pub whole : length (want .said) ≤ roomy → written ≡ []
 
 -- a run with the bytes of a cut line that it holds
-abbrev pub openOf : List ℕ → Run → List ℕ → List ℤ → List ℕ → Open
-openOf frames r carry win out = record { progress = progressOf frames r win out; held = take (r .held) carry }
+abbrev pub chunkedOf : List ℕ → Run → List ℕ → List ℤ → List ℕ → Chunked
+chunkedOf frames r carry win out = record { progress = progressOf frames r win out; held = take (r .held) carry }
 
 -- the same with a cut line
-pub record AfterOpen (want got : Open) : Type 0 where
+pub record AfterChunked (want got : Chunked) : Type 0 where
   pub progress : After (want .progress) (got .progress)
   pub held : got .held ≡ want .held
 

@@ -116,12 +116,12 @@ afterLines x (l ∷ ls) = afterLines (afterLine x l) ls
 
 -- ---- the log in chunks
 -- progress, and what is kept of a line whose end has not come yet
-pub record Open : Type 0 where
+pub record Chunked : Type 0 where
   pub progress : Progress
   pub held : List ℕ
 
 -- the bytes of a chunk, one after the other
-unfoldable pub afterBytes : Open → List ℕ → Open
+unfoldable pub afterBytes : Chunked → List ℕ → Chunked
 afterBytes o [] = o
 afterBytes o (b ∷ s) =
     afterBytes
@@ -134,5 +134,5 @@ lastLine x [] = x
 lastLine x (b ∷ bs) = afterLine x (b ∷ bs)
 
 -- "the last may lack it": at the log's end, what is held is a line
-abbrev pub atEnd : Open → Progress
+abbrev pub atEnd : Chunked → Progress
 atEnd o = lastLine (o .progress) (o .held)

@@ -21,7 +21,7 @@ ghost use Rattle.checker.specs.Ready.{Ready};
 ghost use Rattle.bench.specs.Print.{totalsLine};
 ghost use Rattle.bench.specs.Kept.{keptLimit};
 ghost use Rattle.bench.specs.Progress.{afterLine, afterBytes, atEnd};
-ghost use Rattle.bench.specs.Carried.{outBytes, progressOf, Ends, After, openOf, AfterOpen, Holding, Stepped};
+ghost use Rattle.bench.specs.Carried.{outBytes, progressOf, Ends, After, chunkedOf, AfterChunked, Holding, Stepped};
 
 // How many lines were accepted, ignored and refused.
 pub struct Counts {
@@ -80,7 +80,7 @@ fn chunk(
     requires { ⌜ Holding (now frames) r (now carry) (now window) (now out) ⌝ }
     ensures { λ q. ⌜ Ready (now (frames .entry)) (q .fields) (now (window .exit))
         × ((q .full ≤ outBytes) × ((q .held ≤ keptLimit)
-        × AfterOpen (afterBytes (openOf (now (frames .entry)) r (now (carry .entry)) (now (window .entry)) (now (out .entry))) (now (s .entry))) (openOf (now (frames .entry)) q (now (carry .exit)) (now (window .exit)) (now (out .exit))))) ⌝ }
+        × AfterChunked (afterBytes (chunkedOf (now (frames .entry)) r (now (carry .entry)) (now (window .entry)) (now (out .entry))) (now (s .entry))) (chunkedOf (now (frames .entry)) q (now (carry .exit)) (now (window .exit)) (now (out .exit))))) ⌝ }
 {
     let mut q = r;
     let mut at = 0;
@@ -124,7 +124,7 @@ fn turn(frames: &[u8], r: Run, carry: &mut [u8], window: &mut [i32], out: &mut [
 fn last(frames: &[u8], r: Run, carry: &[u8], window: &mut [i32], out: &mut [u8]) -> Run
     requires { ⌜ Holding (now frames) r (now carry) (now window) (now out) ⌝ }
     ensures { λ q. ⌜ (q .full ≤ outBytes)
-        × After (atEnd (openOf (now (frames .entry)) r (now (carry .entry)) (now (window .entry)) (now (out .entry)))) (progressOf (now (frames .entry)) q (now (window .exit)) (now (out .exit))) ⌝ }
+        × After (atEnd (chunkedOf (now (frames .entry)) r (now (carry .entry)) (now (window .entry)) (now (out .entry)))) (progressOf (now (frames .entry)) q (now (window .exit)) (now (out .exit))) ⌝ }
 {
     let held = r.held;
     if held == 0 {

@@ -80,7 +80,7 @@ fn pull_into(frames: &[u8], r: Run, window: &[i32], out: &mut [u8], report: &mut
 {
     let fields = r.fields;
     let full = r.full;
-    let pulled = checker::pull_good(frames, fields, window, report);
+    let pulled = checker::pull_admitted(frames, fields, window, report);
     let answer = pulled.answer;
     match answer {
         PullAnswer::True => with_pulled(r, pulled, full, true),
@@ -154,7 +154,7 @@ fn feed_line(frames: &[u8], r: Run, window: &mut [i32], line: &[u8]) -> Run
         ≡ fedLine (progressOf (now (frames .entry)) r (now (window .entry)) out) (now (line .entry))))) ⌝ }
 {
     let before = r.fields;
-    let fed = checker::feed_good(frames, before, window, line);
+    let fed = checker::feed_admitted(frames, before, window, line);
     let fields = fed.fields;
     let answer = fed.answer;
     let told = r.counts;

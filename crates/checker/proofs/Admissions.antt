@@ -10,7 +10,7 @@ use lib.ListN.{length}
 use Rattle.checker.specs.Limits.{windowWords}
 use Rattle.checker.specs.Answer.{refused}
 use Rattle.checker.specs.Open.{windowFits}
-use Rattle.checker.specs.Good.{goodState}
+use Rattle.checker.specs.StateTest.{statePasses}
 use Rattle.checker.specs.Admission.{Admission, admitted, barred, admission, barredWith}
 use Rattle.checker.specs.Feed.{notFed, fedIf, feedDef}
 use Rattle.checker.specs.Pull.{notPulled, pulledIf, pullDef}
@@ -19,31 +19,31 @@ use Rattle.checker.proofs.Choices.{cond-case}
 
 module _ (s : State) (win : List ℤ) where
   -- what is let through passes both tests
-  through : barredWith (admission s win) ≡ 0 → (goodState s ≡ true) × (windowFits (s .width) win ≡ true)
+  through : barredWith (admission s win) ≡ 0 → (statePasses s ≡ true) × (windowFits (s .width) win ≡ true)
   unfolding admission
   through =
-      cond-case (λ (a : Admission). barredWith a ≡ 0 → (goodState s ≡ true) × (windowFits (s .width) win ≡ true)) (goodState s) _ _
-      (λ g. cond-case (λ (a : Admission). barredWith a ≡ 0 → (goodState s ≡ true) × (windowFits (s .width) win ≡ true)) (windowFits (s .width) win) _ _
+      cond-case (λ (a : Admission). barredWith a ≡ 0 → (statePasses s ≡ true) × (windowFits (s .width) win ≡ true)) (statePasses s) _ _
+      (λ g. cond-case (λ (a : Admission). barredWith a ≡ 0 → (statePasses s ≡ true) × (windowFits (s .width) win ≡ true)) (windowFits (s .width) win) _ _
       (λ l _. (g, l))
       (λ _ q. absurd (omega (arith, q))))
       (λ _ q. absurd (omega (arith, q)))
 
-  pub let-in : goodState s ≡ true → windowFits (s .width) win ≡ true → admission s win ≡ admitted
+  pub let-in : statePasses s ≡ true → windowFits (s .width) win ≡ true → admission s win ≡ admitted
   unfolding admission
   let-in g l = rw (g, l)
 
-  pub barred-13 : goodState s ≡ true → windowFits (s .width) win ≡ false → admission s win ≡ barred 13
+  pub barred-13 : statePasses s ≡ true → windowFits (s .width) win ≡ false → admission s win ≡ barred 13
   unfolding admission
   barred-13 g l = rw (g, l)
 
-  pub barred-12 : goodState s ≡ false → admission s win ≡ barred 12
+  pub barred-12 : statePasses s ≡ false → admission s win ≡ barred 12
   unfolding admission
   barred-12 g = rw g
 
   pub none-barred : barredWith (admission s win) ≡ 0 → admission s win ≡ admitted
   none-barred q = let-in (through q .0) (through q .1)
 
-  pub in-good : admission s win ≡ admitted → goodState s ≡ true
+  pub in-good : admission s win ≡ admitted → statePasses s ≡ true
   in-good e = through (ap barredWith e) .0
 
   pub in-long : admission s win ≡ admitted → length win ≡ windowWords (s .width)

@@ -14,7 +14,7 @@ use Rattle.verdict.specs.Found.{instanceLimit}
 use Rattle.verdict.specs.declared.Verdict.the-variants.{False}
 use Rattle.rule.specs.Check.{checkedOf}
 use Rattle.checker.specs.State.{zeroState}
-use Rattle.checker.specs.Good.{goodRule, goodState}
+use Rattle.checker.specs.StateTest.{rulePasses, statePasses}
 use Rattle.checker.specs.Calls.{Call}
 use Rattle.checker.specs.Demand.{Unrefused, countIn, checkerAfter, machineAfter, handedOut}
 use Rattle.checker.specs.Tariff.{bandLimit, lastLimit, priceLimit, surchargeLimit}
@@ -26,7 +26,7 @@ use Rattle.checker.specs.declared.Tariff.{Tariff}
 use Rattle.checker.specs.declared.ChargeAnswer.{ChargeAnswer}
 use Rattle.checker.specs.declared.ChargeAnswer.the-variants as charges
 use Rattle.checker.proofs.Choices.{less-or}
-use Rattle.checker.proofs.CodeGood.{good-facts}
+use Rattle.checker.proofs.CodeStateTest.{good-facts}
 use Rattle.checker.proofs.Fresh.{opened-fine}
 use Rattle.checker.proofs.Lists as lists
 use Rattle.checker.proofs.Sums as sums
@@ -137,11 +137,11 @@ by-cents true false z n c e = absurd (true-false (sym (ap isCents e)))
 by-cents false y z n c e = absurd (true-false (sym (ap isCents e)))
 
 pub charged-facts : (s : State) (t : Tariff) (c : ℕ) → chargeDef s t ≡ cents c
-    → (bandsFit t ≡ true) × ((pricesFit t ≡ true) × ((goodState s ≡ true) × (c ≡ centsOf t (s .totals .failed))))
+    → (bandsFit t ≡ true) × ((pricesFit t ≡ true) × ((statePasses s ≡ true) × (c ≡ centsOf t (s .totals .failed))))
 unfolding chargeDef
-charged-facts s t c e = by-cents (bandsFit t) (pricesFit t) (goodState s) (centsOf t (s .totals .failed)) c e
+charged-facts s t c e = by-cents (bandsFit t) (pricesFit t) (statePasses s) (centsOf t (s .totals .failed)) c e
 
-pub charged-by : (s : State) (t : Tariff) → bandsFit t ≡ true → pricesFit t ≡ true → goodState s ≡ true → chargeDef s t ≡ cents (centsOf t (s .totals .failed))
+pub charged-by : (s : State) (t : Tariff) → bandsFit t ≡ true → pricesFit t ≡ true → statePasses s ≡ true → chargeDef s t ≡ cents (centsOf t (s .totals .failed))
 unfolding chargeDef
 charged-by s t a b g = rw (a, b, g)
 
@@ -154,12 +154,12 @@ pub turned-29 : (s : State) (t : Tariff) → bandsFit t ≡ true → pricesFit t
 unfolding chargeDef
 turned-29 s t a b = rw (a, b)
 
-pub turned-12 : (s : State) (t : Tariff) → bandsFit t ≡ true → pricesFit t ≡ true → goodState s ≡ false → chargeDef s t ≡ turned 12 0
+pub turned-12 : (s : State) (t : Tariff) → bandsFit t ≡ true → pricesFit t ≡ true → statePasses s ≡ false → chargeDef s t ≡ turned 12 0
 unfolding chargeDef
 turned-12 s t a b g = rw (a, b, g)
 
 pub charges-exactly : (s : State) (t : Tariff) (c : ℕ) → (chargeDef s t ≡ cents c)
-    ↔ (BandsRise t × (PricesInRange t × ((goodState s ≡ true) × (c ≡ centsOf t (s .totals .failed)))))
+    ↔ (BandsRise t × (PricesInRange t × ((statePasses s ≡ true) × (c ≡ centsOf t (s .totals .failed)))))
 charges-exactly s t c = (
   λ e. let f = charged-facts s t c e in (rise-facts t (f .0), (range-facts t (f .1 .0), f .1 .1)),
   λ f. charged-by s t (rise-fits t (f .0)) (range-fits t (f .1 .0)) (f .1 .1 .0) ∙ ap cents (sym (f .1 .1 .1)),
@@ -183,7 +183,7 @@ never-true : (b : Bool) → (b ≡ true → ⊥) → b ≡ false
 never-true true h = absurd (h refl)
 never-true false h = refl
 
-refused-by : (s : State) (t : Tariff) (x y z : Bool) (n number place : ℕ) → bandsFit t ≡ x → pricesFit t ≡ y → goodState s ≡ z
+refused-by : (s : State) (t : Tariff) (x y z : Bool) (n number place : ℕ) → bandsFit t ≡ x → pricesFit t ≡ y → statePasses s ≡ z
     → chargeBy x y z n ≡ turned number place → ChargeRefused s t number place
 refused-by s t true true true n number place a b g e = absurd (true-false (ap isCents e))
 refused-by s t true true false n number place a b g e =
@@ -201,11 +201,11 @@ refused-back s t _ _ (bad-state r p g) = turned-12 s t (rise-fits t r) (range-fi
 pub charge-refused : (s : State) (t : Tariff) (number place : ℕ) → (chargeDef s t ≡ turned number place) ↔ ChargeRefused s t number place
 unfolding chargeDef
 charge-refused s t number place =
-    (refused-by s t (bandsFit t) (pricesFit t) (goodState s) (centsOf t (s .totals .failed)) number place refl refl refl, refused-back s t number place)
+    (refused-by s t (bandsFit t) (pricesFit t) (statePasses s) (centsOf t (s .totals .failed)) number place refl refl refl, refused-back s t number place)
 
 -- the state that a refused opening hands back
 pub zero-charge : (t : Tariff) → BandsRise t → PricesInRange t → chargeDef zeroState t ≡ turned 12 0
-unfolding goodState goodRule checkedOf
+unfolding statePasses rulePasses checkedOf
 zero-charge t r p = turned-12 zeroState t (rise-fits t r) (range-fits t p) refl
 
 -- ---- the greatest charge
@@ -218,7 +218,7 @@ cents-most t f n h =
     omega (arith, b)
 
 -- 12 lets no more violations through than instances
-pub failed-most : (s : State) → goodState s ≡ true → s .totals .failed ≤ instanceLimit
+pub failed-most : (s : State) → statePasses s ≡ true → s .totals .failed ≤ instanceLimit
 failed-most s g =
     let c = good-facts s g .totals in
     omega (arith, c .sum, c .low)

@@ -10,7 +10,7 @@ use borrow.Author.Tests.{ltb-true, ltb-false, eqb-true, eqb-false, eq-eqb, ne-eq
 use lib.Dec.{ltb, eqb}
 use lib.ListN.{length, getD, set, length-set}
 use lib.Seq.{ext-getD, getD-set-same, getD-set-other}
-use Rattle.checker.specs.Good.{allTo}
+use Rattle.checker.specs.StateTest.{allTo}
 use Rattle.checker.specs.Machine.{tabulated}
 
 -- the cases of a choice, each with the test's outcome

@@ -25,8 +25,8 @@ use Rattle.verdict.proofs.Laws.{natAbs-add}
 use Rattle.checker.specs.Limits.{lineLimit}
 use Rattle.checker.specs.Base.{ofEvent, isSome, referenced, orZero, startAt, smallest, base}
 use Rattle.checker.specs.State.{Tally, sumOf}
-use Rattle.checker.specs.Good.{allTo, goodCount, goodTally}
-use Rattle.checker.specs.Lows.{noBase, lowered, loweredBy, lowsTo, lowsOf, Startable, Passable, countFits, tallyFits}
+use Rattle.checker.specs.StateTest.{allTo, countPasses, tallyPasses}
+use Rattle.checker.specs.BasePass.{noBase, lowered, loweredBy, basesTo, basesOf, Startable, Passable, countFits, tallyFits}
 use Rattle.checker.specs.declared.Totals.{Totals}
 
 -- ---- the tree of accepted bytes
@@ -53,9 +53,9 @@ startable s p k h l x e =
     subst (λ (y : Frame). Startable p y) (sym e)
     (record { instance-in = h .instance-in; limits = λ q. reference-at s k l (passed s (h .accepted) .order) q })
 
-pub lows-next : (s : List ℕ) (p k : ℕ) (x : Frame) → x ≡ frameAt s k → (out out′ : List ℕ) → out ≡ lowsTo s p k → out′ ≡ loweredBy p x out → out′ ≡ lowsTo s p (k + 1)
-lows-next s p k x e out out′ i q =
-    rw (add-one k) (q ∙ ap (loweredBy p x) i ∙ ap (λ (y : Frame). loweredBy p y (lowsTo s p k)) e)
+pub bases-next : (s : List ℕ) (p k : ℕ) (x : Frame) → x ≡ frameAt s k → (out out′ : List ℕ) → out ≡ basesTo s p k → out′ ≡ loweredBy p x out → out′ ≡ basesTo s p (k + 1)
+bases-next s p k x e out out′ i q =
+    rw (add-one k) (q ∙ ap (loweredBy p x) i ∙ ap (λ (y : Frame). loweredBy p y (basesTo s p k)) e)
 
 -- ---- an event's references
 event-within : (e : ℕ) (rs : List Reference) → AllWithin rs → AllWithin (ofEvent e rs)
@@ -125,12 +125,12 @@ start-most p r l h =
     omega arith
 
 -- ---- what the pass holds of an event that is referenced, and of one that is not
-abbrev pub LowIs : Bool → ℕ → ℕ → Type 0
-LowIs true b low = (low ≡ b) × (low ≤ 9099990)
-LowIs false b low = low ≡ noBase
+abbrev pub BaseIs : Bool → ℕ → ℕ → Type 0
+BaseIs true b low = (low ≡ b) × (low ≤ 9099990)
+BaseIs false b low = low ≡ noBase
 
 low-by : (p low : ℕ) (l : List Reference) → AllWithin l → p ≤ instanceLimit → low ≡ minOver noBase (map (startAt p) l)
-    → LowIs (isSome l) (smallest (map (startAt p) l)) low
+    → BaseIs (isSome l) (smallest (map (startAt p) l)) low
 low-by p low [] w h q = q
 low-by p low (r ∷ l) w h q =
     let m : startAt p r ≤ 9099990 = start-most p r (w .0) h in
@@ -150,20 +150,20 @@ eights (suc (suc (suc (suc (suc (suc zero)))))) h = refl
 eights (suc (suc (suc (suc (suc (suc (suc zero))))))) h = refl
 eights (suc (suc (suc (suc (suc (suc (suc (suc e)))))))) h = absurd (omega arith)
 
-pub low-is : {s : List ℕ} → Bytes s → checkedOf s ≡ Accepted → (p e : ℕ) → p ≤ instanceLimit → e < 8
-    → LowIs (referenced (references (treeOf s)) e) (base (references (treeOf s)) e p) (getD (lowsOf s p) e 0)
-unfolding lowsOf referenced base
-low-is {s} b q p e h l =
+pub base-is : {s : List ℕ} → Bytes s → checkedOf s ≡ Accepted → (p e : ℕ) → p ≤ instanceLimit → e < 8
+    → BaseIs (referenced (references (treeOf s)) e) (base (references (treeOf s)) e p) (getD (basesOf s p) e 0)
+unfolding basesOf referenced base
+base-is {s} b q p e h l =
     let r : IsRule s = rule-in b q in
     let ls : List ℕ = replicate eventLimit noBase in
     let refs : List Reference = references (treeOf s) in
-    let over : lowsOf s p ≡ overReferences (lowered p) refs ls =
+    let over : basesOf s p ≡ overReferences (lowered p) refs ls =
     over-references (lowered p) r ls ∙ ap (λ (t : Cond). overReferences (lowered p) (references t) ls) (sym (tree-of r)) in
-    low-by p (getD (lowsOf s p) e 0) (ofEvent e refs) (event-within e refs (within-in b q)) h
+    low-by p (getD (basesOf s p) e 0) (ofEvent e refs) (event-within e refs (within-in b q)) h
     (ap (λ (x : List ℕ). getD x e 0) over ∙ low-over p e refs ls l ∙ ap (λ (n : ℕ). minOver n (map (startAt p) (ofEvent e refs))) (eights e l))
 
 -- ---- 12
-count-same : (t : Bool) (b low w c : ℕ) → LowIs t b low → countFits w low c ≡ (leb c lineLimit && cond t (leb c (b + w)) (eqb c 0))
+count-same : (t : Bool) (b low w c : ℕ) → BaseIs t b low → countFits w low c ≡ (leb c lineLimit && cond t (leb c (b + w)) (eqb c 0))
 count-same true b low w c l =
     let n : eqb low noBase ≡ false = ne-eqb low noBase (λ z. omega (arith, l .1)) in
     rw (n, l .0)
@@ -181,8 +181,8 @@ and-no true = refl
 and-no false = refl
 
 pub tally-same : {s : List ℕ} → Bytes s → checkedOf s ≡ Accepted → (w : ℕ) (counts : List ℕ) (p : ℕ) (totals : Totals)
-    → tallyFits s w counts p totals ≡ goodTally (references (treeOf s)) w (record { counts = counts; next = p; totals = totals })
-unfolding tallyFits goodTally goodCount
+    → tallyFits s w counts p totals ≡ tallyPasses (references (treeOf s)) w (record { counts = counts; next = p; totals = totals })
+unfolding tallyFits tallyPasses countPasses
 tally-same {s} b q w counts p totals = go (leb p instanceLimit) refl
   where
     t : Tally
@@ -191,15 +191,15 @@ tally-same {s} b q w counts p totals = go (leb p instanceLimit) refl
     refs : List Reference
     refs = references (treeOf s)
 
-    all : p ≤ instanceLimit → allTo eventLimit (λ e. countFits w (getD (lowsOf s p) e 0) (getD counts e 0)) ≡ allTo eventLimit (goodCount refs w t)
-    all h = all-same 8 (λ e. countFits w (getD (lowsOf s p) e 0) (getD counts e 0)) (goodCount refs w t)
-        (λ e l. count-same (referenced refs e) (base refs e p) (getD (lowsOf s p) e 0) w (getD counts e 0) (low-is b q p e h l))
+    all : p ≤ instanceLimit → allTo eventLimit (λ e. countFits w (getD (basesOf s p) e 0) (getD counts e 0)) ≡ allTo eventLimit (countPasses refs w t)
+    all h = all-same 8 (λ e. countFits w (getD (basesOf s p) e 0) (getD counts e 0)) (countPasses refs w t)
+        (λ e l. count-same (referenced refs e) (base refs e p) (getD (basesOf s p) e 0) w (getD counts e 0) (base-is b q p e h l))
 
     go : (x : Bool) → leb p instanceLimit ≡ x
-        → (x && (allTo eventLimit (λ e. countFits w (getD (lowsOf s p) e 0) (getD counts e 0)) && eqb (sumOf totals) p))
-        ≡ (allTo eventLimit (goodCount refs w t) && (x && eqb (sumOf totals) p))
+        → (x && (allTo eventLimit (λ e. countFits w (getD (basesOf s p) e 0) (getD counts e 0)) && eqb (sumOf totals) p))
+        ≡ (allTo eventLimit (countPasses refs w t) && (x && eqb (sumOf totals) p))
     go true d = ap (λ (a : Bool). a && eqb (sumOf totals) p) (all (leb-true p instanceLimit d))
-    go false d = sym (and-no (allTo eventLimit (goodCount refs w t)))
+    go false d = sym (and-no (allTo eventLimit (countPasses refs w t)))
 
 -- ---- a loop over all events
 pub allTo-more : (n : ℕ) (f : ℕ → Bool) → allTo n f ≡ true → f n ≡ true → allTo (suc n) f ≡ true

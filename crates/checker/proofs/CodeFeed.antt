@@ -13,16 +13,16 @@ use Rattle.checker.specs.Limits.{lineLimit}
 use Rattle.checker.specs.Base.{referenced, base}
 use Rattle.checker.specs.State.{withLine, tallyIn, withTally, stateFrames, refsIn}
 use Rattle.checker.specs.Parts.{stateOf, fedOf}
-use Rattle.checker.specs.Good.{goodState}
+use Rattle.checker.specs.StateTest.{statePasses}
 use Rattle.checker.specs.Admission.{admitted, admission}
 use Rattle.checker.specs.Feed.{FeedResult, FeedRead, turned, skipped, taken, feedEvent, fedBy, lineIn, eventIn, feedDef, feedOutcome}
-use Rattle.checker.specs.Lows.{noBase, lowsOf}
+use Rattle.checker.specs.BasePass.{noBase, basesOf}
 use Rattle.checker.specs.declared.FeedAnswer.the-variants as FeedAnswer
 use Rattle.checker.specs.declared.feeding.FedFields.{FedFields}
 use Rattle.checker.specs.declared.parts.Fields.{Fields}
 use Rattle.checker.specs.declared.State.{State}
-use Rattle.checker.proofs.CodeBase.{within-in, high-none, LowIs, low-is}
-use Rattle.checker.proofs.CodeGood.{good-facts}
+use Rattle.checker.proofs.CodeBase.{within-in, high-none, BaseIs, base-is}
+use Rattle.checker.proofs.CodeStateTest.{good-facts}
 
 -- ---- what is let through is fed the line
 pub fed-by : (s : State) (win : List ℤ) (line : List ℕ) → admission s win ≡ admitted → (d : Told) → lineOf line ≡ d
@@ -31,44 +31,44 @@ unfolding feedDef
 fed-by s win line a d q = rw (a, q)
 
 -- ---- an event's low says whether it is referenced
-low-none : (t : Bool) (b low : ℕ) → LowIs t b low → low ≡ noBase → t ≡ false
-low-none true b low l e = absurd (omega (arith, l .1))
-low-none false b low l e = refl
+base-none : (t : Bool) (b low : ℕ) → BaseIs t b low → low ≡ noBase → t ≡ false
+base-none true b low l e = absurd (omega (arith, l .1))
+base-none false b low l e = refl
 
-low-some : (t : Bool) (b low : ℕ) → LowIs t b low → (low ≡ noBase → ⊥) → (t ≡ true) × ((low ≡ b) × (low ≤ 9099990))
-low-some true b low l n = (refl, l)
-low-some false b low l n = absurd (n l)
+base-some : (t : Bool) (b low : ℕ) → BaseIs t b low → (low ≡ noBase → ⊥) → (t ≡ true) × ((low ≡ b) × (low ≤ 9099990))
+base-some true b low l n = (refl, l)
+base-some false b low l n = absurd (n l)
 
--- ---- which way a line of an event goes, with the lows of all events
-module _ (s : State) (b : Bytes (stateFrames s)) (g : goodState s ≡ true) (lows : List ℕ) (q : lows ≡ lowsOf (stateFrames s) (s .next .0)) (e : ℕ) where
-  in-low : e < 8 → LowIs (referenced (refsIn s) e) (base (refsIn s) e (s .next .0)) (getD lows e 0)
-  in-low h = rw q (low-is b (good-facts s g .accepted) (s .next .0) e (good-facts s g .totals .low) h)
+-- ---- which way a line of an event goes, with the bases of all events
+module _ (s : State) (b : Bytes (stateFrames s)) (g : statePasses s ≡ true) (bases : List ℕ) (q : bases ≡ basesOf (stateFrames s) (s .next .0)) (e : ℕ) where
+  in-base : e < 8 → BaseIs (referenced (refsIn s) e) (base (refsIn s) e (s .next .0)) (getD bases e 0)
+  in-base h = rw q (base-is b (good-facts s g .accepted) (s .next .0) e (good-facts s g .totals .low) h)
 
-  pub some-in : e < 8 → (getD lows e 0 ≡ noBase → ⊥)
-      → (referenced (refsIn s) e ≡ true) × ((getD lows e 0 ≡ base (refsIn s) e (s .next .0)) × (getD lows e 0 ≤ 9099990))
-  some-in h n = low-some (referenced (refsIn s) e) (base (refsIn s) e (s .next .0)) (getD lows e 0) (in-low h) n
+  pub some-in : e < 8 → (getD bases e 0 ≡ noBase → ⊥)
+      → (referenced (refsIn s) e ≡ true) × ((getD bases e 0 ≡ base (refsIn s) e (s .next .0)) × (getD bases e 0 ≤ 9099990))
+  some-in h n = base-some (referenced (refsIn s) e) (base (refsIn s) e (s .next .0)) (getD bases e 0) (in-base h) n
 
   module _ (notes : List ℤ) where
     pub high-skipped : 8 ≤ e → eventIn s e notes ≡ skipped
     unfolding feedEvent
     high-skipped h = rw (high-none e (refsIn s) (within-in b (good-facts s g .accepted)) h)
 
-    pub none-skipped : e < 8 → getD lows e 0 ≡ noBase → eventIn s e notes ≡ skipped
+    pub none-skipped : e < 8 → getD bases e 0 ≡ noBase → eventIn s e notes ≡ skipped
     unfolding feedEvent
-    none-skipped h n = rw (low-none (referenced (refsIn s) e) (base (refsIn s) e (s .next .0)) (getD lows e 0) (in-low h) n)
+    none-skipped h n = rw (base-none (referenced (refsIn s) e) (base (refsIn s) e (s .next .0)) (getD bases e 0) (in-base h) n)
 
-    pub many-turned : e < 8 → (getD lows e 0 ≡ noBase → ⊥) → lineLimit ≤ getD (s .counts) e 0 → eventIn s e notes ≡ turned 16 0
+    pub many-turned : e < 8 → (getD bases e 0 ≡ noBase → ⊥) → lineLimit ≤ getD (s .counts) e 0 → eventIn s e notes ≡ turned 16 0
     unfolding feedEvent
     many-turned h n m = rw (some-in h n .0, le-leb lineLimit (getD (s .counts) e 0) m)
 
-    pub full-turned : e < 8 → (getD lows e 0 ≡ noBase → ⊥) → getD (s .counts) e 0 < lineLimit → getD lows e 0 + s .width ≤ getD (s .counts) e 0
+    pub full-turned : e < 8 → (getD bases e 0 ≡ noBase → ⊥) → getD (s .counts) e 0 < lineLimit → getD bases e 0 + s .width ≤ getD (s .counts) e 0
         → eventIn s e notes ≡ turned 17 0
     unfolding feedEvent
     full-turned h n m f =
         let l : base (refsIn s) e (s .next .0) + s .width ≤ getD (s .counts) e 0 = omega (arith, some-in h n .1 .0) in
         rw (some-in h n .0, lt-leb lineLimit (getD (s .counts) e 0) m, le-leb (base (refsIn s) e (s .next .0) + s .width) (getD (s .counts) e 0) l)
 
-    pub room-taken : e < 8 → (getD lows e 0 ≡ noBase → ⊥) → getD (s .counts) e 0 < lineLimit → getD (s .counts) e 0 < getD lows e 0 + s .width
+    pub room-taken : e < 8 → (getD bases e 0 ≡ noBase → ⊥) → getD (s .counts) e 0 < lineLimit → getD (s .counts) e 0 < getD bases e 0 + s .width
         → eventIn s e notes ≡ taken e notes
     unfolding feedEvent
     room-taken h n m f =

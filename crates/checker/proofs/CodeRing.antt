@@ -5,7 +5,7 @@ use native.Mathlib.Nat.{mod-lt, mul-le-mul, mul-le-mul-right, suc-mul, le-of-lt}
 use native.Mathlib.Omega.{arith}
 use Rattle.checker.specs.Limits.{widthLimit, windowWords}
 use Rattle.checker.specs.Ring.{ringPlace, wordAt}
-use Rattle.checker.specs.Within.{InWindow}
+use Rattle.checker.specs.InWindow.{InWindow}
 
 pub row-most : (w e : ℕ) → w ≤ 256 → e < 8 → e * w ≤ 2048
 row-most w e hw he = let h : e * w ≤ 8 * 256 = mul-le-mul (le-of-lt he) hw in omega arith

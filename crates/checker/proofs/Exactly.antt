@@ -34,7 +34,7 @@ use Rattle.checker.specs.Base.{referenced, base}
 use Rattle.checker.specs.State.{countOf, zeroState}
 use Rattle.checker.specs.Ring.{wordAt}
 use Rattle.checker.specs.Open.{widthFits, windowFits, openedAs, notOpened, afterFrames, openDef}
-use Rattle.checker.specs.Good.{goodRule, goodState}
+use Rattle.checker.specs.StateTest.{rulePasses, statePasses}
 use Rattle.checker.specs.Admission.{admission}
 use Rattle.checker.specs.Feed.{turned, skipped, taken, feedEvent, feedRead, feedAnswer, feedDef}
 use Rattle.checker.specs.Pull.{short, offered, pullRead, pullAnswer, pullDef}
@@ -179,9 +179,9 @@ opens-exactly {frames} w win b = (
 
 -- ---- the state of a refused opening
 pub zero-feed : (win : List ℤ) (line : List ℕ) → feedDef zeroState win line .answer ≡ refused 12 0
-unfolding feedDef admission goodState goodRule checkedOf
+unfolding feedDef admission statePasses rulePasses checkedOf
 zero-feed win line = refl
 
 pub zero-pull : (win : List ℤ) (buffer : List ℕ) → pullDef zeroState win buffer .answer ≡ refused 12 0
-unfolding pullDef admission goodState goodRule checkedOf
+unfolding pullDef admission statePasses rulePasses checkedOf
 zero-pull win buffer = refl

@@ -4,7 +4,7 @@
 pub use Rattle.checker.proofs.Fresh.{both-opened}
 -- states and windows that 12 and 13 let through
 pub use Rattle.checker.proofs.Admissions.{let-in, in-good}
-pub use Rattle.checker.proofs.GoodStays.{open-admitted, feed-admitted, pull-admitted, feed-rule, pull-rule}
+pub use Rattle.checker.proofs.Stays.{opened-stays, fed-stays, pulled-stays, feed-rule, pull-rule}
 -- bytes of a state's frames
 pub use Rattle.checker.proofs.CodeBase.{bytes-take}
 -- what a feed and a pull by parts give, with the state put together

@@ -26,9 +26,9 @@ mod Charges
 mod CodeCopy
 mod CodeBase
 mod CodeRing
-mod CodeGood
+mod CodeStateTest
 mod CodeFeed
-mod GoodStays
+mod Stays
 pub mod Main
 pub mod Laws
 mod PullBits

@@ -32,7 +32,7 @@ use Rattle.checker.specs.Base.{referenced, base, firstFor}
 use Rattle.checker.specs.State.{tallyIn, stateFrames, zeroState, SameRule}
 use Rattle.checker.specs.Ring.{wordAt}
 use Rattle.checker.specs.Open.{openDef}
-use Rattle.checker.specs.Good.{goodState}
+use Rattle.checker.specs.StateTest.{statePasses}
 use Rattle.checker.specs.Feed.{feedDef}
 use Rattle.checker.specs.Pull.{pullDef}
 use Rattle.checker.specs.Calls.{Call, Out, outs, checker}
@@ -59,7 +59,7 @@ use Rattle.checker.proofs.Earlier
 use Rattle.checker.proofs.Charges
 use Rattle.checker.proofs.TariffExamples
 use Rattle.checker.proofs.Unchanged
-use Rattle.checker.proofs.GoodStays
+use Rattle.checker.proofs.Stays
 
 -- ---- a list of calls, whatever its lines and report buffers, from an unrefused opening, whatever W
 module _ {frames : List ℕ} {w : ℕ} {win : List ℤ} (o : Unrefused frames w win) (cs : List Call) where
@@ -201,7 +201,7 @@ empty-named = empty-refused
 -- ---- document 02, point 13: charging, whatever the state and the tariff
 -- cents exactly where 28, 29 and 12 let both through, and then what the false total costs
 pub charges-exactly : (s : State) (t : Tariff) (c : ℕ) → (chargeDef s t ≡ cents c)
-    ↔ (BandsRise t × (PricesInRange t × ((goodState s ≡ true) × (c ≡ centsOf t (s .totals .failed)))))
+    ↔ (BandsRise t × (PricesInRange t × ((statePasses s ≡ true) × (c ≡ centsOf t (s .totals .failed)))))
 charges-exactly = Charges.charges-exactly
 
 -- else the first of 28, 29 and 12 that holds, and no place
@@ -237,7 +237,7 @@ pub charged-after : {frames : List ℕ} {w : ℕ} {win : List ℤ} → Unrefused
 charged-after = Charges.charged-after
 
 -- the document's example, computed, of every state with 12 violations that 12 lets through, whatever the entries after the two bands
-pub tariff-example : (s : State) (l l′ p p′ : ℕ) → goodState s ≡ true → s .totals .failed ≡ 12
+pub tariff-example : (s : State) (l l′ p p′ : ℕ) → statePasses s ≡ true → s .totals .failed ≡ 12
     → chargeDef s (record { bands = 2; lasts = 10 ∷ 100 ∷ l ∷ l′ ∷ []; prices = 45 ∷ 30 ∷ p ∷ p′ ∷ []; beyond = 12; surcharge = 7 }) ≡ cents 546
 tariff-example = TariffExamples.document-example
 
@@ -272,21 +272,21 @@ zero-pull = Exactly.zero-pull
 
 -- ---- a state that 12 lets through stays one, whatever is fed and pulled, and an unrefused opening gives one; a state's frames
 -- are bytes, as an array of them is
-pub good-stays-open : {frames : List ℕ} {w : ℕ} {win : List ℤ} → Unrefused frames w win → goodState (openDef frames w win .state) ≡ true
-good-stays-open = GoodStays.good-open
+pub good-stays-open : {frames : List ℕ} {w : ℕ} {win : List ℤ} → Unrefused frames w win → statePasses (openDef frames w win .state) ≡ true
+good-stays-open = Stays.good-open
 
-pub good-stays-feed : (s : State) → goodState s ≡ true → (win : List ℤ) (line : List ℕ) → goodState (feedDef s win line .state) ≡ true
-good-stays-feed = GoodStays.good-feed
+pub good-stays-feed : (s : State) → statePasses s ≡ true → (win : List ℤ) (line : List ℕ) → statePasses (feedDef s win line .state) ≡ true
+good-stays-feed = Stays.good-feed
 
-pub good-stays-pull : (s : State) → goodState s ≡ true → Bytes (stateFrames s) → (win : List ℤ) (buffer : List ℕ) → goodState (pullDef s win buffer .state) ≡ true
-good-stays-pull = GoodStays.good-pull
+pub good-stays-pull : (s : State) → statePasses s ≡ true → Bytes (stateFrames s) → (win : List ℤ) (buffer : List ℕ) → statePasses (pullDef s win buffer .state) ≡ true
+good-stays-pull = Stays.good-pull
 
 -- the frames and W stay, and the window keeps its length
 pub feed-keeps : (s : State) (win : List ℤ) (line : List ℕ) → SameRule s (feedDef s win line .state)
-feed-keeps = GoodStays.feed-rule
+feed-keeps = Stays.feed-rule
 
 pub pull-keeps : (s : State) (win : List ℤ) (buffer : List ℕ) → SameRule s (pullDef s win buffer .state)
-pull-keeps = GoodStays.pull-rule
+pull-keeps = Stays.pull-rule
 
-pub feed-long : (s : State) → goodState s ≡ true → (win : List ℤ) (line : List ℕ) → length (feedDef s win line .words) ≡ length win
-feed-long = GoodStays.feed-long
+pub feed-long : (s : State) → statePasses s ≡ true → (win : List ℤ) (line : List ℕ) → length (feedDef s win line .words) ≡ length win
+feed-long = Stays.feed-long

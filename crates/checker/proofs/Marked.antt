@@ -11,7 +11,7 @@ use lib.IntN.{ℤ, pos, negsuc}
 use lib.ListN.{length, replicate}
 use Rattle.rule.specs.Class.{classOf, span}
 use Rattle.rule.specs.Token.{same, wordKind, markOf, markWidth, widthOf, tokenHere, tokenAt, tokensIn, tokensFrom}
-use Rattle.rule.specs.Token.{kindOf as tokenKind}
+use Rattle.rule.specs.Token.{tokenKind}
 use Rattle.rule.specs.Name.{code, nameCode}
 use Rattle.rule.specs.Number.{numberValue}
 use Rattle.rule.specs.Spelling.{decimalFrom, decimal}
@@ -38,7 +38,7 @@ use Rattle.checker.specs.Base.{ofEvent, referenced, smallest, base, firs
 use Rattle.checker.specs.State.{freshState, withTally}
 use Rattle.checker.specs.Ring.{stored, kept}
 use Rattle.checker.specs.Open.{openDef}
-use Rattle.checker.specs.Good.{goodRule, goodCount, allTo, goodTally, goodState}
+use Rattle.checker.specs.StateTest.{rulePasses, countPasses, allTo, tallyPasses, statePasses}
 use Rattle.checker.specs.Admission.{admission}
 use Rattle.checker.specs.Feed.{feedEvent, feedDef}
 use Rattle.checker.specs.Report.{reportBytes}
@@ -291,7 +291,7 @@ pub record Shown (xs : List Example) : Type 0 where
   pub checker : map byChecker xs ≡ map (λ x. x .answers) xs
 
 pub marked : Shown table
-unfolding classOf span same wordKind markOf markWidth tokenKind widthOf tokenHere tokenAt tokensIn tokensFrom code nameCode decimalFrom decimal numberValue startFactor step finish run deeper position negated put acts judged readOf kindOf referenceCount orderOf sizesFit treeOf checkedOf digitValue digitsAtFront badPlace lineOf ofEvent referenced smallest base firstInstance freshState withTally stored kept openDef goodRule goodCount allTo goodTally goodState admission feedEvent feedDef reportBytes pullRead pullDef outs tabulated joined moved
+unfolding classOf span same wordKind markOf markWidth tokenKind widthOf tokenHere tokenAt tokensIn tokensFrom code nameCode decimalFrom decimal numberValue startFactor step finish run deeper position negated put acts judged readOf kindOf referenceCount orderOf sizesFit treeOf checkedOf digitValue digitsAtFront badPlace lineOf ofEvent referenced smallest base firstInstance freshState withTally stored kept openDef rulePasses countPasses allTo tallyPasses statePasses admission feedEvent feedDef reportBytes pullRead pullDef outs tabulated joined moved
 marked = record { reading = refl; opening = refl; machine = refl; checker = refl }
 
 -- ---- the report of the bench program's example: instance 0 false, two references, 40 and 10; later bytes keep
@@ -306,5 +306,5 @@ benchOuts =
 
 pub bench-report : (outs (machineFor (bytesOf (postfix latency)) 4) bench (atFirst (bytesOf (postfix latency))) ≡ benchOuts)
     × (outs checker bench (fresh (bytesOf (postfix latency)) 4 (replicate (windowWords 4) (pos 7))) ≡ benchOuts)
-unfolding kindOf referenceCount orderOf sizesFit treeOf checkedOf digitValue digitsAtFront badPlace lineOf ofEvent referenced smallest base firstInstance freshState withTally stored kept openDef goodRule goodCount allTo goodTally goodState admission feedEvent feedDef reportBytes pullRead pullDef outs tabulated joined moved
+unfolding kindOf referenceCount orderOf sizesFit treeOf checkedOf digitValue digitsAtFront badPlace lineOf ofEvent referenced smallest base firstInstance freshState withTally stored kept openDef rulePasses countPasses allTo tallyPasses statePasses admission feedEvent feedDef reportBytes pullRead pullDef outs tabulated joined moved
 bench-report = (refl, refl)

@@ -18,7 +18,7 @@ use Rattle.rule.specs.declared.Checked.the-variants.{Accepted}
 use Rattle.rule.proofs.Laws.{passed, reference-at}
 use Rattle.verdict.specs.Found.{Found, present, pending, void}
 use Rattle.verdict.specs.Marks.{Tells, Told}
-use Rattle.checker.specs.Sights.{Shows, ShownTo, Looked, Limited}
+use Rattle.checker.specs.Sights.{Shows, ShownTo, ShowsAll, Limited}
 
 shows-tells : (x : Found) (m : ℕ) (z : ℤ) → Shows x m z → Tells x m z
 shows-tells (present y) m z w = (w .mark-is, w .note-is)
@@ -66,6 +66,6 @@ looked-next s found marks notes k w h x e m z new =
     }
 
 pub looked-last : (s : List ℕ) (found : Reference → Found) (marks : List ℕ) (notes : List ℤ) (k : ℕ) → LookedTo s found marks notes k → k ≡ frameCount s
-    → Looked s found marks notes
+    → ShowsAll s found marks notes
 looked-last s found marks notes k w e =
     record { marked = w .marked; noted = w .noted; shown = subst (λ (n : ℕ). ShownTo s found marks notes n) e (w .shown) }

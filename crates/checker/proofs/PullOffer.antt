@@ -26,7 +26,7 @@ use Rattle.checker.specs.Admission.{admitted, admission}
 use Rattle.checker.specs.Report.{reportBytes}
 use Rattle.checker.specs.Answer.{verdict, refused, pullTold}
 use Rattle.checker.specs.Pull.{PullRead, gave, pullRead, offered, pullAnswer, pullReport, PullResult, givenHere, notPulled, stateAfter, pulledBy, pullDef, pullOutcome}
-use Rattle.checker.specs.Sights.{Looked, Fillable, headerOf, reportTo}
+use Rattle.checker.specs.Sights.{ShowsAll, Fillable, headerOf, reportTo}
 use Rattle.checker.specs.Offer.{Offerable}
 use Rattle.checker.specs.Parts.{stateOf, pulledOf}
 use Rattle.checker.specs.declared.PullAnswer.{PullAnswer}
@@ -41,7 +41,7 @@ module _ (fs : List ℕ) (p w n m : ℕ) (o : Offerable fs p w n m) where
   offer-few : frameCount fs ≤ 64
   offer-few = omega (arith, passed fs (o .accepted) .whole .most)
 
-  module _ (found : Reference → Found) (marks : List ℕ) (notes : List ℤ) (l : Looked fs found marks notes) where
+  module _ (found : Reference → Found) (marks : List ℕ) (notes : List ℤ) (l : ShowsAll fs found marks notes) where
     pub offer-judge : Judgeable fs p marks notes
     offer-judge =
         record {

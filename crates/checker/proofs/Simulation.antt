@@ -34,7 +34,7 @@ use Rattle.checker.specs.State.{Tally, countOf, tallyIn, stateFrames, re
 use Rattle.checker.specs.Ring.{wordAt, kept}
 use Rattle.checker.specs.Found.{byWindow, foundInWindow, givenInWindow}
 use Rattle.checker.specs.Open.{widthFits, windowFits}
-use Rattle.checker.specs.Good.{isAccepted, goodRule, goodTally, goodState}
+use Rattle.checker.specs.StateTest.{isAccepted, rulePasses, tallyPasses, statePasses}
 use Rattle.checker.specs.Admission.{admitted, admission}
 use Rattle.checker.specs.Feed.{FeedRead, turned, skipped, taken, feedEvent, feedRead, feedAnswer, FeedResult, fedBy, fedIf, feedDef}
 use Rattle.checker.specs.Pull.{PullRead, short, waits, gave, offered, pullRead, pullAnswer, pullReport, PullResult, stateAfter, pulledIf, pullDef}
@@ -228,26 +228,26 @@ module _ (frames : List ℕ) (w : ℕ) (ok : Fine frames w) where
         ∙ ap₂ (f (references (treeOf frames))) (b .sim .width) (b .sim .tally)
 
     -- ---- 12 and 13 do not come
-    pub good : goodState (k .state) ≡ true
-    unfolding goodState goodRule
+    pub good : statePasses (k .state) ≡ true
+    unfolding statePasses rulePasses
     good =
         true-and _ _
         (true-and _ _
         (true-and _ _ (b .sim .len) (ap (λ (x : List ℕ). isAccepted (checkedOf x)) (b .sim .rule) ∙ ap isAccepted (ok .accepted)))
         (ap widthFits (b .sim .width) ∙ ok .width))
-        (as-machine goodTally ∙ tally-good (references (treeOf frames)) w (tallyOf m) (b .sound))
+        (as-machine tallyPasses ∙ tally-good (references (treeOf frames)) w (tallyOf m) (b .sound))
 
     fits : windowFits (k .state .width) (k .words) ≡ true
     fits = eq-eqb (length (k .words)) (windowWords (k .state .width)) (b .sim .long ∙ ap windowWords (sym (b .sim .width)))
 
-    pub in-step-admitted : admission (k .state) (k .words) ≡ admitted
-    in-step-admitted = let-in (k .state) (k .words) good fits
+    pub in-step-stays : admission (k .state) (k .words) ≡ admitted
+    in-step-stays = let-in (k .state) (k .words) good fits
 
     -- ---- feeding
     feed-eq : (line : List ℕ) → feedDef (k .state) (k .words) line ≡ fedBy (k .state) (k .words) (machineFeed (treeOf frames) w m line)
     unfolding feedDef
     feed-eq line =
-        ap (fedIf (k .state) (k .words) line) in-step-admitted
+        ap (fedIf (k .state) (k .words) line) in-step-stays
         ∙ ap (fedBy (k .state) (k .words)) (as-machine (λ (rs : List Reference) (v : ℕ) (t : Tally). feedRead rs v t (lineOf line)))
 
     sim-taken : (e : ℕ) (notes : List ℤ) → e < 8 → length (m .lists e) < base (references (treeOf frames)) e (m .next) + w
@@ -314,7 +314,7 @@ module _ (frames : List ℕ) (w : ℕ) (ok : Fine frames w) where
     pull-eq : (buffer : List ℕ) → pullDef (k .state) (k .words) buffer ≡ resultAt (treeOf frames) (givenIn (m .lists) (m .next)) buffer
     unfolding pullDef
     pull-eq buffer =
-        ap (pulledIf (k .state) (k .words) buffer) in-step-admitted
+        ap (pulledIf (k .state) (k .words) buffer) in-step-stays
         ∙ ap (λ (x : List ℕ). resultAt (treeOf x) (givenInWindow (k .state .width) (k .state .counts) (k .words) (k .state .next .0)) buffer) (b .sim .rule)
         ∙ ap₂ (λ (v : ℕ) (t : Tally). resultAt (treeOf frames) (givenInWindow v (t .counts) (k .words) (t .next)) buffer) (b .sim .width) (b .sim .tally)
         ∙ result-own (treeOf frames) (givenInWindow w (tallyOf m .counts) (k .words) (m .next)) (foundIn (m .lists) (m .next)) buffer window-same

@@ -17,7 +17,7 @@ use Rattle.verdict.specs.declared.Verdict.{Verdict}
 use Rattle.checker.specs.Limits.{lineLimit}
 use Rattle.checker.specs.Base.{referenced, base}
 use Rattle.checker.specs.State.{counted, sumOf, Tally, countOf, withLine, withVerdict}
-use Rattle.checker.specs.Good.{allTo, goodCount, goodTally}
+use Rattle.checker.specs.StateTest.{allTo, countPasses, tallyPasses}
 use Rattle.checker.specs.declared.Totals.{Totals}
 use Rattle.checker.proofs.Choices.{cond-case, less-or, same-or, allTo-true}
 use Rattle.checker.proofs.Bases.{base-mono}
@@ -41,8 +41,8 @@ all-at (suc n) f h e l =
     ⊎-elim (λ (q : e < n). all-at n f (a .1) e q) (λ (q : n ≤ e). let p : e ≡ n = omega arith in rw p (a .0)) (less-or e n)
 
 module _ (refs : List Reference) (w : ℕ) (t : Tally) where
-  count-facts : (e : ℕ) → goodCount refs w t e ≡ true → Counts refs w t e
-  unfolding goodCount
+  count-facts : (e : ℕ) → countPasses refs w t e ≡ true → Counts refs w t e
+  unfolding countPasses
   count-facts e h =
       let a = and-true (leb (countOf t e) lineLimit) (cond (referenced refs e) (leb (countOf t e) (base refs e (t .next) + w)) (eqb (countOf t e) 0)) h in
       record {
@@ -51,29 +51,29 @@ module _ (refs : List Reference) (w : ℕ) (t : Tally) where
         none = λ q. eqb-true (countOf t e) 0 (rw q at (a .1));
       }
 
-  count-good : (e : ℕ) → Counts refs w t e → goodCount refs w t e ≡ true
-  unfolding goodCount
+  count-good : (e : ℕ) → Counts refs w t e → countPasses refs w t e ≡ true
+  unfolding countPasses
   count-good e c =
       true-and (leb (countOf t e) lineLimit) _ (le-leb (countOf t e) lineLimit (c .few))
       (cond-case (λ (b : Bool). b ≡ true) (referenced refs e) _ _
       (λ q. le-leb (countOf t e) (base refs e (t .next) + w) (c .room q))
       (λ q. eq-eqb (countOf t e) 0 (c .none q)))
 
-  pub tally-facts : goodTally refs w t ≡ true → Sound refs w t
-  unfolding goodTally
+  pub tally-facts : tallyPasses refs w t ≡ true → Sound refs w t
+  unfolding tallyPasses
   tally-facts h =
-      let a = and-true (allTo eventLimit (goodCount refs w t)) (leb (t .next) instanceLimit && eqb (sumOf (t .totals)) (t .next)) h in
+      let a = and-true (allTo eventLimit (countPasses refs w t)) (leb (t .next) instanceLimit && eqb (sumOf (t .totals)) (t .next)) h in
       let b = and-true (leb (t .next) instanceLimit) (eqb (sumOf (t .totals)) (t .next)) (a .1) in
       record {
-        counts = λ e l. count-facts e (all-at 8 (goodCount refs w t) (a .0) e l);
+        counts = λ e l. count-facts e (all-at 8 (countPasses refs w t) (a .0) e l);
         low = leb-true (t .next) instanceLimit (b .0);
         sum = eqb-true (sumOf (t .totals)) (t .next) (b .1);
       }
 
-  pub tally-good : Sound refs w t → goodTally refs w t ≡ true
-  unfolding goodTally
+  pub tally-good : Sound refs w t → tallyPasses refs w t ≡ true
+  unfolding tallyPasses
   tally-good x =
-      true-and _ _ (allTo-true 8 (goodCount refs w t) (λ e l. count-good e (x .counts e l)))
+      true-and _ _ (allTo-true 8 (countPasses refs w t) (λ e l. count-good e (x .counts e l)))
       (true-and _ _ (le-leb (t .next) instanceLimit (x .low)) (eq-eqb (sumOf (t .totals)) (t .next) (x .sum)))
 
 -- ---- a line is taken

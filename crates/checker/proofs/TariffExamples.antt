@@ -14,7 +14,7 @@ use Rattle.rule.specs.Build.{treeOf}
 use Rattle.rule.specs.Check.{checkedOf}
 use Rattle.checker.specs.Base.{ofEvent, referenced, smallest, base}
 use Rattle.checker.specs.State.{zeroState, freshState}
-use Rattle.checker.specs.Good.{goodRule, goodCount, allTo, goodTally, goodState}
+use Rattle.checker.specs.StateTest.{rulePasses, countPasses, allTo, tallyPasses, statePasses}
 use Rattle.checker.specs.Tariff.{bandsFrom, bandsOf, riseFrom, bandsFit, inRange, pricesFit, priceOf, priceSum, surcharged, centsOf}
 use Rattle.checker.specs.Tariff.{cents, turned, chargeDef}
 use Rattle.checker.specs.declared.State.{State}
@@ -148,20 +148,20 @@ state held failed unknown =
 
 -- the true and the unknown don't count
 beside-others : chargeDef (state 3 12 1) example ≡ cents 546
-unfolding bandsFrom riseFrom bandsFit inRange pricesFit priceOf priceSum surcharged chargeDef kindOf referenceCount orderOf sizesFit treeOf checkedOf ofEvent referenced smallest base freshState goodRule goodCount allTo goodTally goodState
+unfolding bandsFrom riseFrom bandsFit inRange pricesFit priceOf priceSum surcharged chargeDef kindOf referenceCount orderOf sizesFit treeOf checkedOf ofEvent referenced smallest base freshState rulePasses countPasses allTo tallyPasses statePasses
 beside-others = refl
 
 -- the greatest charge, and one violation more than a state can have
 most-charged : chargeDef (state 0 1009999 0) noBand ≡ cents 20199980000
-unfolding bandsFrom riseFrom bandsFit inRange pricesFit kindOf referenceCount orderOf sizesFit treeOf checkedOf ofEvent referenced smallest base freshState goodRule goodCount allTo goodTally goodState
+unfolding bandsFrom riseFrom bandsFit inRange pricesFit kindOf referenceCount orderOf sizesFit treeOf checkedOf ofEvent referenced smallest base freshState rulePasses countPasses allTo tallyPasses statePasses
 most-charged = charged-by (state 0 1009999 0) noBand refl refl refl ∙ ap cents greatest
 
 one-too-many : chargeDef (state 0 1010000 0) noBand ≡ turned 12 0
-unfolding bandsFrom riseFrom bandsFit inRange pricesFit kindOf referenceCount orderOf sizesFit treeOf checkedOf ofEvent referenced smallest base freshState goodRule goodCount allTo goodTally goodState
+unfolding bandsFrom riseFrom bandsFit inRange pricesFit kindOf referenceCount orderOf sizesFit treeOf checkedOf ofEvent referenced smallest base freshState rulePasses countPasses allTo tallyPasses statePasses
 one-too-many = turned-12 (state 0 1010000 0) noBand refl refl refl
 
 -- "With 45 cents to 10, 30 to 100, 12 beyond and 7 percent, 12 violations cost 546 cents"
-pub document-example : (s : State) (l l′ p p′ : ℕ) → goodState s ≡ true → s .totals .failed ≡ 12
+pub document-example : (s : State) (l l′ p p′ : ℕ) → statePasses s ≡ true → s .totals .failed ≡ 12
     → chargeDef s (of 2 (10 ∷ 100 ∷ l ∷ l′ ∷ []) (45 ∷ 30 ∷ p ∷ p′ ∷ [])) ≡ cents 546
 unfolding bandsFrom riseFrom bandsFit inRange pricesFit priceOf priceSum surcharged chargeDef
 document-example s l l′ p p′ g e = rw (g, e)
@@ -174,5 +174,5 @@ bad-both : Tariff
 bad-both = record { bands = 1; lasts = replicate 4 0; prices = replicate 4 10001; beyond = 0; surcharge = 0 }
 
 order : (chargeDef zeroState bad-both ≡ turned 28 0) × (chargeDef zeroState bad-29 ≡ turned 29 0) × (chargeDef zeroState example ≡ turned 12 0)
-unfolding bad-29 bad-both bandsFrom riseFrom bandsFit inRange pricesFit chargeDef checkedOf goodRule goodState
+unfolding bad-29 bad-both bandsFrom riseFrom bandsFit inRange pricesFit chargeDef checkedOf rulePasses statePasses
 order = (refl, refl, refl)

@@ -20,7 +20,7 @@ use Rattle.checker.specs.Base.{ofEvent, referenced, smallest, base, firs
 use Rattle.checker.specs.State.{freshState, withTally}
 use Rattle.checker.specs.Ring.{stored, kept}
 use Rattle.checker.specs.Open.{openDef}
-use Rattle.checker.specs.Good.{goodRule, goodCount, allTo, goodTally, goodState}
+use Rattle.checker.specs.StateTest.{rulePasses, countPasses, allTo, tallyPasses, statePasses}
 use Rattle.checker.specs.Admission.{admission}
 use Rattle.checker.specs.Feed.{feedEvent, feedDef}
 use Rattle.checker.specs.Report.{reportBytes}
@@ -89,5 +89,5 @@ two-logs : (reportedOut frames 4 (window 4) oneLog ≡ bothReported)
     × (viewsOut frames 4 (window 4) oneLog ≡ bothViews)
     × (reportedOut frames 1 (window 1) otherLog ≡ bothReported)
     × (viewsOut frames 1 (window 1) otherLog ≡ bothViews)
-unfolding viewDef views reportedFrom verdicts kindOf referenceCount orderOf sizesFit treeOf checkedOf digitValue digitsAtFront badPlace lineOf ofEvent referenced smallest base firstInstance freshState withTally stored kept openDef goodRule goodCount allTo goodTally goodState admission feedEvent feedDef reportBytes pullRead pullDef outs
+unfolding viewDef views reportedFrom verdicts kindOf referenceCount orderOf sizesFit treeOf checkedOf digitValue digitsAtFront badPlace lineOf ofEvent referenced smallest base firstInstance freshState withTally stored kept openDef rulePasses countPasses allTo tallyPasses statePasses admission feedEvent feedDef reportBytes pullRead pullDef outs
 two-logs = (refl, refl, refl, refl)

@@ -4,7 +4,7 @@ use mathlib.Core.List.{List}
 use Prim.Native.Nat.{ℕ}
 use lib.IntN.{ℤ}
 use Rattle.checker.specs.Open.{windowFits}
-use Rattle.checker.specs.Good.{goodState}
+use Rattle.checker.specs.StateTest.{statePasses}
 use Rattle.checker.specs.declared.State.{State}
 
 -- "Feeding, pulling": a state and a window are let through, or turned down with a number; neither 12 nor 13 names a place
@@ -14,7 +14,7 @@ pub data Admission : Type 0 where
 
 -- "Each call checks those of its own, in this order": 12, then 13
 unfoldable pub admission : State → List ℤ → Admission
-admission s win = cond (goodState s) (cond (windowFits (s .width) win) admitted (barred 13)) (barred 12)
+admission s win = cond (statePasses s) (cond (windowFits (s .width) win) admitted (barred 13)) (barred 12)
 
 -- "A refusal returns its number": of one that is turned down, and 0 of one that is let through
 abbrev pub barredWith : Admission → ℕ

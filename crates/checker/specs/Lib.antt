@@ -8,7 +8,7 @@ pub mod Ring
 pub mod Found
 pub mod Report
 pub mod Open
-pub mod Good
+pub mod StateTest
 pub mod Admission
 pub mod Feed
 pub mod Pull
@@ -21,8 +21,8 @@ pub mod Tariff
 -- What the contracts of inner functions are said by; no contract of open, feed or pull cites it. Crates bench and dillplatter call
 -- by Parts, and bench by Ready too.
 pub mod Parts
-pub mod Within
-pub mod Lows
+pub mod InWindow
+pub mod BasePass
 pub mod Sights
 pub mod Offer
 pub mod Ready

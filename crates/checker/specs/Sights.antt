@@ -33,7 +33,7 @@ ShownTo s found marks notes k =
     → Shows (found (referenceOf (frameAt s j))) (getD marks j 0) (getD notes j (pos 0))
 
 -- "per reference in frame order": at each of all frames
-pub record Looked (s : List ℕ) (found : Reference → Found) (marks : List ℕ) (notes : List ℤ) : Type 0 where
+pub record ShowsAll (s : List ℕ) (found : Reference → Found) (marks : List ℕ) (notes : List ℤ) : Type 0 where
   pub marked : length marks ≡ frameLimit
   pub noted : length notes ≡ frameLimit
   pub shown : ShownTo s found marks notes (frameCount s)

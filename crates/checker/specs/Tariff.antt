@@ -6,7 +6,7 @@ use mathlib.Core.List.{List, [], _∷_}
 use Prim.Native.Nat.{ℕ, zero, suc, _+_, _*_, _/_, _≤_, _<_}
 use lib.Dec.{leb, ltb}
 use lib.ListN.{getD}
-use Rattle.checker.specs.Good.{goodState}
+use Rattle.checker.specs.StateTest.{statePasses}
 use Rattle.checker.specs.declared.State.{State}
 use Rattle.checker.specs.declared.Tariff.{Tariff}
 use Rattle.checker.specs.declared.ChargeAnswer.{ChargeAnswer}
@@ -107,7 +107,7 @@ unfoldable pub chargeDef : State → Tariff → Charge
 chargeDef s t =
     cond (bandsFit t)
     (cond (pricesFit t)
-    (cond (goodState s) (cents (centsOf t (s .totals .failed))) (turned 12 0))
+    (cond (statePasses s) (cents (centsOf t (s .totals .failed))) (turned 12 0))
     (turned 29 0))
     (turned 28 0)
 
@@ -129,4 +129,4 @@ pub record PricesInRange (t : Tariff) : Type 0 where
 pub data ChargeRefused (s : State) (t : Tariff) : ℕ → ℕ → Type 0 where
   bad-bands : (BandsRise t → ⊥) → ChargeRefused s t 28 0
   bad-prices : BandsRise t → (PricesInRange t → ⊥) → ChargeRefused s t 29 0
-  bad-state : BandsRise t → PricesInRange t → goodState s ≡ false → ChargeRefused s t 12 0
+  bad-state : BandsRise t → PricesInRange t → statePasses s ≡ false → ChargeRefused s t 12 0

@@ -1,7 +1,7 @@
 // What feeding and pulling test first: 12, then 13.
-use crate::good;
 use crate::opening;
 use crate::parts::Fields;
+use crate::state_test;
 ghost use mathlib.Core.Path.{_≡_};
 ghost use Prim.Native.Nat.{_*_};
 ghost use lib.ListN.{length};
@@ -9,29 +9,29 @@ ghost use Rattle.rule.specs.Limits.{frameLimit, frameBytes};
 ghost use Rattle.checker.specs.State.{stateFrames};
 ghost use Rattle.checker.specs.Parts.{stateOf};
 ghost use Rattle.checker.specs.Admission.{admission, barredWith};
-ghost use Rattle.checker.specs.Lows.{lowsOf};
+ghost use Rattle.checker.specs.BasePass.{basesOf};
 
-// The number of a refusal, 0 where there is none; there lows are the bases of the events.
+// The number of a refusal, 0 where there is none; there bases are the bases of the events.
 pub struct Admitted {
     pub number: u8,
-    pub lows: [u32; 8],
+    pub bases: [u32; 8],
 }
 
 // Whether 12 and 13 let a state and a window through.
 pub fn admit(frames: &[u8], fields: Fields, window: &[i32]) -> Admitted
     requires { ⌜ length (now frames) ≡ frameLimit * frameBytes ⌝ }
     ensures { λ r. ⌜ (r .number ≡ barredWith (admission (stateOf (now (frames .entry)) fields) (now (window .entry))))
-        × (r .number ≡ 0 → r .lows ≡ lowsOf (stateFrames (stateOf (now (frames .entry)) fields)) (fields .next .0)) ⌝ }
+        × (r .number ≡ 0 → r .bases ≡ basesOf (stateFrames (stateOf (now (frames .entry)) fields)) (fields .next .0)) ⌝ }
 {
-    let tested = good::good(frames, fields);
-    let lows = tested.lows;
+    let tested = state_test::state_passes(frames, fields);
+    let bases = tested.bases;
     if tested.fits {
         if opening::window_fits(fields.width, window.len()) {
-            Admitted { number: 0, lows }
+            Admitted { number: 0, bases }
         } else {
-            Admitted { number: 13, lows }
+            Admitted { number: 13, bases }
         }
     } else {
-        Admitted { number: 12, lows }
+        Admitted { number: 12, bases }
     }
 }

@@ -10,7 +10,7 @@ ghost use lib.ListN.{length};
 ghost use Rattle.rule.specs.Limits.{eventLimit, factorLimit, offsetLimit};
 ghost use Rattle.verdict.specs.Found.{instanceLimit, occurrence, meantBy};
 ghost use Rattle.checker.specs.Base.{orZero};
-ghost use Rattle.checker.specs.Lows.{loweredBy, lowsOf, Startable, Passable};
+ghost use Rattle.checker.specs.BasePass.{loweredBy, basesOf, Startable, Passable};
 
 // In the place of a base, of an event with no reference; no base is as large.
 pub const NO_BASE: u32 = 4294967295;
@@ -28,22 +28,22 @@ fn lower(low: u32, p: Instance, factor: u8, offset: i32) -> u32
 }
 
 // One frame more.
-fn lower_by(lows: &mut [u32; 8], x: Frame, p: Instance)
-    requires { ⌜ Startable (p .0) x × (length (now lows) ≡ eventLimit) ⌝ }
-    ensures kept { λ r. ⌜ length (now (lows .exit)) ≡ eventLimit ⌝ }
-    ensures { λ r. ⌜ now (lows .exit) ≡ loweredBy (p .0) x (now (lows .entry)) ⌝ }
+fn lower_by(bases: &mut [u32; 8], x: Frame, p: Instance)
+    requires { ⌜ Startable (p .0) x × (length (now bases) ≡ eventLimit) ⌝ }
+    ensures kept { λ r. ⌜ length (now (bases .exit)) ≡ eventLimit ⌝ }
+    ensures { λ r. ⌜ now (bases .exit) ≡ loweredBy (p .0) x (now (bases .entry)) ⌝ }
 {
     if x.kind == rule::REFERENCE {
         let e = x.event as usize;
-        let low = lower(lows[e], p, x.factor, x.value);
-        lows[e] = low;
+        let low = lower(bases[e], p, x.factor, x.value);
+        bases[e] = low;
     }
 }
 
 // The base of each event at instance p, by the references of accepted frames.
-pub fn lows(frames: &[u8], p: Instance) -> [u32; 8]
+pub fn bases(frames: &[u8], p: Instance) -> [u32; 8]
     requires { ⌜ Passable (now frames) (p .0) ⌝ }
-    ensures { λ r. ⌜ r ≡ lowsOf (now (frames .entry)) (p .0) ⌝ }
+    ensures { λ r. ⌜ r ≡ basesOf (now (frames .entry)) (p .0) ⌝ }
 {
     let n = frames.len() / FRAME_BYTES;
     let mut out = [NO_BASE; 8];

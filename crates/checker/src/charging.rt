@@ -2,9 +2,9 @@
 use crate::ChargeAnswer;
 use crate::State;
 use crate::Tariff;
-use crate::good;
 use crate::parts;
 use crate::pricing;
+use crate::state_test;
 use rule::Refusal;
 ghost use mathlib.Core.Path.{_≡_};
 ghost use Rattle.rule.specs.declared.Refusal.{Refusal};
@@ -25,7 +25,7 @@ pub fn charge(state: State, tariff: Tariff) -> ChargeAnswer
         if pricing::prices_fit(tariff) {
             let frames = state.frames;
             let fields = parts::fields_of(state);
-            let tested = good::good(&frames, fields);
+            let tested = state_test::state_passes(&frames, fields);
             if tested.fits {
                 ChargeAnswer::Cents(pricing::cents(tariff, state.totals.failed))
             } else {

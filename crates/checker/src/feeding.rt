@@ -4,7 +4,7 @@ use crate::FeedAnswer;
 use crate::State;
 use crate::admission;
 use crate::base;
-use crate::good;
+use crate::limits;
 use crate::parts;
 use crate::parts::Fields;
 use crate::words;
@@ -12,6 +12,7 @@ use log::Line;
 use log::Notes;
 use rule::FRAME_BYTES;
 use rule::Refusal;
+use rule::limits::EVENT_LIMIT;
 use verdict::Occurrence;
 ghost use mathlib.Core.Path.{_≡_};
 ghost use Prim.Native.Nat.{_*_};
@@ -21,11 +22,8 @@ ghost use Rattle.checker.specs.State.{stateFrames};
 ghost use Rattle.checker.specs.Parts.{stateOf, fedOf};
 ghost use Rattle.checker.specs.Ring.{notesOf};
 ghost use Rattle.checker.specs.Feed.{fedBy, eventIn, feedDef, feedOutcome};
-ghost use Rattle.checker.specs.Lows.{lowsOf};
+ghost use Rattle.checker.specs.BasePass.{basesOf};
 ghost use Rattle.checker.specs.Ready.{Ready};
-
-// At most 8 events, numbered from 0.
-const EVENTS: u8 = 8;
 
 // What feeding gives by parts: the answer, and the fields that the state then has beside its frames.
 pub struct FedFields {
@@ -57,26 +55,26 @@ fn ignore(fields: Fields) -> FedFields
 fn feed_event(
     frames: &[u8],
     fields: Fields,
-    lows: [u32; 8],
+    bases: [u32; 8],
     window: &mut [i32],
     event: u8,
     notes: Notes,
 ) -> FedFields
-    requires { ⌜ Ready (now frames) fields (now window) × (lows ≡ lowsOf (stateFrames (stateOf (now frames) fields)) (fields .next .0)) ⌝ }
+    requires { ⌜ Ready (now frames) fields (now window) × (bases ≡ basesOf (stateFrames (stateOf (now frames) fields)) (fields .next .0)) ⌝ }
     ensures { λ r. ⌜ feedOutcome (fedOf (now (frames .entry)) r) (now (window .exit))
         ≡ fedBy (stateOf (now (frames .entry)) fields) (now (window .entry))
         (eventIn (stateOf (now (frames .entry)) fields) event (notesOf notes)) ⌝ }
 {
-    if EVENTS <= event {
+    if EVENT_LIMIT <= event {
         return ignore(fields);
     }
     let e = event as usize;
-    let low = lows[e];
+    let low = bases[e];
     if low == base::NO_BASE {
         return ignore(fields);
     }
     let c = fields.counts[e];
-    if good::LINES <= c {
+    if limits::LINE_LIMIT <= c {
         return refuse(fields, 16, 0);
     }
     let width = fields.width;
@@ -94,31 +92,31 @@ fn feed_event(
 fn feed_with(
     frames: &[u8],
     fields: Fields,
-    lows: [u32; 8],
+    bases: [u32; 8],
     window: &mut [i32],
     line: &[u8],
 ) -> FedFields
-    requires { ⌜ Ready (now frames) fields (now window) × (lows ≡ lowsOf (stateFrames (stateOf (now frames) fields)) (fields .next .0)) ⌝ }
+    requires { ⌜ Ready (now frames) fields (now window) × (bases ≡ basesOf (stateFrames (stateOf (now frames) fields)) (fields .next .0)) ⌝ }
     ensures { λ r. ⌜ feedOutcome (fedOf (now (frames .entry)) r) (now (window .exit))
         ≡ feedDef (stateOf (now (frames .entry)) fields) (now (window .entry)) (now (line .entry)) ⌝ }
 {
     let read = log::read_line(line);
     match read {
         Line::Bad(place) => refuse(fields, 15, place),
-        Line::Event(event, notes) => feed_event(frames, fields, lows, window, event, notes),
+        Line::Event(event, notes) => feed_event(frames, fields, bases, window, event, notes),
     }
 }
 
 // Feeds a line to a checker that 12 and 13 let through, without testing them: for callers that carry the state from an opening.
-pub fn feed_good(frames: &[u8], fields: Fields, window: &mut [i32], line: &[u8]) -> FedFields
+pub fn feed_admitted(frames: &[u8], fields: Fields, window: &mut [i32], line: &[u8]) -> FedFields
     requires { ⌜ Ready (now frames) fields (now window) ⌝ }
     ensures { λ r. ⌜ feedOutcome (fedOf (now (frames .entry)) r) (now (window .exit))
         ≡ feedDef (stateOf (now (frames .entry)) fields) (now (window .entry)) (now (line .entry)) ⌝ }
 {
     let n = fields.len as usize * FRAME_BYTES;
     let p = fields.next;
-    let lows = base::lows(&frames[..n], p);
-    feed_with(frames, fields, lows, window, line)
+    let bases = base::bases(&frames[..n], p);
+    feed_with(frames, fields, bases, window, line)
 }
 
 // Feeds a line to a checker in parts, whatever the state, the window and the line are.
@@ -129,8 +127,8 @@ pub fn feed_parts(frames: &[u8], fields: Fields, window: &mut [i32], line: &[u8]
 {
     let tested = admission::admit(frames, fields, window);
     if tested.number == 0 {
-        let lows = tested.lows;
-        feed_with(frames, fields, lows, window, line)
+        let bases = tested.bases;
+        feed_with(frames, fields, bases, window, line)
     } else {
         refuse(fields, tested.number, 0)
     }

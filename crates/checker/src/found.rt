@@ -20,8 +20,8 @@ ghost use Rattle.verdict.specs.Found.{foundAt};
 ghost use Rattle.checker.specs.Limits.{windowWords};
 ghost use Rattle.checker.specs.Ring.{wordAt};
 ghost use Rattle.checker.specs.Found.{foundInWindow};
-ghost use Rattle.checker.specs.Within.{InWindow};
-ghost use Rattle.checker.specs.Sights.{Shows, Looked, Lookable, Limited};
+ghost use Rattle.checker.specs.InWindow.{InWindow};
+ghost use Rattle.checker.specs.Sights.{Shows, ShowsAll, Lookable, Limited};
 
 // A mark, and the note's value, 0 unless present.
 pub struct Seen {
@@ -94,7 +94,7 @@ pub fn look(
 )
     requires { ⌜ (checkedOf (now frames) ≡ Checked.Accepted) × (Lookable (p .0) width (length (now window))
         × ((length (now marks) ≡ frameLimit) × (length (now notes) ≡ frameLimit))) ⌝ }
-    ensures { λ r. ⌜ Looked (now (frames .entry)) (foundInWindow width counts (now (window .entry)) (p .0))
+    ensures { λ r. ⌜ ShowsAll (now (frames .entry)) (foundInWindow width counts (now (window .entry)) (p .0))
         (now (marks .exit)) (now (notes .exit)) ⌝ }
 {
     let n = frames.len() / FRAME_BYTES;

@@ -4,7 +4,8 @@ mod base; // base.rt: the base of each event
 mod charging; // charging.rt: 28, 29, 12, the charge for rework
 mod feeding; // feeding.rt: 12, 13, 15, ignored, 16, 17
 mod found; // found.rt: marks and notes of references
-mod good; // good.rt: 12
+mod state_test; // state_test.rt: 12
+mod limits; // limits.rt: the limits of the window, the counts and the report
 mod opening; // opening.rt: 9, 10, 7, 8, 11; a fresh checker
 mod pricing; // pricing.rt: what violations cost by a tariff
 mod pulling; // pulling.rt: 12, 13, 14, the next verdict or waiting
@@ -16,16 +17,16 @@ mod words; // words.rt: the window's words
 pub use charging::charge;
 pub use feeding::FedFields;
 pub use feeding::feed;
-pub use feeding::feed_good;
+pub use feeding::feed_admitted;
 pub use feeding::feed_parts;
+pub use limits::REPORT_LEAST;
 pub use opening::open;
 pub use parts::Fields;
 pub use parts::fields_of;
 pub use parts::with_fields;
 pub use pulling::PulledFields;
-pub use pulling::REPORT_LEAST;
 pub use pulling::pull;
-pub use pulling::pull_good;
+pub use pulling::pull_admitted;
 pub use pulling::pull_parts;
 use rule::Refusal;
 use verdict::Instance;

@@ -2,6 +2,7 @@
 use crate::OpenAnswer;
 use crate::Opened;
 use crate::State;
+use crate::limits;
 use crate::parts;
 use rule::Checked;
 use rule::FRAME_BYTES;
@@ -19,12 +20,6 @@ ghost use Rattle.checker.specs.Limits.{windowWords};
 ghost use Rattle.checker.specs.State.{zeroState, freshState};
 ghost use Rattle.checker.specs.Open.{widthFits, openDef, openOutcome};
 
-// W is 1 to 256.
-const WIDTH_LIMIT: u32 = 256;
-
-// Window is the document's term: it has 32 × W words.
-const WORDS: usize = 32;
-
 // The number of the first instance.
 const FIRST_INSTANCE: u32 = 0;
 
@@ -32,14 +27,14 @@ const FIRST_INSTANCE: u32 = 0;
 pub fn width_fits(width: u32) -> bool
     ensures { λ r. ⌜ r ≡ widthFits width ⌝ }
 {
-    (1 <= width) & (width <= WIDTH_LIMIT)
+    (1 <= width) & (width <= limits::WIDTH_LIMIT)
 }
 
 // Whether a window of n words is as long as W asks.
 pub fn window_fits(width: u32, n: usize) -> bool
     ensures { λ r. ⌜ r ≡ eqb n (windowWords width) ⌝ }
 {
-    n == WORDS * width as usize
+    n == limits::WIDTH_WORDS * width as usize
 }
 
 // Sets all words to 0.

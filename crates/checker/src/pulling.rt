@@ -4,6 +4,7 @@ use crate::Pulled;
 use crate::State;
 use crate::admission;
 use crate::found;
+use crate::limits;
 use crate::parts;
 use crate::parts::Fields;
 use crate::report;
@@ -26,9 +27,6 @@ ghost use Rattle.checker.specs.Pull.{gave, offered, pullAnswer, pullRepo
 ghost use Rattle.checker.specs.Found.{foundInWindow, givenInWindow};
 ghost use Rattle.checker.specs.Offer.{Countable, Offerable};
 ghost use Rattle.checker.specs.Ready.{Ready};
-
-// A report buffer has at least 166 bytes.
-pub const REPORT_LEAST: usize = 166;
 
 // What pulling gives by parts: the answer, and the fields that the state then has beside its frames.
 pub struct PulledFields {
@@ -100,7 +98,12 @@ fn offer(
 
 // Pulls from a checker that 12 and 13 let through, into a buffer that 14 does, without testing them: for callers that carry the
 // state from an opening.
-pub fn pull_good(frames: &[u8], fields: Fields, window: &[i32], report: &mut [u8]) -> PulledFields
+pub fn pull_admitted(
+    frames: &[u8],
+    fields: Fields,
+    window: &[i32],
+    report: &mut [u8],
+) -> PulledFields
     requires { ⌜ Ready (now frames) fields (now window) × (reportLeast ≤ length (now report)) ⌝ }
     ensures { λ r. ⌜ pullOutcome (pulledOf (now (frames .entry)) r) (now (report .exit))
         ≡ pullDef (stateOf (now (frames .entry)) fields) (now (window .entry)) (now (report .entry)) ⌝ }
@@ -120,10 +123,10 @@ pub fn pull_parts(frames: &[u8], fields: Fields, window: &[i32], report: &mut [u
 {
     let tested = admission::admit(frames, fields, window);
     if tested.number == 0 {
-        if report.len() < REPORT_LEAST {
+        if report.len() < limits::REPORT_LEAST {
             refuse(fields, 14)
         } else {
-            pull_good(frames, fields, window, report)
+            pull_admitted(frames, fields, window, report)
         }
     } else {
         refuse(fields, tested.number)

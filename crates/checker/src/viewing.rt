@@ -1,5 +1,5 @@
 // Viewing: 14, or the part of a report that machine hands get. View and machine hands are the document's terms.
-use crate::REPORT_LEAST;
+use crate::limits;
 ghost use mathlib.Core.Path.{_≡_};
 ghost use Rattle.checker.specs.View.{viewDef};
 
@@ -13,7 +13,7 @@ pub fn view<'a>(report: &'a [u8], number: &mut u32) -> &'a [u8]
         × ((now r ≡ viewDef (now (report .entry)) .bytes)
         × (now (number .exit) ≡ viewDef (now (report .entry)) .number)) ⌝ }
 {
-    if report.len() < REPORT_LEAST {
+    if report.len() < limits::REPORT_LEAST {
         *number = 14;
         &report[0..0]
     } else {

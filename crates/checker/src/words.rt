@@ -6,7 +6,7 @@ ghost use Prim.Native.Nat.{_<_};
 ghost use lib.ListN.{length};
 ghost use Rattle.checker.specs.Limits.{windowWords};
 ghost use Rattle.checker.specs.Ring.{notesOf, wordAt, stored, kept};
-ghost use Rattle.checker.specs.Within.{InWindow};
+ghost use Rattle.checker.specs.InWindow.{InWindow};
 
 // A place has a word for each of 4 notes.
 const NOTES: usize = 4;

@@ -12,7 +12,7 @@ use Rattle.log.specs.declared.earlier.LowerAnswer.{LowerAnswer}
 use Rattle.log.specs.declared.earlier.LowerAnswer.the-variants as lowers
 use Rattle.verdict.specs.declared.Verdict.the-variants.{True, False, Unknown}
 use Rattle.checker.specs.Answer.{opened, accepted, ignored, waiting, verdict, refused}
-use Rattle.checker.specs.Good.{goodState}
+use Rattle.checker.specs.StateTest.{statePasses}
 use Rattle.checker.specs.Tariff.{bandsFit, pricesFit, centsOf, Charge, cents, turned, chargeDef}
 use Rattle.checker.specs.declared.State.{State}
 use Rattle.checker.specs.declared.Tariff.{Tariff}
@@ -117,7 +117,7 @@ back-by false y z c = refl
 
 charge-back : (s : State) (t : Tariff) → Back (chargeDef s t)
 unfolding chargeDef
-charge-back s t = back-by (bandsFit t) (pricesFit t) (goodState s) (centsOf t (s .totals .failed))
+charge-back s t = back-by (bandsFit t) (pricesFit t) (statePasses s) (centsOf t (s .totals .failed))
 
 pub charge-fixed : (s s′ : State) (t t′ : Tariff) → chargeNumber (chargeDef s t) ≡ chargeNumber (chargeDef s′ t′)
     → chargePlace (chargeDef s t) ≡ chargePlace (chargeDef s′ t′) → chargeCents (chargeDef s t) ≡ chargeCents (chargeDef s′ t′)

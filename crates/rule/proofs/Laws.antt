@@ -1,22 +1,22 @@
 -- What proofs of crates above may use of this crate beside Main. Assumes nothing.
 
 -- kinds by their bytes
-pub use Rattle.rule.proofs.KindBytes.{kind-at, byte-kind, arithmetic-at, relation-at, connective-at}
-pub use Rattle.rule.proofs.KindBytes.{none-00, none-04, none-15, none-27, none-35}
+pub use Rattle.rule.proofs.FrameKinds.{kind-at, byte-kind, arithmetic-at, relation-at, connective-at}
+pub use Rattle.rule.proofs.FrameKinds.{none-00, none-04, none-15, none-27, none-35}
 -- an array with a count as a stack
-pub use Rattle.rule.proofs.Stack.{stack-length, stack-push, stack-one, stack-two, stack-top, stack-fold}
+pub use Rattle.rule.proofs.FrameStack.{stack-length, stack-push, stack-one, stack-two, stack-top, stack-fold}
 -- how many sums and conditions the first frames leave
-pub use Rattle.rule.proofs.Prefix.{Live, live, sumsOf, condsOf, sums-le, conds-le, one-left}
+pub use Rattle.rule.proofs.FrameOrder.{Live, live, sumsOf, condsOf, sums-le, conds-le, one-left}
 -- the frame at a place, and how many magnitudes stand there
-pub use Rattle.rule.proofs.Link.{found, sizes-length}
+pub use Rattle.rule.proofs.FrameStacks.{found, sizes-length}
 -- magnitudes within the limit
-pub use Rattle.rule.proofs.Magnitudes.{BoundedIn, sizes-in, fits-at}
+pub use Rattle.rule.proofs.FrameMagnitudes.{BoundedIn, sizes-in, fits-at}
 -- a literal's value, and a rule's frames
-pub use Rattle.rule.proofs.Parse.{literal-value}
-pub use Rattle.rule.proofs.Accept.{rule-fine}
+pub use Rattle.rule.proofs.FrameParsing.{literal-value}
+pub use Rattle.rule.proofs.FrameRules.{rule-fine}
 -- a pass over references is one over the tree's
-pub use Rattle.rule.proofs.Count.{overReferences, over-references, rule-length}
+pub use Rattle.rule.proofs.FrameReferences.{overReferences, over-references, rule-length}
 -- what accepted frames hold
-pub use Rattle.rule.proofs.Facts.{passed, reference-at, AllWithin, references-within}
+pub use Rattle.rule.proofs.FrameFacts.{passed, reference-at, AllWithin, references-within}
 -- bytes, one by one
-pub use Rattle.rule.proofs.Fold.{bytes-by, bytes-length}
+pub use Rattle.rule.proofs.FrameLists.{bytes-by, bytes-length}

@@ -1,18 +1,23 @@
-mod Span
-mod Words
-mod Marks
-mod Here
-mod Codes
-mod Decimals
-mod Lexing
-mod Runs
-mod Walk
-mod Gen
-mod Machines
-mod Trees
-mod Rules
-mod Keeps
-mod Measures
+-- Laws by what they show, in a reader's order; Main has the headline statements, Laws what other crates may cite.
+-- Tokens: runs of bytes, words, marks, names and numbers, the tokens of a text.
+mod TokenSpans
+mod TokenWords
+mod TokenMarks
+mod TokenNext
+mod TokenCodes
+mod TokenDecimals
+mod TokenLists
+mod TokenRuns
+mod TokenExamples
+-- The grammar: what reading a tree does, derivations, and the machine that takes exactly what trees spell.
+mod GrammarWalk
+mod GrammarDerivations
+mod GrammarMachine
+mod GrammarTrees
+mod GrammarRules
+mod GrammarKeeps
+mod GrammarMeasures
+-- Spelling: one tree to a text; names and numbers by letters and by the codes that the reader compares.
 mod SpellLists
 mod SpellTokens
 mod SpellCodes
@@ -22,46 +27,49 @@ mod SpellMeaning
 mod SpellTurn
 mod SpellTrees
 mod SpellSame
-mod Registers
-mod Judge
-mod Put
-mod Numbers
-mod Bytes
-mod Answer
-mod Does
-mod Tables
-mod Marked
-mod Close
-mod Conclude
+-- The reader: its registers, tables and buffer, readers of parts, and how a text's reading ends.
+mod ReaderRegisters
+mod ReaderRefusals
+mod ReaderFrames
+mod ReaderBuffer
+mod ReaderAnswer
+mod ReaderParts
+mod ReaderTables
+mod ReaderMarks
+mod ReaderEnd
+mod ReaderConclusion
+-- Frames and trees: kinds, stacks, the passes of 9, 10 and 8, frames as a tree and back, what a tree's frames are.
+mod FrameKinds
+mod FrameStack
+mod FrameOrder
+mod FrameMagnitudes
+mod FrameStacks
+mod FrameLength
+mod FrameLists
+mod FrameParsing
+mod FrameRules
+mod FramePlaces
+mod FrameBytePlaces
+mod FrameReferences
+mod FrameSizes
+mod FrameFacts
+mod FrameDrafts
+mod FrameMeanings
+mod FrameLimits
+mod FrameFilling
+mod FrameTrees
+mod FrameExamples
+-- Answers of the check of frames, and of reading.
+mod CheckNumbers
+mod CheckAnswers
+mod CheckExactly
 mod ReadText
-mod Drafts
-mod Means
-mod Numbered
-mod Filled
-mod TreeBytes
 mod ReadChecks
 mod ReadFrames
 mod ReadAnswers
 mod ReadExactly
 mod ReadPlaces
-mod KindBytes
-mod Stack
-mod Prefix
-mod Magnitudes
-mod Link
-mod Whole
-mod Fold
-mod Parse
-mod Accept
-mod PlaceFrames
-mod PlaceBytes
-mod Count
-mod Size
-mod Opening
-mod Exactly
-mod Facts
-mod Examples
-mod FrameExamples
 mod ReadExamples
+-- What other crates cite, and the headline statements.
 pub mod Laws
 pub mod Main

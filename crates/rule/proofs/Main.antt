@@ -16,15 +16,15 @@ use Rattle.rule.specs.Check.{checkedOf}
 use Rattle.rule.specs.Opening.{Whole, Place, Opening, Proper, refused}
 use Rattle.rule.specs.declared.Checked.{Checked}
 use Rattle.rule.specs.declared.Checked.the-variants.{Accepted}
-use Rattle.rule.proofs.Words as words
-use Rattle.rule.proofs.Codes as codes
-use Rattle.rule.proofs.Decimals as decimals
-use Rattle.rule.proofs.Lexing as lexing
-use Rattle.rule.proofs.Runs as runs
-use Rattle.rule.proofs.Accept
-use Rattle.rule.proofs.Count
-use Rattle.rule.proofs.Opening
-use Rattle.rule.proofs.Exactly
+use Rattle.rule.proofs.TokenWords as words
+use Rattle.rule.proofs.TokenCodes as codes
+use Rattle.rule.proofs.TokenDecimals as decimals
+use Rattle.rule.proofs.TokenLists as lexing
+use Rattle.rule.proofs.TokenRuns as runs
+use Rattle.rule.proofs.FrameRules
+use Rattle.rule.proofs.FrameReferences
+use Rattle.rule.proofs.CheckAnswers
+use Rattle.rule.proofs.CheckExactly
 use mathlib.Core.List.{[], List·Memᴰ}
 use Prim.Native.Nat.{_*_}
 use lib.ListN.{take}
@@ -41,7 +41,7 @@ use Rattle.rule.specs.declared.Token.{Token}
 use Rattle.rule.specs.declared.Reading.the-variants as reading
 use Rattle.rule.proofs.SpellSame
 use Rattle.rule.proofs.SpellTrees
-use Rattle.rule.proofs.TreeBytes
+use Rattle.rule.proofs.FrameTrees
 use Rattle.rule.proofs.ReadText
 use Rattle.rule.proofs.ReadExactly
 use Rattle.rule.proofs.ReadAnswers
@@ -95,32 +95,32 @@ number-decides = decimals.number-decides
 
 -- accepted: exactly the frames of a tree within the limits, at most 64, with a reference, every magnitude at most 2^62
 pub frames-exactly : {s : List ℕ} → Bytes s → (checkedOf s ≡ Accepted) ↔ Proper s
-frames-exactly = Exactly.accepted-iff
+frames-exactly = CheckExactly.accepted-iff
 
 -- bytes are the frames of one tree only
 pub one-tree : {s : List ℕ} (p q : IsRule s) → p .tree ≡ q .tree
-one-tree = Accept.one-tree
+one-tree = FrameRules.one-tree
 
 -- which a function finds
 pub tree-of : {s : List ℕ} (r : IsRule s) → treeOf s ≡ r .tree
-tree-of = Accept.tree-of
+tree-of = FrameRules.tree-of
 
 -- refused with 10 at p: exactly where the frames before p begin some rule of some length, and with the frame at p none;
 -- at their count, where only the end is wrong
 pub place-10 : {s : List ℕ} → Bytes s → (p : ℕ) → (checkedOf s ≡ refused 10 p) ↔ (Whole (length s) × Place s p)
-place-10 = Exactly.place-iff
+place-10 = CheckExactly.place-iff
 
 -- at most 32 references in 64 frames
 pub few-references : {s : List ℕ} → Bytes s → checkedOf s ≡ Accepted → referenceCount s ≤ 32
-few-references = Exactly.few
+few-references = CheckExactly.few
 
 -- and the count is of the references that the tree names
 pub count-references : {s : List ℕ} (r : IsRule s) → referenceCount s ≡ length (references (r .tree))
-count-references = Count.count-of
+count-references = FrameReferences.count-of
 
 -- every answer, 9, 10, 7, 8 or accepted, in the words of trees
 pub opening-iff : {s : List ℕ} → Bytes s → (o : Checked) → (checkedOf s ≡ o) ↔ Opening s o
-opening-iff = Opening.opening-iff
+opening-iff = CheckAnswers.opening-iff
 
 -- ---- reading
 
@@ -154,14 +154,14 @@ numbers-digits = SpellSame.numbers-digits
 
 -- what a tree that 4, 5 and 6 leave means is within the limits of frames
 pub meaning-limits : (text : List ℕ) (x : Rule) → Within text x → Limits (meaning text x)
-meaning-limits = TreeBytes.meaning-limits
+meaning-limits = FrameTrees.meaning-limits
 
 -- and has as many frames as the tree
 pub meaning-count : (text : List ℕ) (x : Rule) → length (postfix (meaning text x)) ≡ length (frames x)
-meaning-count = TreeBytes.meaning-count
+meaning-count = FrameTrees.meaning-count
 
 -- refused with 3 at p: exactly where p is the first token that with those before it begins no rule, or the length
-pub place-3 : (text b : List ℕ) → length b ≡ bufferBytes → answers.Sized (length text) → (p : ℕ) → (readOf text b .0 ≡ refusedAs 3 p) ↔ Wrong-at (length text) (tokens text) p
+pub place-3 : (text b : List ℕ) → length b ≡ bufferBytes → answers.LengthFits (length text) → (p : ℕ) → (readOf text b .0 ≡ refusedAs 3 p) ↔ Wrong-at (length text) (tokens text) p
 place-3 = ReadPlaces.place-3
 
 -- refused with 4 at p: exactly where p is the tree's first bad name

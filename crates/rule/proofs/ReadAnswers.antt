@@ -13,26 +13,26 @@ use Rattle.rule.specs.Token.{tokens}
 use Rattle.rule.specs.Grammar.{Rule, yield, words, Wrong-at}
 use Rattle.rule.specs.Tree.{postfix}
 use Rattle.rule.specs.Measure.{frames, depth, names, numbers}
-use Rattle.rule.proofs.Judge.{refused-by, read-as, first-name, first-number, after-number, after-name, outcome}
+use Rattle.rule.proofs.ReaderRefusals.{refused-by, read-as, first-name, first-number, after-number, after-name, outcome}
 use Rattle.rule.specs.Memory.{codeAt, valueAt}
 use Rattle.rule.specs.Check.{checkedOf}
 use Rattle.rule.specs.Meaning.{meaning}
 use Rattle.rule.specs.Reading.{readOf}
-use Rattle.rule.proofs.Put.{treeBytes}
+use Rattle.rule.proofs.ReaderFrames.{treeBytes}
 use Rattle.rule.specs.Answers.{Spelled, NamesGood, NumbersGood, Within, ReadAs, Answered, refused-1, refused-2, refused-3, refused-4, refused-5, refused-6, refused-7, refused-8, accepted, refusedAs}
 use Rattle.rule.specs.Answers as answers
 use Rattle.rule.specs.declared.Checked.{Checked}
 use Rattle.rule.specs.declared.Reading.{Reading}
 use Rattle.rule.specs.declared.parts.Place.{Place}
-use Rattle.rule.proofs.Conclude.{one, two-none, two-many}
+use Rattle.rule.proofs.ReaderConclusion.{one, two-none, two-many}
 use Rattle.rule.proofs.ReadText.{outside, as-judged, either}
 use Rattle.rule.proofs.SpellSame.{first-name-same, first-number-same}
-use Rattle.rule.proofs.TreeBytes.{meaning-count}
+use Rattle.rule.proofs.FrameTrees.{meaning-count}
 use Rattle.rule.proofs.ReadChecks.{Checks, no-reference, too-great, proper, checks}
 use Rattle.rule.proofs.ReadFrames.{tree-refused, tree-read}
 
 -- ---- the answers
-module _ (text b : List ℕ) (fit : length b ≡ 512) (size : answers.Sized (length text)) where
+module _ (text b : List ℕ) (fit : length b ≡ 512) (size : answers.LengthFits (length text)) where
   module _ (x : Rule) (y : yield x ≡ words (tokens text)) where
     spelled : Spelled text x
     spelled = record { sized = size; spells = y }
@@ -92,5 +92,5 @@ answered text b = go (eqb (length b) 512) refl (eqb (length text) 0) refl (ltb 1
         subst (λ (a : Reading × List ℕ). Answered text b a) (sym (two-many text b h i l)) (refused-2 h (λ s. let q = s .few-bytes in omega arith))
     go true e false f false g =
         let h = eqb-true (length b) 512 e in
-        let s : answers.Sized (length text) = record { some-bytes = eqb-false (length text) 0 f; few-bytes = ltb-false 1024 (length text) g } in
+        let s : answers.LengthFits (length text) = record { some-bytes = eqb-false (length text) 0 f; few-bytes = ltb-false 1024 (length text) g } in
         in-text text b h s (either text b h (s .some-bytes) (s .few-bytes))

@@ -13,17 +13,17 @@ use Rattle.rule.specs.Grammar.{Rule}
 use Rattle.rule.specs.Tree.{Cond, IsRule, references, parts, NoneExceeds}
 use Rattle.rule.specs.Measure.{frames}
 use Rattle.rule.specs.Check.{checkedOf}
-use Rattle.rule.proofs.Numbers.{numberOf}
+use Rattle.rule.proofs.CheckNumbers.{numberOf}
 use Rattle.rule.specs.Opening.{Whole, Place, Opening, refused-9, refused-10, refused-7, refused-8, accepted, refused}
-use Rattle.rule.proofs.Put.{treeBytes}
+use Rattle.rule.proofs.ReaderFrames.{treeBytes}
 use Rattle.rule.specs.Answers.{Within}
 use Rattle.rule.specs.declared.Checked.{Checked}
 use Rattle.rule.specs.declared.Checked.the-variants.{Accepted}
-use Rattle.rule.proofs.Accept.{rule-bytes, one-tree}
-use Rattle.rule.proofs.Opening.{opening-iff}
-use Rattle.rule.proofs.Exactly.{whole-of}
+use Rattle.rule.proofs.FrameRules.{rule-bytes, one-tree}
+use Rattle.rule.proofs.CheckAnswers.{opening-iff}
+use Rattle.rule.proofs.CheckExactly.{whole-of}
 use Rattle.rule.specs.Meaning.{meaning}
-use Rattle.rule.proofs.TreeBytes.{meaning-limits, tree-taken, tree-rule}
+use Rattle.rule.proofs.FrameTrees.{meaning-limits, tree-taken, tree-rule}
 
 -- bytes that are a rule have no place for 10
 no-place : {s : List ℕ} {p : ℕ} → IsRule s → Place s p → ⊥

@@ -14,12 +14,12 @@ use Rattle.rule.specs.Build.{treeOf}
 use Rattle.rule.specs.Measure.{frames}
 use Rattle.rule.specs.Meaning.{meaning}
 use Rattle.rule.specs.Reading.{readOf}
-use Rattle.rule.proofs.Put.{treeBytes}
+use Rattle.rule.proofs.ReaderFrames.{treeBytes}
 use Rattle.rule.specs.Answers.{ReadAs, Answered, refused-1, refused-2, refused-3, refused-4, refused-5, refused-6, refused-7, refused-8, accepted, refusedAs}
 use Rattle.rule.specs.declared.Reading.{Reading}
 use Rattle.rule.specs.declared.Reading.the-variants as reading
-use Rattle.rule.proofs.Accept.{rule-bytes, tree-of}
-use Rattle.rule.proofs.TreeBytes.{meaning-count, meaning-limits, tree-bytes, tree-taken}
+use Rattle.rule.proofs.FrameRules.{rule-bytes, tree-of}
+use Rattle.rule.proofs.FrameTrees.{meaning-count, meaning-limits, tree-bytes, tree-taken}
 use Rattle.rule.proofs.ReadFrames.{tree-read}
 use Rattle.rule.proofs.ReadAnswers.{answered}
 use Rattle.rule.proofs.SpellTrees.{tree-unique}

@@ -5,7 +5,7 @@ use Prim.Native.Nat.{ℕ}
 use lib.ListN.{take, replicate}
 use Rattle.rule.specs.Class.{classOf, span}
 use Rattle.rule.specs.Token.{same, wordKind, markOf, markWidth, widthOf, tokenHere, tokenAt, tokensIn, tokensFrom}
-use Rattle.rule.specs.Token.{kindOf as tokenKind}
+use Rattle.rule.specs.Token.{tokenKind}
 use Rattle.rule.specs.Name.{code, nameCode}
 use Rattle.rule.specs.Number.{numberValue}
 use Rattle.rule.specs.Spelling.{decimalFrom, decimal}

@@ -10,23 +10,23 @@ use borrow.Author.Tests.{le-ltb}
 use Rattle.rule.specs.Grammar.{Rule}
 use Rattle.rule.specs.Tree.{postfix, bytesOf}
 use Rattle.rule.specs.Measure.{frames, depth}
-use Rattle.rule.proofs.Judge.{Outcome, read-as, telling, outcome}
+use Rattle.rule.proofs.ReaderRefusals.{Outcome, read-as, telling, outcome}
 use Rattle.rule.specs.Memory.{Mem, fresh, told, codeAt, valueAt, acts}
 use Rattle.rule.specs.Check.{checkedOf}
 use Rattle.rule.specs.Opening.{refused}
 use Rattle.rule.specs.Reading.{afterCheck, concluded, readOf}
-use Rattle.rule.proofs.Put.{treeBytes}
+use Rattle.rule.proofs.ReaderFrames.{treeBytes}
 use Rattle.rule.specs.Meaning.{meaning}
 use Rattle.rule.specs.Answers.{Within, ReadAs, refusedAs}
 use Rattle.rule.specs.declared.Checked.{Checked}
 use Rattle.rule.specs.declared.Checked.the-variants.{Accepted}
 use Rattle.rule.specs.declared.Reading.{Reading}
 use Rattle.rule.specs.declared.Reading.the-variants as reading
-use Rattle.rule.proofs.Walk.{readRule}
-use Rattle.rule.proofs.Registers.{told-right}
-use Rattle.rule.proofs.Bytes.{bytes-read}
+use Rattle.rule.proofs.GrammarWalk.{readRule}
+use Rattle.rule.proofs.ReaderRegisters.{told-right}
+use Rattle.rule.proofs.ReaderBuffer.{bytes-read}
 use Rattle.rule.proofs.ReadText.{in-grammar}
-use Rattle.rule.proofs.TreeBytes.{meaning-count, few-frames, coded-names, coded-numbers, tree-bytes}
+use Rattle.rule.proofs.FrameTrees.{meaning-count, few-frames, coded-names, coded-numbers, tree-bytes}
 use Rattle.rule.proofs.ReadChecks.{check-accepted}
 
 -- the registers that refuse nothing tell the number of frames

@@ -12,7 +12,7 @@ use Rattle.rule.specs.Token.{tokens}
 use Rattle.rule.specs.Grammar.{Rule, Wrong-at}
 use Rattle.rule.specs.Tree.{references, parts, NoneExceeds}
 use Rattle.rule.specs.Measure.{frames, depth}
-use Rattle.rule.proofs.Judge.{Outcome, refused-by, outcome}
+use Rattle.rule.proofs.ReaderRefusals.{Outcome, refused-by, outcome}
 use Rattle.rule.specs.Memory.{codeAt, valueAt}
 use Rattle.rule.specs.Meaning.{meaning}
 use Rattle.rule.specs.Reading.{readOf}
@@ -22,7 +22,7 @@ use Rattle.rule.specs.Answers as answers
 use Rattle.rule.specs.declared.Reading.{Reading}
 use Rattle.rule.specs.declared.Reading.the-variants as reading
 use Rattle.rule.proofs.ReadText.{outside, as-judged}
-use Rattle.rule.proofs.TreeBytes.{meaning-count}
+use Rattle.rule.proofs.FrameTrees.{meaning-count}
 use Rattle.rule.proofs.ReadChecks.{check-7, check-8}
 use Rattle.rule.proofs.ReadFrames.{tree-refused}
 use Rattle.rule.proofs.ReadAnswers.{answered}
@@ -77,7 +77,7 @@ module _ (text b : List ℕ) where
   -- ---- each refusal both ways
   module _ (fit : length b ≡ bufferBytes) where
     -- 3: the first token that with those before it begins no rule
-    pub place-3 : answers.Sized (length text) → (p : ℕ) → (readOf text b .0 ≡ refusedAs 3 p) ↔ Wrong-at (length text) (tokens text) p
+    pub place-3 : answers.LengthFits (length text) → (p : ℕ) → (readOf text b .0 ≡ refusedAs 3 p) ↔ Wrong-at (length text) (tokens text) p
     place-3 s p = (said 3 p, λ w. ap (λ (z : Reading × List ℕ). z .0) (outside text b fit (s .some-bytes) (s .few-bytes) p w))
 
     module _ (x : Rule) (y : Spelled text x) where

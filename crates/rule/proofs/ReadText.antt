@@ -10,7 +10,7 @@ use borrow.Author.Tests.{ne-eqb}
 use Rattle.rule.specs.Token.{tokens}
 use Rattle.rule.specs.Grammar.{Rule, yield, words, Wrong-at}
 use Rattle.rule.specs.Machine.{Answer, accepted, refused}
-use Rattle.rule.proofs.Judge.{Outcome, refused-by, telling, outcome}
+use Rattle.rule.proofs.ReaderRefusals.{Outcome, refused-by, telling, outcome}
 use Rattle.rule.specs.Memory.{Mem, fresh, told, codeAt, valueAt, acts}
 use Rattle.rule.specs.Check.{checkedOf}
 use Rattle.rule.specs.Reading.{judged, afterCheck, concluded, afterGrammar, readOf}
@@ -19,10 +19,10 @@ use Rattle.rule.specs.declared.Checked.{Checked}
 use Rattle.rule.specs.declared.Checked.the-variants.{Accepted, Refused}
 use Rattle.rule.specs.declared.Reading.{Reading}
 use Rattle.rule.specs.declared.Reading.the-variants as reading
-use Rattle.rule.proofs.Walk.{readRule}
-use Rattle.rule.proofs.Rules.{taken, sound, refused-at}
-use Rattle.rule.proofs.Registers.{told-right}
-use Rattle.rule.proofs.Conclude.{three}
+use Rattle.rule.proofs.GrammarWalk.{readRule}
+use Rattle.rule.proofs.GrammarRules.{taken, sound, refused-at}
+use Rattle.rule.proofs.ReaderRegisters.{told-right}
+use Rattle.rule.proofs.ReaderConclusion.{three}
 
 -- ---- for every text and every buffer
 -- frames that were read are frames that opening takes

@@ -11,14 +11,14 @@ use Rattle.numbers.proofs.Bools.{true-false}
 use Rattle.rule.specs.Name.{longName, nameCode}
 use Rattle.rule.specs.Token.{same}
 use Rattle.rule.specs.Measure.{Named, declared, used}
-use Rattle.rule.proofs.Judge.{codes}
-use Rattle.rule.specs.Memory.{codeAt, valueAt, position, among}
+use Rattle.rule.proofs.ReaderRefusals.{codes}
+use Rattle.rule.specs.Memory.{codeAt, valueAt, position, isDeclared}
 use Rattle.rule.specs.declared.parts.Role.{Role}
-use Rattle.rule.proofs.Words.{same-refl, same-eq}
-use Rattle.rule.proofs.Codes.{long-code, short-below, names-apart}
+use Rattle.rule.proofs.TokenWords.{same-refl, same-eq}
+use Rattle.rule.proofs.TokenCodes.{long-code, short-below, names-apart}
 use Rattle.rule.specs.Class.{Letters}
 use Rattle.rule.specs.Spelling.{amongWords, numberIn, wordsOf, same-role, letters}
-use Rattle.rule.proofs.Drafts.{All}
+use Rattle.rule.proofs.FrameDrafts.{All}
 
 -- a word of at most 12 letters
 pub record Short (w : List ℕ) : Type 0 where
@@ -59,22 +59,22 @@ module _ (text : List ℕ) where
       go false ih = ih
   count-same r (used q p ∷ l) = count-same r l
 
-  pub among-same : (w : List ℕ) → Short w → (r : Role) (l : List Named) → All (ShortIn text) l → among (nameCode w) (coded r l) ≡ amongWords w (wordsOf text r l)
+  pub among-same : (w : List ℕ) → Short w → (r : Role) (l : List Named) → All (ShortIn text) l → isDeclared (nameCode w) (coded r l) ≡ amongWords w (wordsOf text r l)
   among-same w a r [] h = refl
   among-same w a r (declared q p ∷ l) h = go (same-role r q) (among-same w a r l (h .1))
     where
-      go : (t : Bool) → among (nameCode w) (coded r l) ≡ amongWords w (wordsOf text r l)
-          → among (nameCode w) (cond t (codeAt text p ∷ coded r l) (coded r l)) ≡ amongWords w (cond t (letters text p ∷ wordsOf text r l) (wordsOf text r l))
+      go : (t : Bool) → isDeclared (nameCode w) (coded r l) ≡ amongWords w (wordsOf text r l)
+          → isDeclared (nameCode w) (cond t (codeAt text p ∷ coded r l) (coded r l)) ≡ amongWords w (cond t (letters text p ∷ wordsOf text r l) (wordsOf text r l))
       go true ih = rw (same-code w (letters text p) a (h .0), ih)
       go false ih = ih
   among-same w a r (used q p ∷ l) h = among-same w a r l (h .1)
 
   -- no word over 12 letters has the code of one that is not
-  pub long-absent : (r : Role) (l : List Named) → All (ShortIn text) l → among longName (coded r l) ≡ false
+  pub long-absent : (r : Role) (l : List Named) → All (ShortIn text) l → isDeclared longName (coded r l) ≡ false
   long-absent r [] h = refl
   long-absent r (declared q p ∷ l) h = go (same-role r q) (long-absent r l (h .1))
     where
-      go : (t : Bool) → among longName (coded r l) ≡ false → among longName (cond t (codeAt text p ∷ coded r l) (coded r l)) ≡ false
+      go : (t : Bool) → isDeclared longName (coded r l) ≡ false → isDeclared longName (cond t (codeAt text p ∷ coded r l) (coded r l)) ≡ false
       go true ih = let s = short-below (letters text p) (h .0 .lower) (h .0 .few) in rw (ne-eqb longName (codeAt text p) (λ e. omega arith), ih)
       go false ih = ih
   long-absent r (used q p ∷ l) h = long-absent r l (h .1)

@@ -2,7 +2,7 @@
 use mathlib.Core.Path.{refl, sym, subst}
 use mathlib.Core.List.{List, [], _∷_, List·Memᴰ, List·Memᴰ·head, List·Memᴰ·tail}
 use Rattle.rule.specs.Measure.{flat}
-use Rattle.rule.proofs.Drafts.{All, all-left, all-right}
+use Rattle.rule.proofs.FrameDrafts.{All, all-left, all-right}
 
 module _ {A : Type 0} where
   pub all-in : (P : A → Type 0) {l : List A} {a : A} → List·Memᴰ a l → All P l → P a

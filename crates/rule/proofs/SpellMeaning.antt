@@ -8,19 +8,19 @@ use Rattle.rule.specs.Grammar.{Rule, yield, words}
 use Rattle.rule.specs.Tree
 use Rattle.rule.specs.Token.{tokens}
 use Rattle.rule.specs.Measure.{frames, Named, declared, used, Sized, sized-by, flat, namesOf, numbersOf, header, names, numbers}
-use Rattle.rule.proofs.Judge.{codes}
+use Rattle.rule.proofs.ReaderRefusals.{codes}
 use Rattle.rule.specs.Memory.{position, codeAt, valueAt}
 use Rattle.rule.specs.Spelling.{nameAt, firstName, firstNumber, numberOfName, decimal, letters}
 use Rattle.rule.specs.declared.parts.Place.{Place}
 use Rattle.rule.specs.declared.parts.Role.{Role}
 use Rattle.rule.specs.declared.parts.Role.the-variants.{Event, Note}
-use Rattle.rule.proofs.Drafts.{All, all-right, Numbered, Valued, Alike, alike, all-alike}
-use Rattle.rule.proofs.Means.{postfix-frames}
+use Rattle.rule.proofs.FrameDrafts.{All, all-right, Numbered, Valued, Alike, alike, all-alike}
+use Rattle.rule.proofs.FrameMeanings.{postfix-frames}
 use Rattle.rule.proofs.SpellLists.{all-map, all-flat}
 use Rattle.rule.proofs.SpellTokens
 use Rattle.rule.proofs.SpellNames
 use Rattle.rule.proofs.SpellNumbers
-use Rattle.rule.proofs.Parse.{unique}
+use Rattle.rule.proofs.FrameParsing.{unique}
 use Rattle.rule.specs.Meaning.{meaningOf, meaning}
 
 -- two ways to number names and to value numbers that agree on those of the tree give one meaning, since they give one list of frames

@@ -9,14 +9,14 @@ use borrow.Author.Tests.{ltb-true, ltb-false}
 use lib.Dec.{leb}
 use lib.ListN.{length}
 use Rattle.rule.specs.Measure.{Named, declared, used}
-use Rattle.rule.proofs.Judge.{codes, bad-name, first-name}
-use Rattle.rule.specs.Memory.{codeAt, valueAt, position, among}
+use Rattle.rule.proofs.ReaderRefusals.{codes, bad-name, first-name}
+use Rattle.rule.specs.Memory.{codeAt, valueAt, position, isDeclared}
 use Rattle.rule.specs.declared.parts.Place.{Place}
 use Rattle.rule.specs.declared.parts.Role.{Role}
-use Rattle.rule.proofs.Codes.{long-code}
+use Rattle.rule.proofs.TokenCodes.{long-code}
 use Rattle.rule.specs.Class.{Letters}
 use Rattle.rule.specs.Spelling.{nameAt, amongWords, numberIn, wordsOf, longAt, badName, firstName, room, letters}
-use Rattle.rule.proofs.Drafts.{All, all-join}
+use Rattle.rule.proofs.FrameDrafts.{All, all-join}
 use Rattle.rule.proofs.SpellLists.{all-map}
 use Rattle.rule.proofs.SpellCodes.{Short, ShortIn, long-same, count-same, among-same, long-absent, position-same}
 
@@ -33,14 +33,14 @@ module _ (text : List ℕ) where
   bad-same before (declared r p) h l = rw (long-same (letters text p) l) (go (longAt text p) refl)
     where
       go : (t : Bool) → longAt text p ≡ t
-          → cond t true (cond (among (codeAt text p) (codes (codeAt text) (valueAt text) r before)) true (leb (room r) (length (codes (codeAt text) (valueAt text) r before))))
+          → cond t true (cond (isDeclared (codeAt text p) (codes (codeAt text) (valueAt text) r before)) true (leb (room r) (length (codes (codeAt text) (valueAt text) r before))))
           ≡ cond t true (cond (amongWords (letters text p) (wordsOf text r before)) true (leb (room r) (length (wordsOf text r before))))
       go true e = refl
       go false e = rw (among-same text (letters text p) (short p l e) r before h, count-same text r before)
   bad-same before (used r p) h l = go (longAt text p) refl
     where
       go : (t : Bool) → longAt text p ≡ t
-          → cond (among (codeAt text p) (codes (codeAt text) (valueAt text) r before)) false true ≡ cond t true (cond (amongWords (letters text p) (wordsOf text r before)) false true)
+          → cond (isDeclared (codeAt text p) (codes (codeAt text) (valueAt text) r before)) false true ≡ cond t true (cond (amongWords (letters text p) (wordsOf text r before)) false true)
       go true e = rw (long-code (letters text p) (ltb-true 12 (length (letters text p)) e), long-absent text r before h)
       go false e = rw (among-same text (letters text p) (short p l e) r before h)
 

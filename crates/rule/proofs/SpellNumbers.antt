@@ -9,13 +9,13 @@ use borrow.Author.Tests.{eqb-true, eqb-false, eq-eqb, ne-eqb, lt-ltb, le-ltb, lt
 use lib.Dec.{eqb, ltb}
 use Rattle.rule.specs.Number.{most, numberValue}
 use Rattle.rule.specs.Measure.{Sized, sized-by}
-use Rattle.rule.proofs.Judge.{first-number}
+use Rattle.rule.proofs.ReaderRefusals.{first-number}
 use Rattle.rule.specs.Memory.{codeAt, valueAt}
 use Rattle.rule.specs.declared.parts.Limit.{Limit}
 use Rattle.rule.specs.declared.parts.Limit.the-variants.{OfLiteral, OfFactor, OfOffset}
-use Rattle.rule.proofs.Decimals.{number-exact}
+use Rattle.rule.proofs.TokenDecimals.{number-exact}
 use Rattle.rule.specs.Spelling.{numberAt, firstNumber, decimal, beyond, letters}
-use Rattle.rule.proofs.Drafts.{All}
+use Rattle.rule.proofs.FrameDrafts.{All}
 
 over-same : (ds : List ℕ) (limit : ℕ) → limit < most → ltb limit (numberValue ds) ≡ ltb limit (decimal ds)
 unfolding numberValue

@@ -7,7 +7,7 @@ use Rattle.rule.specs.Class.{digit, Letters, OfClass}
 use Rattle.rule.specs.Token.{nameKind, numberKind, tokens}
 use Rattle.rule.specs.Grammar.{Rule, yield, words}
 use Rattle.rule.specs.Measure.{Named, names, Sized, numbers}
-use Rattle.rule.proofs.Judge.{first-name, first-number}
+use Rattle.rule.proofs.ReaderRefusals.{first-name, first-number}
 use Rattle.rule.specs.Memory.{codeAt, valueAt}
 use Rattle.rule.specs.Spelling.{TokenOf, nameAt, numberAt, firstName, firstNumber, letters}
 use Rattle.rule.proofs.SpellLists.{all-in}

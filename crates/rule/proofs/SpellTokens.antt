@@ -12,14 +12,14 @@ use Rattle.rule.specs.Measure.{Named, declared, used, names, Sized, size
 use Rattle.rule.specs.Machine.{Act, declare, uses, sized, enter, out, start}
 use Rattle.rule.specs.declared.Token.{Token}
 use Rattle.rule.specs.declared.parts.Place.{Place}
-use Rattle.rule.proofs.Runs.{word-letters, number-digits}
-use Rattle.rule.proofs.Runs as runs
+use Rattle.rule.proofs.TokenRuns.{word-letters, number-digits}
+use Rattle.rule.proofs.TokenRuns as runs
 use Rattle.rule.specs.Spelling.{TokenOf, nameAt, numberAt, letters}
-use Rattle.rule.proofs.Drafts.{All, all-join}
+use Rattle.rule.proofs.FrameDrafts.{All, all-join}
 use Rattle.rule.proofs.SpellLists.{all-in, all-map, all-own}
-use Rattle.rule.proofs.Measures.{note-name, note-number, names-read, numbers-read}
-use Rattle.rule.proofs.Rules.{taken}
-use Rattle.rule.proofs.Keeps.{At, Holds, Keeper, run-keeps}
+use Rattle.rule.proofs.GrammarMeasures.{note-name, note-number, names-read, numbers-read}
+use Rattle.rule.proofs.GrammarRules.{taken}
+use Rattle.rule.proofs.GrammarKeeps.{At, Holds, Keeper, run-keeps}
 
 module _ (text : List ℕ) where
   -- ---- a token of the text is the next one from some place on

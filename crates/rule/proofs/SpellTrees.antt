@@ -22,12 +22,12 @@ use Rattle.rule.specs.Tree
 use Rattle.rule.specs.Draft.{Draft}
 use Rattle.rule.specs.Measure.{depth, frames}
 use Rattle.rule.specs.Meaning.{meaningCond, meaningDisj, meaningConj, meaningUnit, meaningSum, meaningProd, meaningFactor, meaningOf}
-use Rattle.rule.proofs.Put.{each}
-use Rattle.rule.proofs.Rules.{alike}
-use Rattle.rule.proofs.Measures.{note-frame, frames-read}
-use Rattle.rule.proofs.Drafts.{frameOf}
-use Rattle.rule.proofs.Means.{postfix-frames}
-use Rattle.rule.proofs.Parse.{unique}
+use Rattle.rule.proofs.ReaderFrames.{each}
+use Rattle.rule.proofs.GrammarRules.{alike}
+use Rattle.rule.proofs.GrammarMeasures.{note-frame, frames-read}
+use Rattle.rule.proofs.FrameDrafts.{frameOf}
+use Rattle.rule.proofs.FrameMeanings.{postfix-frames}
+use Rattle.rule.proofs.FrameParsing.{unique}
 use Rattle.rule.proofs.SpellTurn.{turnCond, turnDisj, turnConj, turnUnit, turnSum, turnProd, turnFactor, turn, turnedTokens, spells-turned}
 
 -- ---- the shape of a tree: what the turned tree means, with 0 for every name and number

@@ -23,13 +23,13 @@ abbrev pub refusedAs : ℕ → ℕ → Reading
 refusedAs k p = reading.Refused (record { number = k; place = p })
 
 -- "The text has 1 to 1,024 bytes"
-pub record Sized (n : ℕ) : Type 0 where
+pub record LengthFits (n : ℕ) : Type 0 where
   pub some-bytes : n ≡ 0 → ⊥
   pub few-bytes : n ≤ textLimit
 
 -- a tree that spells the text
 pub record Spelled (text : List ℕ) (x : Rule) : Type 0 where
-  pub sized : Sized (length text)
+  pub sized : LengthFits (length text)
   pub spells : yield x ≡ words (tokens text)
 
 -- its first bad name starts at p: 4
@@ -77,8 +77,8 @@ pub record ReadAs (text : List ℕ) (n : ℕ) (s : List ℕ) : Type 0 where
 -- the answer of `read` to a text, with the buffer b, and what the buffer holds then: b itself where it refuses
 pub data Answered (text b : List ℕ) : Reading × List ℕ → Type 0 where
   refused-1 : (length b ≡ bufferBytes → ⊥) → Answered text b (refusedAs 1 0, b)
-  refused-2 : length b ≡ bufferBytes → (Sized (length text) → ⊥) → Answered text b (refusedAs 2 0, b)
-  refused-3 : {p : ℕ} → length b ≡ bufferBytes → Sized (length text) → Wrong-at (length text) (tokens text) p
+  refused-2 : length b ≡ bufferBytes → (LengthFits (length text) → ⊥) → Answered text b (refusedAs 2 0, b)
+  refused-3 : {p : ℕ} → length b ≡ bufferBytes → LengthFits (length text) → Wrong-at (length text) (tokens text) p
       → Answered text b (refusedAs 3 p, b)
   refused-4 : {x : Rule} {p : ℕ} → length b ≡ bufferBytes → Spelled text x → BadName text x p → Answered text b (refusedAs 4 p, b)
   refused-5 : {x : Rule} {p : ℕ} → length b ≡ bufferBytes → Spelled text x → NamesGood text x → BadNumber text x p

@@ -19,7 +19,7 @@ pub mod Name
 pub mod Number
 pub mod Machine
 pub mod Memory
-pub mod Does
+pub mod ReadsPart
 pub mod References
 pub mod Order
 pub mod Sizes

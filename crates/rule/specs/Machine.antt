@@ -1,5 +1,5 @@
 -- The reader of the grammar as a machine: a stack of what is still to come, one step for each token, and a memory that what is
--- read acts on. The theorems in proofs/Rules tie it to the grammar. Assumes nothing: definitions.
+-- read acts on. The theorems in proofs/GrammarRules tie it to the grammar. Assumes nothing: definitions.
 use Prim.Native.Nat.{ℕ, _+_}
 use mathlib.Core.Bool.{cond}
 use mathlib.Core.List.{List, [], _∷_}

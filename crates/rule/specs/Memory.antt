@@ -21,7 +21,7 @@ use Rattle.rule.specs.declared.parts.Scale.{Scale}
 use Rattle.rule.specs.declared.parts.Scale.the-variants.{Once, Times}
 use Rattle.rule.specs.declared.parts.Shift.{Shift}
 use Rattle.rule.specs.declared.parts.Shift.the-variants.{Unshifted, By}
-use Rattle.rule.specs.declared.memory.Tally.{Tally}
+use Rattle.rule.specs.declared.memory.Registers.{Registers}
 use Rattle.rule.specs.declared.memory.Fields.{Fields}
 
 -- frames so far, at most 65; whether a depth was over 16; the first bad number and the first bad name; the names declared; the bytes
@@ -57,9 +57,9 @@ abbrev pub blame : Place → Mem → Mem
 blame p m = record { count = m .count; deep = m .deep; number = m .number; name = first (m .name) p; events = m .events; notes = m .notes; bytes = m .bytes }
 
 -- c is one of the list
-abbrev pub among : ℕ → List ℕ → Bool
-among c [] = false
-among c (x ∷ xs) = cond (eqb c x) true (among c xs)
+abbrev pub isDeclared : ℕ → List ℕ → Bool
+isDeclared c [] = false
+isDeclared c (x ∷ xs) = cond (eqb c x) true (isDeclared c xs)
 
 -- ---- a frame's bytes
 -- the number of the first name that has the number c, counted from 0; how many there are if none has
@@ -116,12 +116,12 @@ module _ (code value : Place → ℕ) where
 
   -- 4, of a name that is declared: "over 12 letters, twice in its list, a 9th event, a 5th note"
   abbrev pub misnamed : Role → Place → Mem → Bool
-  misnamed r p m = cond (leb longName (code p)) true (cond (among (code p) (table r m)) true (leb (room r) (length (table r m))))
+  misnamed r p m = cond (leb longName (code p)) true (cond (isDeclared (code p) (table r m)) true (leb (room r) (length (table r m))))
 
   -- what each act does
   abbrev pub remember : Act → Mem → Mem
   remember (declare r p) m = cond (misnamed r p m) (blame p m) (enlist r (code p) m)
-  remember (uses r p) m = cond (among (code p) (table r m)) m (blame p m)
+  remember (uses r p) m = cond (isDeclared (code p) (table r m)) m (blame p m)
   remember (sized b p) m = record { count = m .count; deep = m .deep; number = cond (bad-number (sized-by b p)) (first (m .number) p) (m .number); name = m .name; events = m .events; notes = m .notes; bytes = m .bytes }
   remember (enter d) m = record { count = m .count; deep = cond (ltb depthLimit d) true (m .deep); number = m .number; name = m .name; events = m .events; notes = m .notes; bytes = m .bytes }
   remember (out f) m = written (fields (m .events) (m .notes) f) m
@@ -154,6 +154,6 @@ listed tb from zero = []
 listed tb from (suc n) = getD tb from 0 ∷ listed tb (suc from) n
 
 -- the memory that the registers t, the table tb and the buffer b are
-unfoldable pub mem : Tally → List ℕ → List ℕ → Mem
+unfoldable pub mem : Registers → List ℕ → List ℕ → Mem
 mem t tb b =
     record { count = t .count; deep = t .deep; number = t .number; name = t .name; events = listed tb 0 (min eventLimit (t .events)); notes = listed tb eventLimit (min noteLimit (t .notes)); bytes = b }

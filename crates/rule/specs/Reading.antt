@@ -16,7 +16,7 @@ use Rattle.rule.specs.declared.Checked.{Checked}
 use Rattle.rule.specs.declared.Checked.the-variants.{Accepted, Refused}
 use Rattle.rule.specs.declared.Reading.{Reading}
 use Rattle.rule.specs.declared.Reading.the-variants as reading
-use Rattle.rule.specs.declared.memory.Tally.{Tally}
+use Rattle.rule.specs.declared.memory.Registers.{Registers}
 use Rattle.rule.specs.declared.memory.Step.{Step}
 use Rattle.rule.specs.declared.memory.Step.the-variants.{Go, No}
 
@@ -49,7 +49,7 @@ readOf text b =
 
 -- ---- for the code's own contracts
 -- the registers at first
-abbrev pub unread : Tally
+abbrev pub unread : Registers
 unread = record { count = 0; deep = false; number = 0; name = 0; events = 0; notes = 0 }
 
 -- what the reader of a whole text answered, with the names tb and the buffer b

@@ -114,8 +114,8 @@ markWidth k = cond (leb arrowKind k && leb k atLeastKind) 2 1
 
 -- "A run of letters is a word, a run of digits a number"; "A foreign byte is a token that no rule has":
 -- the kind of the token that begins with the byte b, with bs after it
-unfoldable pub kindOf : ℕ → List ℕ → ℕ
-kindOf b bs =
+unfoldable pub tokenKind : ℕ → List ℕ → ℕ
+tokenKind b bs =
     cond (eqb (classOf b) letter) (wordKind (b ∷ take (span letter bs) bs))
     (cond (eqb (classOf b) digit) numberKind
     (cond (eqb (classOf b) mark) (markOf b (getD bs 0 0)) foreignKind))
@@ -130,7 +130,7 @@ widthOf b bs =
 -- what stands at the place s, where the list is what is left of the text: the end or a token
 unfoldable pub tokenHere : ℕ → List ℕ → Token
 tokenHere s [] = record { kind = endKind; start = s; end = s }
-tokenHere s (b ∷ bs) = record { kind = kindOf b bs; start = s; end = s + widthOf b bs }
+tokenHere s (b ∷ bs) = record { kind = tokenKind b bs; start = s; end = s + widthOf b bs }
 
 -- where the first byte from at on stands that is no blank
 abbrev pub past : List ℕ → ℕ → ℕ

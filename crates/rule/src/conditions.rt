@@ -2,8 +2,8 @@
 use crate::emit::emit_kind;
 use crate::expect::expect;
 use crate::kinds;
+use crate::memory::Registers;
 use crate::memory::Step;
-use crate::memory::Tally;
 use crate::memory::deeper;
 use crate::memory::entered;
 use crate::sums::sum;
@@ -21,7 +21,7 @@ ghost use lib.ListN.{length};
 ghost use Rattle.rule.specs.Class.{closeBrace};
 ghost use Rattle.rule.specs.Machine.{want, rel, unit, ands, ors, arrow, conj, sum, condition};
 ghost use Rattle.rule.specs.Memory.{mem};
-ghost use Rattle.rule.specs.Does.{relByte, Does};
+ghost use Rattle.rule.specs.ReadsPart.{relByte, ReadsPart};
 
 // The kind of frame of a relation, 0 of any other token.
 fn rel_kind(k: u8) -> u8
@@ -55,11 +55,11 @@ fn compare(
     names: &[u64; 12],
     at: usize,
     d: usize,
-    m: Tally,
+    m: Registers,
     buf: &mut [u8; 512],
 ) -> Step
     requires { ⌜ at ≤ length (now text) ⌝ }
-    ensures { λ r. ⌜ Does (λ s. rel d ∷ s) (now (text .entry)) at (at + 1)
+    ensures { λ r. ⌜ ReadsPart (λ s. rel d ∷ s) (now (text .entry)) at (at + 1)
         (mem m (now (names .entry)) (now (buf .entry))) r (now (names .entry)) (now (buf .exit)) ⌝ }
 {
     let t = token_at(text, at);
@@ -79,11 +79,11 @@ fn relation(
     names: &[u64; 12],
     at: usize,
     d: usize,
-    m: Tally,
+    m: Registers,
     buf: &mut [u8; 512],
 ) -> Step
     requires { ⌜ at ≤ length (now text) ⌝ }
-    ensures { λ r. ⌜ Does (λ s. sum d (rel d ∷ s)) (now (text .entry)) at (at + 1)
+    ensures { λ r. ⌜ ReadsPart (λ s. sum d (rel d ∷ s)) (now (text .entry)) at (at + 1)
         (mem m (now (names .entry)) (now (buf .entry))) r (now (names .entry)) (now (buf .exit)) ⌝ }
 {
     match sum(text, names, at, d, m, buf) {
@@ -98,11 +98,11 @@ fn braces(
     names: &[u64; 12],
     at: usize,
     d: usize,
-    m: Tally,
+    m: Registers,
     buf: &mut [u8; 512],
 ) -> Step
     requires { ⌜ at ≤ length (now text) ⌝ }
-    ensures { λ r. ⌜ Does (λ s. condition d (want closeBrace ∷ s)) (now (text .entry)) at (at + 1)
+    ensures { λ r. ⌜ ReadsPart (λ s. condition d (want closeBrace ∷ s)) (now (text .entry)) at (at + 1)
         (mem m (now (names .entry)) (now (buf .entry))) r (now (names .entry)) (now (buf .exit)) ⌝ }
 {
     match condition(text, names, at, d, m, buf) {
@@ -117,11 +117,11 @@ pub fn condition(
     names: &[u64; 12],
     at: usize,
     d: usize,
-    m: Tally,
+    m: Registers,
     buf: &mut [u8; 512],
 ) -> Step
     requires { ⌜ at ≤ length (now text) ⌝ }
-    ensures { λ r. ⌜ Does (λ s. condition d s) (now (text .entry)) at (at + 1)
+    ensures { λ r. ⌜ ReadsPart (λ s. condition d s) (now (text .entry)) at (at + 1)
         (mem m (now (names .entry)) (now (buf .entry))) r (now (names .entry)) (now (buf .exit)) ⌝ }
 {
     match conj(text, names, at, d, m, buf) {
@@ -134,9 +134,16 @@ pub fn condition(
 }
 
 // ["->" cond]
-fn arrow(text: &[u8], names: &[u64; 12], at: usize, d: usize, m: Tally, buf: &mut [u8; 512]) -> Step
+fn arrow(
+    text: &[u8],
+    names: &[u64; 12],
+    at: usize,
+    d: usize,
+    m: Registers,
+    buf: &mut [u8; 512],
+) -> Step
     requires { ⌜ at ≤ length (now text) ⌝ }
-    ensures { λ r. ⌜ Does (λ s. arrow d ∷ s) (now (text .entry)) at at
+    ensures { λ r. ⌜ ReadsPart (λ s. arrow d ∷ s) (now (text .entry)) at at
         (mem m (now (names .entry)) (now (buf .entry))) r (now (names .entry)) (now (buf .exit)) ⌝ }
 {
     let t = token_at(text, at);
@@ -151,9 +158,16 @@ fn arrow(text: &[u8], names: &[u64; 12], at: usize, d: usize, m: Tally, buf: &mu
 }
 
 // {"||" conj}
-fn ors(text: &[u8], names: &[u64; 12], at: usize, d: usize, m: Tally, buf: &mut [u8; 512]) -> Step
+fn ors(
+    text: &[u8],
+    names: &[u64; 12],
+    at: usize,
+    d: usize,
+    m: Registers,
+    buf: &mut [u8; 512],
+) -> Step
     requires { ⌜ at ≤ length (now text) ⌝ }
-    ensures { λ r. ⌜ Does (λ s. ors d ∷ s) (now (text .entry)) at at
+    ensures { λ r. ⌜ ReadsPart (λ s. ors d ∷ s) (now (text .entry)) at at
         (mem m (now (names .entry)) (now (buf .entry))) r (now (names .entry)) (now (buf .exit)) ⌝ }
 {
     let t = token_at(text, at);
@@ -170,9 +184,16 @@ fn ors(text: &[u8], names: &[u64; 12], at: usize, d: usize, m: Tally, buf: &mut 
 }
 
 // conj: unit {"&&" unit}
-fn conj(text: &[u8], names: &[u64; 12], at: usize, d: usize, m: Tally, buf: &mut [u8; 512]) -> Step
+fn conj(
+    text: &[u8],
+    names: &[u64; 12],
+    at: usize,
+    d: usize,
+    m: Registers,
+    buf: &mut [u8; 512],
+) -> Step
     requires { ⌜ at ≤ length (now text) ⌝ }
-    ensures { λ r. ⌜ Does (λ s. conj d s) (now (text .entry)) at (at + 1)
+    ensures { λ r. ⌜ ReadsPart (λ s. conj d s) (now (text .entry)) at (at + 1)
         (mem m (now (names .entry)) (now (buf .entry))) r (now (names .entry)) (now (buf .exit)) ⌝ }
 {
     match unit(text, names, at, d, m, buf) {
@@ -182,9 +203,16 @@ fn conj(text: &[u8], names: &[u64; 12], at: usize, d: usize, m: Tally, buf: &mut
 }
 
 // {"&&" unit}
-fn ands(text: &[u8], names: &[u64; 12], at: usize, d: usize, m: Tally, buf: &mut [u8; 512]) -> Step
+fn ands(
+    text: &[u8],
+    names: &[u64; 12],
+    at: usize,
+    d: usize,
+    m: Registers,
+    buf: &mut [u8; 512],
+) -> Step
     requires { ⌜ at ≤ length (now text) ⌝ }
-    ensures { λ r. ⌜ Does (λ s. ands d ∷ s) (now (text .entry)) at at
+    ensures { λ r. ⌜ ReadsPart (λ s. ands d ∷ s) (now (text .entry)) at at
         (mem m (now (names .entry)) (now (buf .entry))) r (now (names .entry)) (now (buf .exit)) ⌝ }
 {
     let t = token_at(text, at);
@@ -201,9 +229,16 @@ fn ands(text: &[u8], names: &[u64; 12], at: usize, d: usize, m: Tally, buf: &mut
 }
 
 // unit: "!" unit, or "{" cond "}", or sum rel sum
-fn unit(text: &[u8], names: &[u64; 12], at: usize, d: usize, m: Tally, buf: &mut [u8; 512]) -> Step
+fn unit(
+    text: &[u8],
+    names: &[u64; 12],
+    at: usize,
+    d: usize,
+    m: Registers,
+    buf: &mut [u8; 512],
+) -> Step
     requires { ⌜ at ≤ length (now text) ⌝ }
-    ensures { λ r. ⌜ Does (λ s. unit d ∷ s) (now (text .entry)) at (at + 1)
+    ensures { λ r. ⌜ ReadsPart (λ s. unit d ∷ s) (now (text .entry)) at (at + 1)
         (mem m (now (names .entry)) (now (buf .entry))) r (now (names .entry)) (now (buf .exit)) ⌝ }
 {
     let t = token_at(text, at);

@@ -3,7 +3,7 @@ use crate::kinds;
 use crate::limits;
 use crate::lookup::lookup;
 use crate::memory::Fields;
-use crate::memory::Tally;
+use crate::memory::Registers;
 use crate::memory::name_at;
 use crate::memory::number_at;
 use crate::memory::sized;
@@ -20,10 +20,10 @@ ghost use lib.ListN.{length};
 ghost use Rattle.rule.specs.Draft.{lit, index-var, ref, plain};
 ghost use Rattle.rule.specs.Machine.{out, sized};
 ghost use Rattle.rule.specs.Memory.{codeAt, valueAt, factorOf, offsetOf, negated, written, acts, mem};
-ghost use Rattle.rule.specs.Does.{Inside, InsideScale, InsideShift};
+ghost use Rattle.rule.specs.ReadsPart.{Inside, InsideScale, InsideShift};
 
 // Puts a frame at its place, if there is room, and counts it.
-fn emit(buf: &mut [u8; 512], m: Tally, f: Fields) -> Tally
+fn emit(buf: &mut [u8; 512], m: Registers, f: Fields) -> Registers
     ensures { λ r. ⌜ ((tb : List ℕ) → mem r tb (now (buf .exit)) ≡ written f (mem m tb (now (buf .entry)))) ⌝ }
 {
     let n = m.count;
@@ -38,7 +38,7 @@ fn emit(buf: &mut [u8; 512], m: Tally, f: Fields) -> Tally
         buf[p + 5] = (w / 256 / 256 % 256) as u8;
         buf[p + 6] = (w / 256 % 256) as u8;
         buf[p + 7] = (w % 256) as u8;
-        return Tally {
+        return Registers {
             count: n + 1,
             deep: m.deep,
             number: m.number,
@@ -47,7 +47,7 @@ fn emit(buf: &mut [u8; 512], m: Tally, f: Fields) -> Tally
             notes: m.notes,
         };
     }
-    Tally {
+    Registers {
         count: limits::FRAME_LIMIT + 1,
         deep: m.deep,
         number: m.number,
@@ -58,7 +58,7 @@ fn emit(buf: &mut [u8; 512], m: Tally, f: Fields) -> Tally
 }
 
 // A frame that uses its kind alone.
-pub fn emit_kind(buf: &mut [u8; 512], m: Tally, kind: u8) -> Tally
+pub fn emit_kind(buf: &mut [u8; 512], m: Registers, kind: u8) -> Registers
     ensures { λ r. ⌜ ((text tb : List ℕ) → mem r tb (now (buf .exit))
         ≡ acts text (out (plain kind)) (mem m tb (now (buf .entry)))) ⌝ }
 {
@@ -76,7 +76,7 @@ pub fn emit_kind(buf: &mut [u8; 512], m: Tally, kind: u8) -> Tally
 }
 
 // The frame of i.
-pub fn emit_instance(buf: &mut [u8; 512], m: Tally) -> Tally
+pub fn emit_instance(buf: &mut [u8; 512], m: Registers) -> Registers
     ensures { λ r. ⌜ ((text tb : List ℕ) → mem r tb (now (buf .exit)) ≡ acts text (out index-var) (mem m tb (now (buf .entry)))) ⌝ }
 {
     emit(
@@ -93,7 +93,7 @@ pub fn emit_instance(buf: &mut [u8; 512], m: Tally) -> Tally
 }
 
 // The frame of the literal at `p`, after its limit.
-pub fn emit_literal(text: &[u8], buf: &mut [u8; 512], m: Tally, p: Place) -> Tally
+pub fn emit_literal(text: &[u8], buf: &mut [u8; 512], m: Registers, p: Place) -> Registers
     requires { ⌜ Inside (length (now text)) p ⌝ }
     ensures { λ r. ⌜ ((tb : List ℕ) → mem r tb (now (buf .exit))
         ≡ acts (now (text .entry)) (out (lit p))
@@ -154,12 +154,12 @@ pub fn emit_reference(
     text: &[u8],
     names: &[u64; 12],
     buf: &mut [u8; 512],
-    m: Tally,
+    m: Registers,
     n: Place,
     e: Place,
     f: Scale,
     o: Shift,
-) -> Tally
+) -> Registers
     requires { ⌜ Inside (length (now text)) n × Inside (length (now text)) e × InsideScale (length (now text)) f
         × InsideShift (length (now text)) o ⌝ }
     ensures { λ r. ⌜ mem r (now (names .entry)) (now (buf .exit))

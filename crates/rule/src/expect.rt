@@ -1,6 +1,6 @@
 // A token of one kind is taken, by the readers of every part.
+use crate::memory::Registers;
 use crate::memory::Step;
-use crate::memory::Tally;
 use crate::tokens::token_at;
 ghost use mathlib.Core.Path.{_≡_};
 ghost use mathlib.Core.List.{List, _∷_};
@@ -8,12 +8,12 @@ ghost use Prim.Native.Nat.{ℕ, _+_, _≤_, _<_};
 ghost use lib.ListN.{length};
 ghost use Rattle.rule.specs.Machine.{want};
 ghost use Rattle.rule.specs.Memory.{mem};
-ghost use Rattle.rule.specs.Does.{Does};
+ghost use Rattle.rule.specs.ReadsPart.{ReadsPart};
 
 // Takes a token of the kind k.
-pub fn expect(text: &[u8], at: usize, m: Tally, k: u8) -> Step
+pub fn expect(text: &[u8], at: usize, m: Registers, k: u8) -> Step
     requires { ⌜ (at ≤ length (now text)) × (0 < k) ⌝ }
-    ensures { λ r. ⌜ ((tb b : List ℕ) → Does (λ s. want k ∷ s) (now (text .entry)) at (at + 1) (mem m tb b) r tb b) ⌝ }
+    ensures { λ r. ⌜ ((tb b : List ℕ) → ReadsPart (λ s. want k ∷ s) (now (text .entry)) at (at + 1) (mem m tb b) r tb b) ⌝ }
 {
     let t = token_at(text, at);
     if t.kind == k {

@@ -1,8 +1,8 @@
 // Readers of the declarations. Each takes its part off the stack of specs/Machine.
 use crate::expect::expect;
 use crate::lookup::declare;
+use crate::memory::Registers;
 use crate::memory::Step;
-use crate::memory::Tally;
 use crate::parts::Place;
 use crate::parts::Role;
 use crate::tokens::NAME_KIND;
@@ -14,12 +14,12 @@ ghost use lib.ListN.{length};
 ghost use Rattle.rule.specs.Class.{semicolon};
 ghost use Rattle.rule.specs.Machine.{want, name-of, names-of};
 ghost use Rattle.rule.specs.Memory.{mem};
-ghost use Rattle.rule.specs.Does.{Does};
+ghost use Rattle.rule.specs.ReadsPart.{ReadsPart};
 
 // A name, which is declared.
-fn name_of(text: &[u8], names: &mut [u64; 12], at: usize, role: Role, m: Tally) -> Step
+fn name_of(text: &[u8], names: &mut [u64; 12], at: usize, role: Role, m: Registers) -> Step
     requires { ⌜ (at ≤ length (now text)) × (length (now names) ≡ 12) ⌝ }
-    ensures { λ r. ⌜ ((b : List ℕ) → Does (λ s. name-of role ∷ s) (now (text .entry)) at (at + 1)
+    ensures { λ r. ⌜ ((b : List ℕ) → ReadsPart (λ s. name-of role ∷ s) (now (text .entry)) at (at + 1)
         (mem m (now (names .entry)) b) r (now (names .exit)) b) × (length (now (names .exit)) ≡ 12) ⌝ }
 {
     let t = token_at(text, at);
@@ -34,9 +34,9 @@ fn name_of(text: &[u8], names: &mut [u64; 12], at: usize, role: Role, m: Tally) 
 }
 
 // {name}
-fn names_of(text: &[u8], names: &mut [u64; 12], at: usize, role: Role, m: Tally) -> Step
+fn names_of(text: &[u8], names: &mut [u64; 12], at: usize, role: Role, m: Registers) -> Step
     requires { ⌜ (at ≤ length (now text)) × (length (now names) ≡ 12) ⌝ }
-    ensures { λ r. ⌜ ((b : List ℕ) → Does (λ s. names-of role ∷ s) (now (text .entry)) at at
+    ensures { λ r. ⌜ ((b : List ℕ) → ReadsPart (λ s. names-of role ∷ s) (now (text .entry)) at at
         (mem m (now (names .entry)) b) r (now (names .exit)) b) × (length (now (names .exit)) ≡ 12) ⌝ }
 {
     let t = token_at(text, at);
@@ -52,9 +52,9 @@ fn names_of(text: &[u8], names: &mut [u64; 12], at: usize, role: Role, m: Tally)
 }
 
 // name {name} ";"
-fn name_list(text: &[u8], names: &mut [u64; 12], at: usize, role: Role, m: Tally) -> Step
+fn name_list(text: &[u8], names: &mut [u64; 12], at: usize, role: Role, m: Registers) -> Step
     requires { ⌜ (at ≤ length (now text)) × (length (now names) ≡ 12) ⌝ }
-    ensures { λ r. ⌜ ((b : List ℕ) → Does (λ s. name-of role ∷ names-of role ∷ want semicolon ∷ s) (now (text .entry)) at at
+    ensures { λ r. ⌜ ((b : List ℕ) → ReadsPart (λ s. name-of role ∷ names-of role ∷ want semicolon ∷ s) (now (text .entry)) at at
         (mem m (now (names .entry)) b) r (now (names .exit)) b) × (length (now (names .exit)) ≡ 12) ⌝ }
 {
     match name_of(text, names, at, role, m) {
@@ -73,10 +73,10 @@ pub fn declarations(
     at: usize,
     word: u8,
     role: Role,
-    m: Tally,
+    m: Registers,
 ) -> Step
     requires { ⌜ (at ≤ length (now text)) × (length (now names) ≡ 12) × (0 < word) ⌝ }
-    ensures { λ r. ⌜ ((b : List ℕ) → Does (λ s. want word ∷ name-of role ∷ names-of role ∷ want semicolon ∷ s)
+    ensures { λ r. ⌜ ((b : List ℕ) → ReadsPart (λ s. want word ∷ name-of role ∷ names-of role ∷ want semicolon ∷ s)
         (now (text .entry)) at at (mem m (now (names .entry)) b) r (now (names .exit)) b) × (length (now (names .exit)) ≡ 12) ⌝ }
 {
     match expect(text, at, m, word) {

@@ -1,6 +1,6 @@
 // Declared names: a table of 12 numbers of names, events from 0 on and notes from 8 on.
 use crate::limits;
-use crate::memory::Tally;
+use crate::memory::Registers;
 use crate::memory::blamed;
 use crate::memory::name_at;
 use crate::names::LONG_NAME;
@@ -15,8 +15,8 @@ ghost use lib.ListN.{length};
 ghost use Rattle.rule.specs.Name.{longName};
 ghost use Rattle.rule.specs.Spelling.{room};
 ghost use Rattle.rule.specs.Machine.{declare, uses};
-ghost use Rattle.rule.specs.Memory.{table, position, acts, listed, mem, among};
-ghost use Rattle.rule.specs.Does.{Inside};
+ghost use Rattle.rule.specs.Memory.{table, position, acts, listed, mem, isDeclared};
+ghost use Rattle.rule.specs.ReadsPart.{Inside};
 
 fn least(a: u8, b: u8) -> u8
     ensures { λ r. ⌜ r ≡ min a b ⌝ }
@@ -50,7 +50,7 @@ fn most(role: Role) -> u8
 }
 
 // How many names are declared in a role.
-fn held(role: Role, m: Tally) -> u8
+fn held(role: Role, m: Registers) -> u8
     ensures { λ r. ⌜ ((tb b : List ℕ) → r ≡ length (table role (mem m tb b))) ⌝ }
 {
     match role {
@@ -60,7 +60,7 @@ fn held(role: Role, m: Tally) -> u8
 }
 
 // The place of a name among those declared in its role; how many there are if it is none of them.
-pub fn lookup(names: &[u64; 12], role: Role, c: u64, m: Tally) -> u8
+pub fn lookup(names: &[u64; 12], role: Role, c: u64, m: Registers) -> u8
     ensures { λ r. ⌜ ((b : List ℕ) → r ≡ position c (table role (mem m (now (names .entry)) b))) ⌝ }
 {
     match role {
@@ -75,14 +75,14 @@ pub fn lookup(names: &[u64; 12], role: Role, c: u64, m: Tally) -> u8
 }
 
 // Whether a name is declared in a role.
-fn declared(names: &[u64; 12], role: Role, c: u64, m: Tally) -> bool
-    ensures { λ r. ⌜ ((b : List ℕ) → r ≡ among c (table role (mem m (now (names .entry)) b))) ⌝ }
+fn declared(names: &[u64; 12], role: Role, c: u64, m: Registers) -> bool
+    ensures { λ r. ⌜ ((b : List ℕ) → r ≡ isDeclared c (table role (mem m (now (names .entry)) b))) ⌝ }
 {
     lookup(names, role, c, m) < held(role, m)
 }
 
 // After the use of the name at `p`.
-pub fn named(text: &[u8], names: &[u64; 12], role: Role, p: Place, m: Tally) -> Tally
+pub fn named(text: &[u8], names: &[u64; 12], role: Role, p: Place, m: Registers) -> Registers
     requires { ⌜ Inside (length (now text)) p ⌝ }
     ensures { λ r. ⌜ ((b : List ℕ) → mem r (now (names .entry)) b
         ≡ acts (now (text .entry)) (uses role p) (mem m (now (names .entry)) b)) ⌝ }
@@ -95,9 +95,9 @@ pub fn named(text: &[u8], names: &[u64; 12], role: Role, p: Place, m: Tally) -> 
 }
 
 // Whether a declaration is bad: over 12 letters, declared already, or one too many.
-fn misnamed(names: &[u64; 12], role: Role, c: u64, m: Tally) -> bool
+fn misnamed(names: &[u64; 12], role: Role, c: u64, m: Registers) -> bool
     ensures { λ r. ⌜ ((b : List ℕ) → r ≡ cond (leb longName c) true
-        (cond (among c (table role (mem m (now (names .entry)) b))) true
+        (cond (isDeclared c (table role (mem m (now (names .entry)) b))) true
         (leb (room role) (length (table role (mem m (now (names .entry)) b)))))) ⌝ }
 {
     if LONG_NAME <= c {
@@ -110,7 +110,7 @@ fn misnamed(names: &[u64; 12], role: Role, c: u64, m: Tally) -> bool
 }
 
 // After the declaration of an event.
-fn declare_event(text: &[u8], names: &mut [u64; 12], p: Place, m: Tally) -> Tally
+fn declare_event(text: &[u8], names: &mut [u64; 12], p: Place, m: Registers) -> Registers
     requires { ⌜ Inside (length (now text)) p × (length (now names) ≡ 12) ⌝ }
     ensures { λ r. ⌜ ((b : List ℕ) → mem r (now (names .exit)) b
         ≡ acts (now (text .entry)) (declare Role.Event p) (mem m (now (names .entry)) b)) × (length (now (names .exit)) ≡ 12) ⌝ }
@@ -121,7 +121,7 @@ fn declare_event(text: &[u8], names: &mut [u64; 12], p: Place, m: Tally) -> Tall
     }
     let n = m.events;
     names[n as usize] = c;
-    Tally {
+    Registers {
         count: m.count,
         deep: m.deep,
         number: m.number,
@@ -132,7 +132,7 @@ fn declare_event(text: &[u8], names: &mut [u64; 12], p: Place, m: Tally) -> Tall
 }
 
 // After the declaration of a note.
-fn declare_note(text: &[u8], names: &mut [u64; 12], p: Place, m: Tally) -> Tally
+fn declare_note(text: &[u8], names: &mut [u64; 12], p: Place, m: Registers) -> Registers
     requires { ⌜ Inside (length (now text)) p × (length (now names) ≡ 12) ⌝ }
     ensures { λ r. ⌜ ((b : List ℕ) → mem r (now (names .exit)) b
         ≡ acts (now (text .entry)) (declare Role.Note p) (mem m (now (names .entry)) b)) × (length (now (names .exit)) ≡ 12) ⌝ }
@@ -143,7 +143,7 @@ fn declare_note(text: &[u8], names: &mut [u64; 12], p: Place, m: Tally) -> Tally
     }
     let n = m.notes;
     names[(limits::EVENT_LIMIT + n) as usize] = c;
-    Tally {
+    Registers {
         count: m.count,
         deep: m.deep,
         number: m.number,
@@ -154,7 +154,7 @@ fn declare_note(text: &[u8], names: &mut [u64; 12], p: Place, m: Tally) -> Tally
 }
 
 // After the declaration of the name at `p`.
-pub fn declare(text: &[u8], names: &mut [u64; 12], role: Role, p: Place, m: Tally) -> Tally
+pub fn declare(text: &[u8], names: &mut [u64; 12], role: Role, p: Place, m: Registers) -> Registers
     requires { ⌜ Inside (length (now text)) p × (length (now names) ≡ 12) ⌝ }
     ensures { λ r. ⌜ ((b : List ℕ) → mem r (now (names .exit)) b
         ≡ acts (now (text .entry)) (declare role p) (mem m (now (names .entry)) b)) × (length (now (names .exit)) ≡ 12) ⌝ }

@@ -11,11 +11,11 @@ ghost use lib.ListN.{length};
 ghost use Rattle.rule.specs.Spelling.{beyond};
 ghost use Rattle.rule.specs.Machine.{deeper, enter, sized};
 ghost use Rattle.rule.specs.Memory.{first, blame, codeAt, valueAt, acts, mem};
-ghost use Rattle.rule.specs.Does.{Inside};
+ghost use Rattle.rule.specs.ReadsPart.{Inside};
 
 // Registers: frames so far, at most 65; whether a depth was over 16; the first bad number's place plus 1, and the first bad
 // name's, 0 for none; how many events and notes are declared.
-pub struct Tally {
+pub struct Registers {
     pub count: usize,
     pub deep: bool,
     pub number: usize,
@@ -35,7 +35,7 @@ pub struct Fields {
 
 // A reader of a part went on to a place, or stopped at a token that no rule has there.
 pub enum Step {
-    Go(usize, Tally),
+    Go(usize, Registers),
     No(usize),
 }
 
@@ -47,13 +47,13 @@ pub fn deeper(d: usize) -> usize
 }
 
 // After entering depth `d`.
-pub fn entered(d: usize, m: Tally) -> Tally
+pub fn entered(d: usize, m: Registers) -> Registers
     ensures { λ r. ⌜ ((text tb b : List ℕ) → mem r tb b ≡ acts text (enter d) (mem m tb b)) ⌝ }
 {
     if d <= limits::DEPTH_LIMIT {
         return m;
     }
-    Tally {
+    Registers {
         count: m.count,
         deep: true,
         number: m.number,
@@ -72,11 +72,11 @@ fn first(z: usize, p: Place) -> usize
 }
 
 // After a bad name at `p`.
-pub fn blamed(p: Place, m: Tally) -> Tally
+pub fn blamed(p: Place, m: Registers) -> Registers
     requires { ⌜ p .start < p .end ⌝ }
     ensures { λ r. ⌜ ((tb b : List ℕ) → mem r tb b ≡ blame p (mem m tb b)) ⌝ }
 {
-    Tally {
+    Registers {
         count: m.count,
         deep: m.deep,
         number: m.number,
@@ -122,13 +122,13 @@ fn over(limit: Limit, v: u32) -> bool
 }
 
 // After the number at `p`, whose limit is `limit`.
-pub fn sized(text: &[u8], limit: Limit, p: Place, m: Tally) -> Tally
+pub fn sized(text: &[u8], limit: Limit, p: Place, m: Registers) -> Registers
     requires { ⌜ Inside (length (now text)) p ⌝ }
     ensures { λ r. ⌜ ((tb b : List ℕ) → mem r tb b ≡ acts (now (text .entry)) (sized limit p) (mem m tb b)) ⌝ }
 {
     let v = number_at(text, p);
     if over(limit, v) {
-        return Tally {
+        return Registers {
             count: m.count,
             deep: m.deep,
             number: first(m.number, p),

@@ -6,8 +6,8 @@ use crate::check;
 use crate::conditions::condition;
 use crate::header::declarations;
 use crate::limits;
+use crate::memory::Registers;
 use crate::memory::Step;
-use crate::memory::Tally;
 use crate::parts::Role;
 use crate::tokens::END_KIND;
 use crate::tokens::EVENTS_KIND;
@@ -22,7 +22,7 @@ ghost use Rattle.rule.specs.ReadLimits.{textLimit};
 ghost use Rattle.rule.specs.Told.{readTold};
 ghost use Rattle.rule.specs.Machine.{start};
 ghost use Rattle.rule.specs.Memory.{mem};
-ghost use Rattle.rule.specs.Does.{runFrom};
+ghost use Rattle.rule.specs.ReadsPart.{runFrom};
 ghost use Rattle.rule.specs.Reading.{concluded, readOf, unread, answerOf};
 ghost use Rattle.rule.specs.Answers.{refusedAs};
 
@@ -45,7 +45,7 @@ fn copy(from: &[u8], to: &mut [u8])
 }
 
 // The end of the text, after the last part.
-fn ended(text: &[u8], at: usize, m: Tally) -> Step
+fn ended(text: &[u8], at: usize, m: Registers) -> Step
     requires { ⌜ at ≤ length (now text) ⌝ }
     ensures { λ r. ⌜ ((tb b : List ℕ) → runFrom (now (text .entry)) [] (mem m tb b) at ≡ answerOf r tb b) ⌝ }
 {
@@ -62,7 +62,7 @@ fn whole(text: &[u8], names: &mut [u64; 12], buf: &mut [u8; 512]) -> Step
     ensures { λ r. ⌜ runFrom (now (text .entry)) start (mem unread (now (names .entry)) (now (buf .entry))) 0
         ≡ answerOf r (now (names .exit)) (now (buf .exit)) ⌝ }
 {
-    let m = Tally {
+    let m = Registers {
         count: 0,
         deep: false,
         number: 0,
@@ -83,7 +83,7 @@ fn whole(text: &[u8], names: &mut [u64; 12], buf: &mut [u8; 512]) -> Step
 }
 
 // Refusals 4 to 8 of what was read; else the frames are handed over.
-fn conclude(buf: &[u8], frames: &mut [u8], m: Tally) -> Reading
+fn conclude(buf: &[u8], frames: &mut [u8], m: Registers) -> Reading
     requires { ⌜ (length (now buf) ≡ bufferBytes) × (length (now frames) ≡ bufferBytes)
         × (m .name ≤ textLimit + 1) × (m .number ≤ textLimit + 1) ⌝ }
     ensures { λ r. ⌜ ((tb : List ℕ) → (r ≡ concluded (now (frames .entry)) (mem m tb (now (buf .entry))) .0)

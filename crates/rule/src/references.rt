@@ -2,8 +2,8 @@
 use crate::emit::emit_reference;
 use crate::expect::expect;
 use crate::lookup::named;
+use crate::memory::Registers;
 use crate::memory::Step;
-use crate::memory::Tally;
 use crate::memory::sized;
 use crate::parts::Limit;
 use crate::parts::Place;
@@ -23,7 +23,7 @@ ghost use Rattle.rule.specs.Token.{indexKind};
 ghost use Rattle.rule.specs.Class.{openParen, closeParen, openBracket, closeBracket, star};
 ghost use Rattle.rule.specs.Machine.{want, ref-event, ref-index, ref-shift, ref-by};
 ghost use Rattle.rule.specs.Memory.{mem};
-ghost use Rattle.rule.specs.Does.{Does, Inside, InsideScale};
+ghost use Rattle.rule.specs.ReadsPart.{ReadsPart, Inside, InsideScale};
 
 // The number of an offset, and the frame of its reference.
 fn ref_by(
@@ -34,12 +34,12 @@ fn ref_by(
     e: Place,
     f: Scale,
     g: Sign,
-    m: Tally,
+    m: Registers,
     buf: &mut [u8; 512],
 ) -> Step
     requires { ⌜ (at ≤ length (now text)) × Inside (length (now text)) n × Inside (length (now text)) e
         × InsideScale (length (now text)) f ⌝ }
-    ensures { λ r. ⌜ Does (λ s. ref-by n e f g ∷ s) (now (text .entry)) at (at + 1)
+    ensures { λ r. ⌜ ReadsPart (λ s. ref-by n e f g ∷ s) (now (text .entry)) at (at + 1)
         (mem m (now (names .entry)) (now (buf .entry))) r (now (names .entry)) (now (buf .exit)) ⌝ }
 {
     let t = token_at(text, at);
@@ -65,12 +65,12 @@ fn ref_shift(
     n: Place,
     e: Place,
     f: Scale,
-    m: Tally,
+    m: Registers,
     buf: &mut [u8; 512],
 ) -> Step
     requires { ⌜ (at ≤ length (now text)) × Inside (length (now text)) n × Inside (length (now text)) e
         × InsideScale (length (now text)) f ⌝ }
-    ensures { λ r. ⌜ Does (λ s. ref-shift n e f ∷ s) (now (text .entry)) at at
+    ensures { λ r. ⌜ ReadsPart (λ s. ref-shift n e f ∷ s) (now (text .entry)) at at
         (mem m (now (names .entry)) (now (buf .entry))) r (now (names .entry)) (now (buf .exit)) ⌝ }
 {
     let t = token_at(text, at);
@@ -94,12 +94,12 @@ fn ref_scaled(
     n: Place,
     e: Place,
     p: Place,
-    m: Tally,
+    m: Registers,
     buf: &mut [u8; 512],
 ) -> Step
     requires { ⌜ (at ≤ length (now text)) × Inside (length (now text)) n × Inside (length (now text)) e
         × Inside (length (now text)) p ⌝ }
-    ensures { λ r. ⌜ Does (λ s. want star ∷ want indexKind ∷ ref-shift n e (Scale.Times p) ∷ s) (now (text .entry)) at at
+    ensures { λ r. ⌜ ReadsPart (λ s. want star ∷ want indexKind ∷ ref-shift n e (Scale.Times p) ∷ s) (now (text .entry)) at at
         (mem m (now (names .entry)) (now (buf .entry))) r (now (names .entry)) (now (buf .exit)) ⌝ }
 {
     match expect(text, at, m, b'*') {
@@ -118,11 +118,11 @@ fn ref_index(
     at: usize,
     n: Place,
     e: Place,
-    m: Tally,
+    m: Registers,
     buf: &mut [u8; 512],
 ) -> Step
     requires { ⌜ (at ≤ length (now text)) × Inside (length (now text)) n × Inside (length (now text)) e ⌝ }
-    ensures { λ r. ⌜ Does (λ s. ref-index n e ∷ s) (now (text .entry)) at (at + 1)
+    ensures { λ r. ⌜ ReadsPart (λ s. ref-index n e ∷ s) (now (text .entry)) at (at + 1)
         (mem m (now (names .entry)) (now (buf .entry))) r (now (names .entry)) (now (buf .exit)) ⌝ }
 {
     let t = token_at(text, at);
@@ -141,9 +141,9 @@ fn ref_index(
 }
 
 // "]" ")"
-fn ref_end(text: &[u8], at: usize, m: Tally) -> Step
+fn ref_end(text: &[u8], at: usize, m: Registers) -> Step
     requires { ⌜ at ≤ length (now text) ⌝ }
-    ensures { λ r. ⌜ ((tb b : List ℕ) → Does (λ s. want closeBracket ∷ want closeParen ∷ s) (now (text .entry)) at at
+    ensures { λ r. ⌜ ((tb b : List ℕ) → ReadsPart (λ s. want closeBracket ∷ want closeParen ∷ s) (now (text .entry)) at at
         (mem m tb b) r tb b) ⌝ }
 {
     match expect(text, at, m, b']') {
@@ -159,11 +159,11 @@ fn ref_brackets(
     at: usize,
     n: Place,
     e: Place,
-    m: Tally,
+    m: Registers,
     buf: &mut [u8; 512],
 ) -> Step
     requires { ⌜ (at ≤ length (now text)) × Inside (length (now text)) n × Inside (length (now text)) e ⌝ }
-    ensures { λ r. ⌜ Does (λ s. want openBracket ∷ ref-index n e ∷ want closeBracket ∷ want closeParen ∷ s)
+    ensures { λ r. ⌜ ReadsPart (λ s. want openBracket ∷ ref-index n e ∷ want closeBracket ∷ want closeParen ∷ s)
         (now (text .entry)) at at (mem m (now (names .entry)) (now (buf .entry))) r (now (names .entry)) (now (buf .exit)) ⌝ }
 {
     match expect(text, at, m, b'[') {
@@ -181,11 +181,11 @@ fn ref_event(
     names: &[u64; 12],
     at: usize,
     n: Place,
-    m: Tally,
+    m: Registers,
     buf: &mut [u8; 512],
 ) -> Step
     requires { ⌜ (at ≤ length (now text)) × Inside (length (now text)) n ⌝ }
-    ensures { λ r. ⌜ Does (λ s. ref-event n ∷ s) (now (text .entry)) at (at + 1)
+    ensures { λ r. ⌜ ReadsPart (λ s. ref-event n ∷ s) (now (text .entry)) at (at + 1)
         (mem m (now (names .entry)) (now (buf .entry))) r (now (names .entry)) (now (buf .exit)) ⌝ }
 {
     let t = token_at(text, at);
@@ -206,11 +206,11 @@ pub fn reference(
     names: &[u64; 12],
     at: usize,
     n: Place,
-    m: Tally,
+    m: Registers,
     buf: &mut [u8; 512],
 ) -> Step
     requires { ⌜ (at ≤ length (now text)) × Inside (length (now text)) n ⌝ }
-    ensures { λ r. ⌜ Does (λ s. want openParen ∷ ref-event n ∷ s) (now (text .entry)) at at
+    ensures { λ r. ⌜ ReadsPart (λ s. want openParen ∷ ref-event n ∷ s) (now (text .entry)) at at
         (mem m (now (names .entry)) (now (buf .entry))) r (now (names .entry)) (now (buf .exit)) ⌝ }
 {
     match expect(text, at, m, b'(') {

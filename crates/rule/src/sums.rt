@@ -5,8 +5,8 @@ use crate::emit::emit_literal;
 use crate::expect::expect;
 use crate::kinds;
 use crate::lookup::named;
+use crate::memory::Registers;
 use crate::memory::Step;
-use crate::memory::Tally;
 use crate::memory::deeper;
 use crate::memory::entered;
 use crate::parts::Place;
@@ -26,7 +26,7 @@ ghost use Rattle.rule.specs.Class.{openParen, closeParen};
 ghost use Rattle.rule.specs.Draft.{alone};
 ghost use Rattle.rule.specs.Machine.{out, doing, want, factor, muls, adds, prod, sum};
 ghost use Rattle.rule.specs.Memory.{mem};
-ghost use Rattle.rule.specs.Does.{signByte, Does};
+ghost use Rattle.rule.specs.ReadsPart.{signByte, ReadsPart};
 
 // The kind of frame of "+" and "-", 0 of any other token.
 fn sign_kind(k: u8) -> u8
@@ -44,11 +44,11 @@ fn parens(
     names: &[u64; 12],
     at: usize,
     d: usize,
-    m: Tally,
+    m: Registers,
     buf: &mut [u8; 512],
 ) -> Step
     requires { ⌜ at ≤ length (now text) ⌝ }
-    ensures { λ r. ⌜ Does (λ s. sum d (want closeParen ∷ s)) (now (text .entry)) at (at + 1)
+    ensures { λ r. ⌜ ReadsPart (λ s. sum d (want closeParen ∷ s)) (now (text .entry)) at (at + 1)
         (mem m (now (names .entry)) (now (buf .entry))) r (now (names .entry)) (now (buf .exit)) ⌝ }
 {
     match sum(text, names, at, d, m, buf) {
@@ -63,11 +63,11 @@ pub fn sum(
     names: &[u64; 12],
     at: usize,
     d: usize,
-    m: Tally,
+    m: Registers,
     buf: &mut [u8; 512],
 ) -> Step
     requires { ⌜ at ≤ length (now text) ⌝ }
-    ensures { λ r. ⌜ Does (λ s. sum d s) (now (text .entry)) at (at + 1)
+    ensures { λ r. ⌜ ReadsPart (λ s. sum d s) (now (text .entry)) at (at + 1)
         (mem m (now (names .entry)) (now (buf .entry))) r (now (names .entry)) (now (buf .exit)) ⌝ }
 {
     match prod(text, names, at, d, m, buf) {
@@ -77,9 +77,16 @@ pub fn sum(
 }
 
 // {("+" or "-") prod}
-fn adds(text: &[u8], names: &[u64; 12], at: usize, d: usize, m: Tally, buf: &mut [u8; 512]) -> Step
+fn adds(
+    text: &[u8],
+    names: &[u64; 12],
+    at: usize,
+    d: usize,
+    m: Registers,
+    buf: &mut [u8; 512],
+) -> Step
     requires { ⌜ at ≤ length (now text) ⌝ }
-    ensures { λ r. ⌜ Does (λ s. adds d ∷ s) (now (text .entry)) at at
+    ensures { λ r. ⌜ ReadsPart (λ s. adds d ∷ s) (now (text .entry)) at at
         (mem m (now (names .entry)) (now (buf .entry))) r (now (names .entry)) (now (buf .exit)) ⌝ }
 {
     let t = token_at(text, at);
@@ -97,9 +104,16 @@ fn adds(text: &[u8], names: &[u64; 12], at: usize, d: usize, m: Tally, buf: &mut
 }
 
 // prod: factor {"*" factor}
-fn prod(text: &[u8], names: &[u64; 12], at: usize, d: usize, m: Tally, buf: &mut [u8; 512]) -> Step
+fn prod(
+    text: &[u8],
+    names: &[u64; 12],
+    at: usize,
+    d: usize,
+    m: Registers,
+    buf: &mut [u8; 512],
+) -> Step
     requires { ⌜ at ≤ length (now text) ⌝ }
-    ensures { λ r. ⌜ Does (λ s. prod d s) (now (text .entry)) at (at + 1)
+    ensures { λ r. ⌜ ReadsPart (λ s. prod d s) (now (text .entry)) at (at + 1)
         (mem m (now (names .entry)) (now (buf .entry))) r (now (names .entry)) (now (buf .exit)) ⌝ }
 {
     match factor(text, names, at, d, m, buf) {
@@ -109,9 +123,16 @@ fn prod(text: &[u8], names: &[u64; 12], at: usize, d: usize, m: Tally, buf: &mut
 }
 
 // {"*" factor}
-fn muls(text: &[u8], names: &[u64; 12], at: usize, d: usize, m: Tally, buf: &mut [u8; 512]) -> Step
+fn muls(
+    text: &[u8],
+    names: &[u64; 12],
+    at: usize,
+    d: usize,
+    m: Registers,
+    buf: &mut [u8; 512],
+) -> Step
     requires { ⌜ at ≤ length (now text) ⌝ }
-    ensures { λ r. ⌜ Does (λ s. muls d ∷ s) (now (text .entry)) at at
+    ensures { λ r. ⌜ ReadsPart (λ s. muls d ∷ s) (now (text .entry)) at at
         (mem m (now (names .entry)) (now (buf .entry))) r (now (names .entry)) (now (buf .exit)) ⌝ }
 {
     let t = token_at(text, at);
@@ -133,11 +154,11 @@ fn absolute(
     names: &[u64; 12],
     at: usize,
     d: usize,
-    m: Tally,
+    m: Registers,
     buf: &mut [u8; 512],
 ) -> Step
     requires { ⌜ at ≤ length (now text) ⌝ }
-    ensures { λ r. ⌜ Does (λ s. want openParen ∷ sum d (want closeParen ∷ doing (out (alone Kind.absolute)) ∷ s))
+    ensures { λ r. ⌜ ReadsPart (λ s. want openParen ∷ sum d (want closeParen ∷ doing (out (alone Kind.absolute)) ∷ s))
         (now (text .entry)) at at (mem m (now (names .entry)) (now (buf .entry))) r (now (names .entry)) (now (buf .exit)) ⌝ }
 {
     match expect(text, at, m, b'(') {
@@ -155,11 +176,11 @@ fn factor(
     names: &[u64; 12],
     at: usize,
     d: usize,
-    m: Tally,
+    m: Registers,
     buf: &mut [u8; 512],
 ) -> Step
     requires { ⌜ at ≤ length (now text) ⌝ }
-    ensures { λ r. ⌜ Does (λ s. factor d ∷ s) (now (text .entry)) at (at + 1)
+    ensures { λ r. ⌜ ReadsPart (λ s. factor d ∷ s) (now (text .entry)) at (at + 1)
         (mem m (now (names .entry)) (now (buf .entry))) r (now (names .entry)) (now (buf .exit)) ⌝ }
 {
     let t = token_at(text, at);

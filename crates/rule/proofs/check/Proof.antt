@@ -13,8 +13,8 @@ use Rattle.rule.specs.Told.{checkTold}
 use Rattle.rule.specs.Check.{wholeFrames, checkedOf}
 use Rattle.rule.specs.declared.Checked.{Checked}
 use Rattle.rule.specs.declared.order.Ordered.the-variants.{Fine, At}
-use Rattle.rule.proofs.Prefix.{place-le, fine-order}
-use Rattle.rule.proofs.Whole.{true-whole}
+use Rattle.rule.proofs.FrameOrder.{place-le, fine-order}
+use Rattle.rule.proofs.FrameLength.{true-whole}
 use Rattle.rule.proofs.check.Statement.{statement}
 use Rattle.rule.proofs.check.Tie as tie
 

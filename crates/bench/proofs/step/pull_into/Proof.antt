@@ -11,8 +11,8 @@ use Rattle.bench.proofs.RunLaws.{pulled-arm, pulled-quiet}
 use Rattle.bench.proofs.step.pull_into.Statement.{statement}
 use Rattle.bench.proofs.step.pull_into.Tie as tie
 
-pull-good-requires : tie.Need-pull-good-requires
-pull-good-requires c κs =
+pull-admitted-requires : tie.Need-pull-admitted-requires
+pull-admitted-requires c κs =
     let p = c .before .before .before .before .before in
     let l : length (p .args .report .now) ≡ reportLeast = ap length (p .pre .1) in
     (p .pre .0 .ready, omega (arith, l))
@@ -29,7 +29,7 @@ enum-told-2 c = search needs
 say-report-requires : tie.Need-say-report-requires
 say-report-requires c κs =
     let p = c .before .before .before .before .before .before .before .before .before .before .before .before in
-    let l : length (c .before .before .before .before .before .before .pull-good .last .1 .1 .1 .0) ≡ length (p .args .report .now) = search needs in
+    let l : length (c .before .before .before .before .before .before .pull-admitted .last .1 .1 .1 .0) ≡ length (p .args .report .now) = search needs in
     let m : length (p .args .report .now) ≡ reportLeast = ap length (p .pre .1) in
     (p .pre .0 .full, (p .pre .0 .room, l ∙ m))
 
@@ -61,7 +61,7 @@ returns : tie.Need-returns
 returns c =
     let s = c .before .before .before .before .before .before .before .before .before .before .before in
     let a = s .args in
-    let p = c .before .before .before .before .before .pull-good in
+    let p = c .before .before .before .before .before .pull-admitted in
     let b = bytes-take (a .r .fields .len * 8) (a .frames .now) (λ i. c .before .before .before .before .before .before .before .before .before .before .shared-slice-known .given i .fits) in
     let t = c .before .enum-told .given .1 in
     pulled-quiet (a .frames .now) (a .r) (c .with-pulled .result) (a .window .now) (a .out .now) (p .result) true (a .report .now) _ (c .with-pulled .ensures) (s .pre .0) b (s .pre .1) (p .ensures) (rw t) (rw t)
@@ -76,7 +76,7 @@ returns-2 : tie.Need-returns-2
 returns-2 c =
     let s = c .before .before .before .before .before .before .before .before .before .before .before .before .before .before .before .before in
     let a = s .args in
-    let p = c .before .before .before .before .before .before .before .before .before .before .pull-good in
+    let p = c .before .before .before .before .before .before .before .before .before .before .pull-admitted in
     let y = c .before .before .before .say-report in
     let b = bytes-take (a .r .fields .len * 8) (a .frames .now) (λ i. c .before .before .before .before .before .before .before .before .before .before .before .before .before .before .before .shared-slice-known .given i .fits) in
     let t = c .before .before .before .before .before .before .enum-told2 .given .1 in
@@ -89,7 +89,7 @@ returns-3 : tie.Need-returns-3
 returns-3 c =
     let s = c .before .before .before .before .before .before .before .before .before .before .before in
     let a = s .args in
-    let p = c .before .before .before .before .before .pull-good in
+    let p = c .before .before .before .before .before .pull-admitted in
     let b = bytes-take (a .r .fields .len * 8) (a .frames .now) (λ i. c .before .before .before .before .before .before .before .before .before .before .shared-slice-known .given i .fits) in
     let t = c .before .enum-told3 .given .1 in
     pulled-quiet (a .frames .now) (a .r) (c .with-pulled3 .result) (a .window .now) (a .out .now) (p .result) true (a .report .now) _ (c .with-pulled3 .ensures) (s .pre .0) b (s .pre .1) (p .ensures) (rw t) (rw t)
@@ -101,7 +101,7 @@ returns-4 : tie.Need-returns-4
 returns-4 c =
     let s = c .before .before .before .before .before .before .before .before .before .before .before in
     let a = s .args in
-    let p = c .before .before .before .before .before .pull-good in
+    let p = c .before .before .before .before .before .pull-admitted in
     let b = bytes-take (a .r .fields .len * 8) (a .frames .now) (λ i. c .before .before .before .before .before .before .before .before .before .before .shared-slice-known .given i .fits) in
     let t = c .before .enum-told4 .given .1 in
     pulled-quiet (a .frames .now) (a .r) (c .with-pulled4 .result) (a .window .now) (a .out .now) (p .result) false (a .report .now) _ (c .with-pulled4 .ensures) (s .pre .0) b (s .pre .1) (p .ensures) (rw t) (rw t)
@@ -113,7 +113,7 @@ returns-5 : tie.Need-returns-5
 returns-5 c =
     let s = c .before .before .before .before .before .before .before .before .before .before .before in
     let a = s .args in
-    let p = c .before .before .before .before .before .pull-good in
+    let p = c .before .before .before .before .before .pull-admitted in
     let b = bytes-take (a .r .fields .len * 8) (a .frames .now) (λ i. c .before .before .before .before .before .before .before .before .before .before .shared-slice-known .given i .fits) in
     let t = c .before .enum-told5 .given .1 in
     pulled-quiet (a .frames .now) (a .r) (c .with-pulled5 .result) (a .window .now) (a .out .now) (p .result) false (a .report .now) _ (c .with-pulled5 .ensures) (s .pre .0) b (s .pre .1) (p .ensures) (rw t) (rw t)
@@ -122,7 +122,7 @@ pub pull-into-spec : {M : Type 1} → statement M
 pull-into-spec =
     tie.close
     (tie.spec
-    pull-good-requires
+    pull-admitted-requires
     enum-told
     with-pulled-requires
     enum-told-2

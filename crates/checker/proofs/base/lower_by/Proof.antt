@@ -27,11 +27,11 @@ lower-requires c κs =
     let l = c .before .before .before .before .before .pre .0 .limits (c .before .before .before .if1 .taken) in
     (c .before .before .before .before .before .pre .0 .instance-in, (l .factor, rw z (l .offset)))
 
-mul-lows : tie.Need-mul-lows
-mul-lows c = search needs
+mul-bases : tie.Need-mul-bases
+mul-bases c = search needs
 
-element-write-lows : tie.Need-element-write-lows
-element-write-lows c = omega (arith, c .before .before .before .before .before .before .pre .0 .limits (c .before .before .before .before .if1 .taken) .event, c .before .before .before .before .before .before .pre .1)
+element-write-bases : tie.Need-element-write-bases
+element-write-bases c = omega (arith, c .before .before .before .before .before .before .pre .0 .limits (c .before .before .before .before .if1 .taken) .event, c .before .before .before .before .before .before .pre .1)
 
 returns : tie.Need-returns
 returns c =
@@ -43,4 +43,4 @@ returns-2 : tie.Need-returns-2
 returns-2 c = (c .before .before .pre .1, rw (ne-eqb (c .before .before .args .x .kind) referenceByte (c .if1 .left)))
 
 pub lower-by-spec : {M : Type 1} → statement M
-lower-by-spec = tie.close (tie.spec cast-e mul-lower element-copy-out-lower lower-requires mul-lows element-write-lows returns returns-2)
+lower-by-spec = tie.close (tie.spec cast-e mul-lower element-copy-out-lower lower-requires mul-bases element-write-bases returns returns-2)

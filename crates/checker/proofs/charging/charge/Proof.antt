@@ -3,7 +3,7 @@ use mathlib.Core.Path.{_≡_, sym, _∙_, ap}
 use mathlib.Core.Bool.{true, false}
 use native.Mathlib.Omega.{arith}
 use borrow.Author.Needs.{needs}
-use Rattle.checker.specs.Good.{goodState}
+use Rattle.checker.specs.StateTest.{statePasses}
 use Rattle.checker.specs.Tariff.{bandsFit, pricesFit, cents, chargeTold}
 use Rattle.checker.proofs.Charges.{rise-facts, charged-by, turned-28, turned-29, turned-12, failed-most}
 use Rattle.checker.proofs.charging.charge.Statement.{statement}
@@ -20,11 +20,11 @@ prices-fit-requires c κs =
 fields-of-requires : tie.Need-fields-of-requires
 fields-of-requires c κs = search needs
 
-slice-aggregate-good : tie.Need-slice-aggregate-good
-slice-aggregate-good c = search needs
+slice-aggregate-state-passes : tie.Need-slice-aggregate-state-passes
+slice-aggregate-state-passes c = search needs
 
-good-requires : tie.Need-good-requires
-good-requires c κs = search needs
+state-passes-requires : tie.Need-state-passes-requires
+state-passes-requires c κs = search needs
 
 cents-requires : tie.Need-cents-requires
 cents-requires c κs =
@@ -34,7 +34,7 @@ cents-requires c κs =
     let a = b .before .args in
     let bands : bandsFit (a .tariff) ≡ true = sym (b .bands-fit .ensures) ∙ p .before .if1 .taken in
     let prices : pricesFit (a .tariff) ≡ true = sym (p .prices-fit .ensures) ∙ r .before .before .if2 .taken in
-    let good : goodState (a .state) ≡ true = sym (ap goodState (r .fields-of .ensures)) ∙ sym (c .before .good2 .ensures .0) ∙ c .if3 .taken in
+    let good : statePasses (a .state) ≡ true = sym (ap statePasses (r .fields-of .ensures)) ∙ sym (c .before .state-passes .ensures .0) ∙ c .if3 .taken in
     (bands, (prices, omega (arith, failed-most (a .state) good)))
 
 refuse-requires : tie.Need-refuse-requires
@@ -56,7 +56,7 @@ returns c =
     let a = b .before .args in
     let bands : bandsFit (a .tariff) ≡ true = sym (b .bands-fit .ensures) ∙ p .before .if1 .taken in
     let prices : pricesFit (a .tariff) ≡ true = sym (p .prices-fit .ensures) ∙ r .before .before .if2 .taken in
-    let good : goodState (a .state) ≡ true = sym (ap goodState (r .fields-of .ensures)) ∙ sym (g .good2 .ensures .0) ∙ c .before .if3 .taken in
+    let good : statePasses (a .state) ≡ true = sym (ap statePasses (r .fields-of .ensures)) ∙ sym (g .state-passes .ensures .0) ∙ c .before .if3 .taken in
     ap cents (c .cents .ensures) ∙ sym (charged-by (a .state) (a .tariff) bands prices good)
 
 -- 12
@@ -69,7 +69,7 @@ returns-2 c =
     let a = b .before .args in
     let bands : bandsFit (a .tariff) ≡ true = sym (b .bands-fit .ensures) ∙ p .before .if1 .taken in
     let prices : pricesFit (a .tariff) ≡ true = sym (p .prices-fit .ensures) ∙ r .before .before .if2 .taken in
-    let bad : goodState (a .state) ≡ false = sym (ap goodState (r .fields-of .ensures)) ∙ sym (g .good2 .ensures .0) ∙ c .before .if3 .left in
+    let bad : statePasses (a .state) ≡ false = sym (ap statePasses (r .fields-of .ensures)) ∙ sym (g .state-passes .ensures .0) ∙ c .before .if3 .left in
     ap chargeTold (c .refuse .ensures) ∙ sym (turned-12 (a .state) (a .tariff) bands prices bad)
 
 -- 29
@@ -97,8 +97,8 @@ charge-spec =
     bands-fit-requires
     prices-fit-requires
     fields-of-requires
-    slice-aggregate-good
-    good-requires
+    slice-aggregate-state-passes
+    state-passes-requires
     cents-requires
     refuse-requires
     refuse-requires-2

@@ -11,7 +11,7 @@ use Rattle.checker.specs.Ring.{notesOf, kept}
 use Rattle.checker.specs.declared.State.{State}
 use Rattle.checker.proofs.Admissions.{in-good, in-long}
 use Rattle.checker.proofs.CodeBase.{bytes-take}
-use Rattle.checker.proofs.CodeGood.{good-facts}
+use Rattle.checker.proofs.CodeStateTest.{good-facts}
 use Rattle.checker.proofs.CodeFeed.{some-in, high-skipped, none-skipped, many-turned, full-turned, room-taken, ignored-as, refused-as, taken-as}
 use Rattle.checker.proofs.feeding.feed_event.Statement.{statement}
 use Rattle.checker.proofs.feeding.feed_event.Tie as tie

@@ -16,8 +16,8 @@ admit-requires c κs = search needs
 refuse-requires : tie.Need-refuse-requires
 refuse-requires c κs = search needs
 
-pull-good-requires : tie.Need-pull-good-requires
-pull-good-requires c κs =
+pull-admitted-requires : tie.Need-pull-admitted-requires
+pull-admitted-requires c κs =
     let t = c .before .before .before .before .admit in
     let p = c .before .before .before .before .before .before .before in
     let a = p .args in
@@ -39,7 +39,7 @@ same-length : tie.Need-same-length
 same-length c = search needs
 
 returns-2 : tie.Need-returns-2
-returns-2 c = c .before .before .pull-good .ensures
+returns-2 c = c .before .before .pull-admitted .ensures
 
 returns-3 : tie.Need-returns-3
 returns-3 c =
@@ -54,7 +54,7 @@ pull-parts-spec =
     (tie.spec
     admit-requires
     refuse-requires
-    pull-good-requires
+    pull-admitted-requires
     refuse-requires-2
     returns
     same-length

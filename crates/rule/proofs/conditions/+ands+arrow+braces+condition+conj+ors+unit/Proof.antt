@@ -10,7 +10,7 @@ use Rattle.rule.specs.Class.{closeBrace}
 use Rattle.rule.specs.Machine.{step, finish, out, want, doing}
 use Rattle.rule.specs.Machine as machine
 use Rattle.rule.specs.Draft.{alone}
-use Rattle.rule.proofs.Does.{then, stop, then-does, idle, as-is, least, same, take, beyond}
+use Rattle.rule.proofs.ReaderParts.{then, stop, then-does, idle, as-is, least, same, take, beyond}
 use borrow.Author.Needs.{needs}
 use borrow.Fn.Kinds.{In}
 use borrow.Fn.PlainCycle.{Measures, is, falls, and}

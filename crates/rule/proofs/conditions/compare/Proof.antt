@@ -5,9 +5,9 @@ use Prim.Native.Nat.{_-_}
 use denote.Ref.{now}
 use Rattle.rule.specs.Machine.{step, finish, out, doing}
 use Rattle.rule.specs.Draft.{plain}
-use Rattle.rule.proofs.Does.{stop, then-does, as-is, least, fail, take, beyond}
-use Rattle.rule.specs.Does.{relByte}
-use Rattle.rule.proofs.Marked.{rel-some, rel-stuck, rel-step}
+use Rattle.rule.proofs.ReaderParts.{stop, then-does, as-is, least, fail, take, beyond}
+use Rattle.rule.specs.ReadsPart.{relByte}
+use Rattle.rule.proofs.ReaderMarks.{rel-some, rel-stuck, rel-step}
 use borrow.Author.Needs.{needs}
 use Rattle.rule.proofs.conditions.compare.Statement.{statement}
 use Rattle.rule.proofs.conditions.compare.Tie as tie

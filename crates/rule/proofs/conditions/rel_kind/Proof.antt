@@ -1,5 +1,5 @@
 use borrow.Author.Tests.{eq-eqb, ne-eqb}
-use Rattle.rule.specs.Does.{relByte}
+use Rattle.rule.specs.ReadsPart.{relByte}
 use Rattle.rule.proofs.conditions.rel_kind.Statement.{statement}
 use Rattle.rule.proofs.conditions.rel_kind.Tie as tie
 

@@ -2,7 +2,7 @@ use native.Mathlib.Omega.{arith}
 use mathlib.Core.List.{_∷_}
 use Prim.Native.Nat.{_-_}
 use Rattle.rule.specs.Machine as machine
-use Rattle.rule.proofs.Does.{then, stop, as-is}
+use Rattle.rule.proofs.ReaderParts.{then, stop, as-is}
 use borrow.Author.Needs.{needs}
 use Rattle.rule.proofs.conditions.relation.Statement.{statement}
 use Rattle.rule.proofs.conditions.relation.Tie as tie

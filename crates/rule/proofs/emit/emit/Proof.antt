@@ -4,100 +4,76 @@ use borrow.Author.Needs.{needs}
 use Rattle.rule.proofs.emit.emit.Statement.{statement}
 use Rattle.rule.proofs.emit.emit.Tie as tie
 
--- src/emit.rt:34:17
 mul-p : tie.Need-mul-p
 mul-p c = search needs
 
--- src/emit.rt:36:9
 element-write-buf : tie.Need-element-write-buf
 element-write-buf c = search needs
 
--- src/emit.rt:37:13
 add-buf : tie.Need-add-buf
 add-buf c = search needs
 
--- src/emit.rt:37:9
 element-write-buf-2 : tie.Need-element-write-buf-2
 element-write-buf-2 c = search needs
 
--- src/emit.rt:38:13
 add-buf-2 : tie.Need-add-buf-2
 add-buf-2 c = search needs
 
--- src/emit.rt:38:9
 element-write-buf-3 : tie.Need-element-write-buf-3
 element-write-buf-3 c = search needs
 
--- src/emit.rt:39:13
 add-buf-3 : tie.Need-add-buf-3
 add-buf-3 c = search needs
 
--- src/emit.rt:39:9
 element-write-buf-4 : tie.Need-element-write-buf-4
 element-write-buf-4 c = search needs
 
--- src/emit.rt:40:22
 cast-buf : tie.Need-cast-buf
 cast-buf c = search needs
 
--- src/emit.rt:40:13
 add-buf-4 : tie.Need-add-buf-4
 add-buf-4 c = search needs
 
--- src/emit.rt:40:9
 element-write-buf-5 : tie.Need-element-write-buf-5
 element-write-buf-5 c = search needs
 
--- src/emit.rt:41:22
 cast-buf-2 : tie.Need-cast-buf-2
 cast-buf-2 c = search needs
 
--- src/emit.rt:41:13
 add-buf-5 : tie.Need-add-buf-5
 add-buf-5 c = search needs
 
--- src/emit.rt:41:9
 element-write-buf-6 : tie.Need-element-write-buf-6
 element-write-buf-6 c = search needs
 
--- src/emit.rt:42:22
 cast-buf-3 : tie.Need-cast-buf-3
 cast-buf-3 c = search needs
 
--- src/emit.rt:42:13
 add-buf-6 : tie.Need-add-buf-6
 add-buf-6 c = search needs
 
--- src/emit.rt:42:9
 element-write-buf-7 : tie.Need-element-write-buf-7
 element-write-buf-7 c = search needs
 
--- src/emit.rt:43:22
 cast-buf-4 : tie.Need-cast-buf-4
 cast-buf-4 c = search needs
 
--- src/emit.rt:43:13
 add-buf-7 : tie.Need-add-buf-7
 add-buf-7 c = search needs
 
--- src/emit.rt:43:9
 element-write-buf-8 : tie.Need-element-write-buf-8
 element-write-buf-8 c = search needs
 
--- src/emit.rt:45:20
 add-t10 : tie.Need-add-t10
 add-t10 c = search needs
 
--- src/emit.rt:44:9
 returns : tie.Need-returns
 unfolding mem put
 returns c = λ tb. rw (lt-ltb _ _ (c .if1 .taken))
 
--- src/emit.rt:54:16
 add-t29 : tie.Need-add-t29
 add-t29 c = search needs
 
--- src/emit.rt:29:1
 returns-2 : tie.Need-returns-2
 unfolding mem put
 returns-2 c = λ tb. rw (le-ltb _ _ (c .if1 .left))

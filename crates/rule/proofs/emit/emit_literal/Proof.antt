@@ -4,19 +4,15 @@ use borrow.Author.Needs.{needs}
 use Rattle.rule.proofs.emit.emit_literal.Statement.{statement}
 use Rattle.rule.proofs.emit.emit_literal.Tie as tie
 
--- src/emit.rt:102:9
 sized-requires : tie.Need-sized-requires
 sized-requires c κs = search needs
 
--- src/emit.rt:103:9
 number-at-requires : tie.Need-number-at-requires
 number-at-requires c κs = search needs
 
--- src/emit.rt:104:5
 emit-requires : tie.Need-emit-requires
 emit-requires c κs = search needs
 
--- src/emit.rt:98:1
 returns : tie.Need-returns
 unfolding acts
 returns c = λ tb. c .emit .ensures tb ∙ rw (c .before .before .before .sized .ensures tb _, c .before .before .number-at .ensures)

@@ -5,35 +5,27 @@ use borrow.Author.Needs.{needs}
 use Rattle.rule.proofs.emit.emit_reference.Statement.{statement}
 use Rattle.rule.proofs.emit.emit_reference.Tie as tie
 
--- src/emit.rt:157:44
 name-at-requires : tie.Need-name-at-requires
 name-at-requires c κs = search needs
 
--- src/emit.rt:157:9
 lookup-requires : tie.Need-lookup-requires
 lookup-requires c κs = search needs
 
--- src/emit.rt:158:42
 name-at-requires-2 : tie.Need-name-at-requires-2
 name-at-requires-2 c κs = search needs
 
--- src/emit.rt:158:9
 lookup-requires-2 : tie.Need-lookup-requires-2
 lookup-requires-2 c κs = search needs
 
--- src/emit.rt:159:9
 factor-of-requires : tie.Need-factor-of-requires
 factor-of-requires c κs = search needs
 
--- src/emit.rt:160:9
 offset-of-requires : tie.Need-offset-of-requires
 offset-of-requires c κs = search needs
 
--- src/emit.rt:161:5
 emit-requires : tie.Need-emit-requires
 emit-requires c κs = search needs
 
--- src/emit.rt:153:1
 returns : tie.Need-returns
 unfolding acts
 returns c = c .emit .ensures (now (c .before .before .before .before .before .before .before .before .before .args .names)) ∙ rw (c .before .before .before .before .before .before .lookup .ensures (now (c .before .before .before .before .before .before .before .before .before .args .buf)), c .before .before .before .before .before .before .before .name-at .ensures, c .before .before .before .before .lookup2 .ensures (now (c .before .before .before .before .before .before .before .before .before .args .buf)), c .before .before .before .before .before .name-at2 .ensures, c .before .before .before .factor-of .ensures, c .before .before .offset-of .ensures)

@@ -2,7 +2,7 @@
 use mathlib.Core.Path.{sym, _∙_}
 use borrow.Author.Needs.{needs}
 use Rattle.rule.specs.Frames.{literal, reference, operand}
-use Rattle.rule.proofs.KindBytes.{kind-at, bare-kind}
+use Rattle.rule.proofs.FrameKinds.{kind-at, bare-kind}
 use Rattle.rule.proofs.frames.fields.Statement.{statement}
 use Rattle.rule.proofs.frames.fields.Tie as tie
 

@@ -5,7 +5,7 @@ use Prim.Native.Nat.{ℕ, _<_, _+_, _-_}
 use lib.ListN.{length}
 use denote.Ref.{now}
 use Rattle.rule.specs.Machine.{step, finish}
-use Rattle.rule.proofs.Does.{idle, least, same, take, beyond, inside}
+use Rattle.rule.proofs.ReaderParts.{idle, least, same, take, beyond, inside}
 use borrow.Author.Needs.{needs}
 use borrow.Fn.Kinds.{In}
 use borrow.Fn.PlainCycle.{Measures, is, falls, and}

@@ -5,7 +5,7 @@ use denote.Ref.{now}
 use Rattle.rule.specs.Class.{semicolon}
 use Rattle.rule.specs.Machine.{want}
 use Rattle.rule.specs.Machine as machine
-use Rattle.rule.proofs.Does.{then, stop, as-is}
+use Rattle.rule.proofs.ReaderParts.{then, stop, as-is}
 use borrow.Author.Needs.{needs}
 use Rattle.rule.proofs.header.declarations.Statement.{statement}
 use Rattle.rule.proofs.header.declarations.Tie as tie

@@ -4,7 +4,7 @@ use Prim.Native.Nat.{_-_}
 use Rattle.rule.specs.Class.{semicolon}
 use Rattle.rule.specs.Machine.{want}
 use Rattle.rule.specs.Machine as machine
-use Rattle.rule.proofs.Does.{then, stop, as-is}
+use Rattle.rule.proofs.ReaderParts.{then, stop, as-is}
 use borrow.Author.Needs.{needs}
 use Rattle.rule.proofs.header.name_list.Statement.{statement}
 use Rattle.rule.proofs.header.name_list.Tie as tie

@@ -4,7 +4,7 @@ use native.Mathlib.Omega.{arith}
 use Prim.Native.Nat.{_-_}
 use denote.Ref.{now}
 use Rattle.rule.specs.Machine.{step, finish}
-use Rattle.rule.proofs.Does.{idle, fail, take, beyond, inside}
+use Rattle.rule.proofs.ReaderParts.{idle, fail, take, beyond, inside}
 use borrow.Author.Needs.{needs}
 use Rattle.rule.proofs.header.name_of.Statement.{statement}
 use Rattle.rule.proofs.header.name_of.Tie as tie

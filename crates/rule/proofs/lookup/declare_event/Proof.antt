@@ -1,7 +1,7 @@
 use denote.Ref.{now}
-use Rattle.rule.specs.Memory.{mem, acts, table, among}
+use Rattle.rule.specs.Memory.{mem, acts, table, isDeclared}
 use mathlib.Core.Path.{sym, ap, _∙_}
-use Rattle.rule.proofs.Tables.{few, one-event}
+use Rattle.rule.proofs.ReaderTables.{few, one-event}
 use Rattle.rule.specs.Spelling.{room}
 use Rattle.rule.specs.Name.{longName}
 use mathlib.Core.Bool.{true, cond}
@@ -14,43 +14,34 @@ use borrow.Author.Needs.{needs}
 use Rattle.rule.proofs.lookup.declare_event.Statement.{statement}
 use Rattle.rule.proofs.lookup.declare_event.Tie as tie
 
--- src/lookup.rt:111:9
 name-at-requires : tie.Need-name-at-requires
 name-at-requires c κs = search needs
 
--- src/lookup.rt:112:8
 misnamed-requires : tie.Need-misnamed-requires
 misnamed-requires c κs = search needs
 
--- src/lookup.rt:113:9
 blamed-requires : tie.Need-blamed-requires
 blamed-requires c κs = search needs
 
--- src/lookup.rt:113:9
 returns : tie.Need-returns
 unfolding acts
-returns c = (λ b. rw (ap (λ x. cond (leb longName x) true (cond (among x (table Event (mem (c .before .before .before .before .before .before .args .m) (now (c .before .before .before .before .before .before .args .names)) b))) true (leb (room Event) (length (table Event (mem (c .before .before .before .before .before .before .args .m) (now (c .before .before .before .before .before .before .args .names)) b)))))) (sym (c .before .before .before .before .name-at .ensures)) ∙ (sym (c .before .before .misnamed .ensures b) ∙ c .before .if1 .taken)) (c .blamed .ensures (now (c .before .before .before .before .before .before .args .names)) b), c .before .before .before .before .before .before .pre .1)
+returns c = (λ b. rw (ap (λ x. cond (leb longName x) true (cond (isDeclared x (table Event (mem (c .before .before .before .before .before .before .args .m) (now (c .before .before .before .before .before .before .args .names)) b))) true (leb (room Event) (length (table Event (mem (c .before .before .before .before .before .before .args .m) (now (c .before .before .before .before .before .before .args .names)) b)))))) (sym (c .before .before .before .before .name-at .ensures)) ∙ (sym (c .before .before .misnamed .ensures b) ∙ c .before .if1 .taken)) (c .blamed .ensures (now (c .before .before .before .before .before .before .args .names)) b), c .before .before .before .before .before .before .pre .1)
 
--- src/lookup.rt:116:11
 cast-names : tie.Need-cast-names
 cast-names c = let h = few Event (c .before .before .before .before .before .args .m) (now (c .before .before .before .before .before .args .names)) [] (c .before .before .before .name-at .result) (sym (c .before .misnamed .ensures []) ∙ c .if1 .left) in omega arith
 
--- src/lookup.rt:116:5
 mul-names : tie.Need-mul-names
 mul-names c = let h = few Event (c .before .before .before .before .before .args .m) (now (c .before .before .before .before .before .args .names)) [] (c .before .before .before .name-at .result) (sym (c .before .misnamed .ensures []) ∙ c .if1 .left) in omega arith
 
--- src/lookup.rt:116:5
 element-write-names : tie.Need-element-write-names
 element-write-names c = let h = few Event (c .before .before .before .before .before .args .m) (now (c .before .before .before .before .before .args .names)) [] (c .before .before .before .name-at .result) (sym (c .before .misnamed .ensures []) ∙ c .if1 .left) in omega arith
 
--- src/lookup.rt:122:17
 add-t14 : tie.Need-add-t14
 add-t14 c = let h = few Event (c .before .before .before .before .before .args .m) (now (c .before .before .before .before .before .args .names)) [] (c .before .before .before .name-at .result) (sym (c .before .misnamed .ensures []) ∙ c .if1 .left) in omega arith
 
--- src/lookup.rt:107:1
 returns-2 : tie.Need-returns-2
 unfolding acts
-returns-2 c = let h = few Event (c .before .before .before .before .before .args .m) (now (c .before .before .before .before .before .args .names)) [] (c .before .before .before .name-at .result) (sym (c .before .misnamed .ensures []) ∙ c .if1 .left) in (λ b. rw (ap (λ x. cond (leb longName x) true (cond (among x (table Event (mem (c .before .before .before .before .before .args .m) (now (c .before .before .before .before .before .args .names)) b))) true (leb (room Event) (length (table Event (mem (c .before .before .before .before .before .args .m) (now (c .before .before .before .before .before .args .names)) b)))))) (sym (c .before .before .before .name-at .ensures)) ∙ (sym (c .before .misnamed .ensures b) ∙ c .if1 .left), ← c .before .before .before .name-at .ensures) (one-event (c .before .before .before .before .before .args .m) (now (c .before .before .before .before .before .args .names)) b _ (c .before .before .before .before .before .pre .1) h), length-set (now (c .before .before .before .before .before .args .names)) _ _ ∙ c .before .before .before .before .before .pre .1)
+returns-2 c = let h = few Event (c .before .before .before .before .before .args .m) (now (c .before .before .before .before .before .args .names)) [] (c .before .before .before .name-at .result) (sym (c .before .misnamed .ensures []) ∙ c .if1 .left) in (λ b. rw (ap (λ x. cond (leb longName x) true (cond (isDeclared x (table Event (mem (c .before .before .before .before .before .args .m) (now (c .before .before .before .before .before .args .names)) b))) true (leb (room Event) (length (table Event (mem (c .before .before .before .before .before .args .m) (now (c .before .before .before .before .before .args .names)) b)))))) (sym (c .before .before .before .name-at .ensures)) ∙ (sym (c .before .misnamed .ensures b) ∙ c .if1 .left), ← c .before .before .before .name-at .ensures) (one-event (c .before .before .before .before .before .args .m) (now (c .before .before .before .before .before .args .names)) b _ (c .before .before .before .before .before .pre .1) h), length-set (now (c .before .before .before .before .before .args .names)) _ _ ∙ c .before .before .before .before .before .pre .1)
 
 pub declare-event-spec : {M : Type 1} → statement M
 declare-event-spec =

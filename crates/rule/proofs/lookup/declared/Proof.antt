@@ -1,18 +1,15 @@
 use denote.Ref.{now}
-use Rattle.rule.proofs.Tables.{position-among}
+use Rattle.rule.proofs.ReaderTables.{position-among}
 use borrow.Author.Needs.{needs}
 use Rattle.rule.proofs.lookup.declared.Statement.{statement}
 use Rattle.rule.proofs.lookup.declared.Tie as tie
 
--- src/lookup.rt:78:5
 lookup-requires : tie.Need-lookup-requires
 lookup-requires c κs = search needs
 
--- src/lookup.rt:78:33
 held-requires : tie.Need-held-requires
 held-requires c κs = search needs
 
--- src/lookup.rt:75:1
 returns : tie.Need-returns
 returns c = λ b. rw (c .before .lookup .ensures b, c .held .ensures (now (c .before .before .args .names)) b) (position-among _ _)
 

@@ -1,4 +1,4 @@
-use Rattle.rule.proofs.Tables.{find-start, find-end, find-hit, find-miss}
+use Rattle.rule.proofs.ReaderTables.{find-start, find-end, find-hit, find-miss}
 use mathlib.Core.Path.{_≡_, sym, _∙_}
 use Rattle.rule.specs.Memory.{position, listed}
 use Prim.Native.Nat.{_+_, _-_, _≤_}
@@ -13,43 +13,33 @@ Inv-loop names from n c j₀ j = (j ≤ n) × (j + position c (listed names (fro
 abbrev μ-loop : tie.MeasureT-loop
 μ-loop names from n c j₀ j = n - j
 
--- src/lookup.rt:35:5
 loop-holds : tie.Need-loop-holds Inv-loop μ-loop
 loop-holds c = (omega arith, find-start _ _ _ _)
 
--- src/lookup.rt:36:19
 add-if1 : tie.Need-add-if1 Inv-loop μ-loop
 add-if1 c = search needs
 
--- src/lookup.rt:36:18
 cast-if1 : tie.Need-cast-if1 Inv-loop μ-loop
 cast-if1 c = search needs
 
--- src/lookup.rt:36:12
 mul-if1 : tie.Need-mul-if1 Inv-loop μ-loop
 mul-if1 c = search needs
 
--- src/lookup.rt:36:12
 element-copy-out-if1 : tie.Need-element-copy-out-if1 Inv-loop μ-loop
 element-copy-out-if1 c = search needs
 
--- src/lookup.rt:37:13
 returns : tie.Need-returns Inv-loop μ-loop
 returns c = sym (find-hit _ _ _ _ _ (c .before .before .loop-test .taken) (c .if1 .taken)) ∙ c .before .before .before .loop .inv .1
 
--- src/lookup.rt:39:9
 add-j : tie.Need-add-j Inv-loop μ-loop
 add-j c = search needs
 
--- src/lookup.rt:35:5
 loop-less : tie.Need-loop-less Inv-loop μ-loop
 loop-less c = search needs
 
--- src/lookup.rt:35:5
 loop-again : tie.Need-loop-again Inv-loop μ-loop
 loop-again c = (omega arith, find-miss _ _ _ _ _ (c .before .before .loop-test .taken) (c .if1 .left) ∙ c .before .before .before .loop .inv .1)
 
--- src/lookup.rt:30:1
 returns-2 : tie.Need-returns-2 Inv-loop μ-loop
 returns-2 c = sym (find-end _ _ _ _ _ (c .loop-test .left)) ∙ c .before .loop .inv .1
 

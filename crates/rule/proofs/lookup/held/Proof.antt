@@ -1,31 +1,25 @@
 use Rattle.rule.specs.Memory.{mem}
-use Rattle.rule.proofs.Tables.{length-listed}
+use Rattle.rule.proofs.ReaderTables.{length-listed}
 use borrow.Author.Needs.{needs}
 use Rattle.rule.proofs.lookup.held.Statement.{statement}
 use Rattle.rule.proofs.lookup.held.Tie as tie
 
--- src/lookup.rt:59:24
 enum-told : tie.Need-enum-told
 enum-told c = search needs
 
--- src/lookup.rt:59:24
 least-requires : tie.Need-least-requires
 least-requires c κs = search needs
 
--- src/lookup.rt:60:23
 enum-told-2 : tie.Need-enum-told-2
 enum-told-2 c = search needs
 
--- src/lookup.rt:60:23
 least-requires-2 : tie.Need-least-requires-2
 least-requires-2 c κs = search needs
 
--- src/lookup.rt:55:1
 returns : tie.Need-returns
 unfolding mem
 returns c = λ tb b. rw (c .before .enum-told .given .1, length-listed) (c .least .ensures)
 
--- src/lookup.rt:55:1
 returns-2 : tie.Need-returns-2
 unfolding mem
 returns-2 c = λ tb b. rw (c .before .enum-told2 .given .1, length-listed) (c .least2 .ensures)

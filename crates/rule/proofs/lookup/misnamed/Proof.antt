@@ -7,27 +7,21 @@ use borrow.Author.Needs.{needs}
 use Rattle.rule.proofs.lookup.misnamed.Statement.{statement}
 use Rattle.rule.proofs.lookup.misnamed.Tie as tie
 
--- src/lookup.rt:98:9
 returns : tie.Need-returns
 returns c = λ b. rw (le-leb longName _ (c .if1 .taken))
 
--- src/lookup.rt:100:8
 declared-requires : tie.Need-declared-requires
 declared-requires c κs = search needs
 
--- src/lookup.rt:101:9
 returns-2 : tie.Need-returns-2
 returns-2 c = λ b. rw (lt-leb longName _ (c .before .before .if1 .left), sym (c .before .declared .ensures b) ∙ c .if2 .taken)
 
--- src/lookup.rt:103:5
 most-requires : tie.Need-most-requires
 most-requires c κs = search needs
 
--- src/lookup.rt:103:19
 held-requires : tie.Need-held-requires
 held-requires c κs = search needs
 
--- src/lookup.rt:94:1
 returns-3 : tie.Need-returns-3
 returns-3 c = λ b. rw (lt-leb longName _ (c .before .before .before .before .if1 .left), sym (c .before .before .before .declared .ensures b) ∙ c .before .before .if2 .left, c .before .most .ensures, c .held .ensures (now (c .before .before .before .before .before .args .names)) b)
 

@@ -3,11 +3,9 @@ use borrow.Author.Needs.{needs}
 use Rattle.rule.proofs.memory.blamed.Statement.{statement}
 use Rattle.rule.proofs.memory.blamed.Tie as tie
 
--- src/memory.rt:89:15
 first-requires : tie.Need-first-requires
 first-requires c κs = search needs
 
--- src/memory.rt:81:1
 returns : tie.Need-returns
 unfolding mem
 returns c = λ tb b. rw (c .first .ensures)

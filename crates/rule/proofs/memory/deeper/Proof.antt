@@ -4,16 +4,13 @@ use borrow.Author.Needs.{needs}
 use Rattle.rule.proofs.memory.deeper.Statement.{statement}
 use Rattle.rule.proofs.memory.deeper.Tie as tie
 
--- src/memory.rt:52:21
 add-result : tie.Need-add-result
 add-result c = search needs
 
--- src/memory.rt:49:1
 returns : tie.Need-returns
 unfolding deeper
 returns c = rw (le-leb _ _ (c .if1 .taken))
 
--- src/memory.rt:49:1
 returns-2 : tie.Need-returns-2
 unfolding deeper
 returns-2 c = rw (lt-leb _ _ (c .if1 .left))

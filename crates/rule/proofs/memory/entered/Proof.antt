@@ -3,12 +3,10 @@ use Rattle.rule.specs.Memory.{mem, acts}
 use Rattle.rule.proofs.memory.entered.Statement.{statement}
 use Rattle.rule.proofs.memory.entered.Tie as tie
 
--- src/memory.rt:60:9
 returns : tie.Need-returns
 unfolding mem acts
 returns c = λ text tb b. rw (le-ltb 16 _ (c .if1 .taken))
 
--- src/memory.rt:56:1
 returns-2 : tie.Need-returns-2
 unfolding mem acts
 returns-2 c = λ text tb b. rw (lt-ltb 16 _ (c .if1 .left))

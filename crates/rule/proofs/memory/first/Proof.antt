@@ -3,15 +3,12 @@ use borrow.Author.Needs.{needs}
 use Rattle.rule.proofs.memory.first.Statement.{statement}
 use Rattle.rule.proofs.memory.first.Tie as tie
 
--- src/memory.rt:77:17
 add-result : tie.Need-add-result
 add-result c = search needs
 
--- src/memory.rt:73:1
 returns : tie.Need-returns
 returns c = rw (eq-eqb _ _ (c .before .if1 .taken))
 
--- src/memory.rt:73:1
 returns-2 : tie.Need-returns-2
 returns-2 c = rw (ne-eqb _ _ (c .if1 .left))
 

@@ -3,31 +3,24 @@ use borrow.Author.Needs.{needs}
 use Rattle.rule.proofs.memory.over.Statement.{statement}
 use Rattle.rule.proofs.memory.over.Tie as tie
 
--- src/memory.rt:120:29
 enum-told : tie.Need-enum-told
 enum-told c = search needs
 
--- src/memory.rt:121:31
 enum-told-2 : tie.Need-enum-told-2
 enum-told-2 c = search needs
 
--- src/memory.rt:122:28
 enum-told-3 : tie.Need-enum-told-3
 enum-told-3 c = search needs
 
--- src/memory.rt:116:1
 returns : tie.Need-returns
 returns c = rw (c .enum-told .given .1)
 
--- src/memory.rt:116:1
 returns-2 : tie.Need-returns-2
 returns-2 c = rw (c .before .enum-told2 .given .1, eq-eqb _ _ (c .if1 .taken))
 
--- src/memory.rt:116:1
 returns-3 : tie.Need-returns-3
 returns-3 c = rw (c .before .enum-told2 .given .1, ne-eqb _ _ (c .if1 .left))
 
--- src/memory.rt:116:1
 returns-4 : tie.Need-returns-4
 returns-4 c = rw (c .enum-told3 .given .1)
 

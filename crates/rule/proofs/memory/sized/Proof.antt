@@ -5,24 +5,19 @@ use borrow.Author.Needs.{needs}
 use Rattle.rule.proofs.memory.sized.Statement.{statement}
 use Rattle.rule.proofs.memory.sized.Tie as tie
 
--- src/memory.rt:131:9
 number-at-requires : tie.Need-number-at-requires
 number-at-requires c κs = search needs
 
--- src/memory.rt:132:8
 over-requires : tie.Need-over-requires
 over-requires c κs = search needs
 
--- src/memory.rt:136:21
 first-requires : tie.Need-first-requires
 first-requires c κs = search needs
 
--- src/memory.rt:133:9
 returns : tie.Need-returns
 unfolding mem acts
 returns c = λ tb b. rw (ap (λ v. beyond (c .before .before .before .before .before .args .limit) v) (sym (c .before .before .before .number-at .ensures)) ∙ (sym (c .before .before .over .ensures) ∙ c .before .if1 .taken), c .first .ensures)
 
--- src/memory.rt:127:1
 returns-2 : tie.Need-returns-2
 unfolding mem acts
 returns-2 c = λ tb b. rw (ap (λ v. beyond (c .before .before .before .before .args .limit) v) (sym (c .before .before .number-at .ensures)) ∙ (sym (c .before .over .ensures) ∙ c .if1 .left))

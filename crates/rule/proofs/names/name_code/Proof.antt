@@ -3,7 +3,7 @@ use mathlib.Core.Path.{_≡_, sym, ap, _∙_}
 use Prim.Native.Nat.{ℕ, _≤_, _-_, _+_, _*_}
 use lib.ListN.{length, drop}
 use Rattle.rule.specs.Name.{code}
-use Rattle.rule.proofs.Codes.{top, code-end, code-back, code-room, short-code, long-code}
+use Rattle.rule.proofs.TokenCodes.{top, code-end, code-back, code-room, short-code, long-code}
 use borrow.Author.Needs.{needs}
 use native.Mathlib.Omega.{arith}
 use Rattle.rule.proofs.names.name_code.Statement.{statement}

@@ -4,7 +4,7 @@ use Prim.Native.Nat.{ℕ, _≤_, _-_, _+_, min}
 use lib.ListN.{length, drop}
 use Rattle.rule.specs.Number.{most, numberValue}
 use Rattle.rule.specs.Spelling.{decimal, decimalFrom}
-use Rattle.rule.proofs.Decimals.{digit-more, digits-end}
+use Rattle.rule.proofs.TokenDecimals.{digit-more, digits-end}
 use borrow.Author.Needs.{needs}
 use native.Mathlib.Omega.{arith}
 use Rattle.rule.proofs.numerals.number_value.Statement.{statement}

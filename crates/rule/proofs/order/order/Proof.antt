@@ -7,7 +7,7 @@ use Rattle.rule.specs.Frames.{frameCount}
 use Rattle.rule.specs.References.{referencesTo, oneMore, referenceCount}
 use Rattle.rule.specs.Order.{prefixAt, viable, stuck, placed, ended, orderOf}
 use Rattle.rule.specs.declared.Frame.{Frame}
-use Rattle.rule.proofs.Prefix.{prefix-next, counts, stuck-at, count-next, count-le}
+use Rattle.rule.proofs.FrameOrder.{prefix-next, counts, stuck-at, count-next, count-le}
 use Rattle.rule.proofs.order.order.Statement.{statement}
 use Rattle.rule.proofs.order.order.Tie as tie
 

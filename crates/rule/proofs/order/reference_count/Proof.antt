@@ -5,7 +5,7 @@ use native.Mathlib.Omega.{arith}
 use borrow.Author.Needs.{needs}
 use Rattle.rule.specs.Frames.{frameCount}
 use Rattle.rule.specs.References.{referencesTo, oneMore, referenceCount}
-use Rattle.rule.proofs.Prefix.{count-next, count-le}
+use Rattle.rule.proofs.FrameOrder.{count-next, count-le}
 use Rattle.rule.proofs.order.reference_count.Statement.{statement}
 use Rattle.rule.proofs.order.reference_count.Tie as tie
 

@@ -10,7 +10,7 @@ use Rattle.numbers.proofs.Bools.{and-true}
 use Rattle.rule.specs.Frames.{absolute, negation}
 use Rattle.rule.specs.Order.{stepBy}
 use Rattle.rule.specs.declared.order.Shape.the-variants.{Good}
-use Rattle.rule.proofs.KindBytes.{kind-at, operand-range, arithmetic-at, relation-at, connective-at, none-00, none-04, none-15, none-27, none-35}
+use Rattle.rule.proofs.FrameKinds.{kind-at, operand-range, arithmetic-at, relation-at, connective-at, none-00, none-04, none-15, none-27, none-35}
 use Rattle.rule.proofs.order.step.Statement.{statement}
 use Rattle.rule.proofs.order.step.Tie as tie
 

@@ -9,7 +9,7 @@ use Rattle.rule.specs.Memory.{mem}
 use Rattle.rule.specs.Reading.{afterCheck}
 use Rattle.rule.specs.declared.Reading.{Reading}
 use Rattle.rule.specs.declared.Checked.{Checked}
-use Rattle.rule.proofs.Conclude.{four, five, six-deep, six-frames, seven-eight}
+use Rattle.rule.proofs.ReaderConclusion.{four, five, six-deep, six-frames, seven-eight}
 use borrow.Author.Needs.{needs}
 use Rattle.rule.proofs.reader.conclude.Statement.{statement}
 use Rattle.rule.proofs.reader.conclude.Tie as tie

@@ -1,4 +1,4 @@
-use Rattle.rule.proofs.Close.{nothing-left, something-left}
+use Rattle.rule.proofs.ReaderEnd.{nothing-left, something-left}
 use borrow.Author.Needs.{needs}
 use Rattle.rule.proofs.reader.ended.Statement.{statement}
 use Rattle.rule.proofs.reader.ended.Tie as tie

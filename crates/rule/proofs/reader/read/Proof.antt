@@ -10,8 +10,8 @@ use Rattle.rule.specs.Memory.{Mem}
 use Rattle.rule.specs.Reading.{answerOf}
 use Rattle.rule.specs.declared.Reading.{Reading}
 use Rattle.rule.specs.declared.memory.Step.{Step}
-use Rattle.rule.proofs.Close.{OkA}
-use Rattle.rule.proofs.Conclude.{one, two-none, two-many, three, starts, judged-ok, kept-name, kept-number, kept-long}
+use Rattle.rule.proofs.ReaderEnd.{OkA}
+use Rattle.rule.proofs.ReaderConclusion.{one, two-none, two-many, three, starts, judged-ok, kept-name, kept-number, kept-long}
 use borrow.Author.Needs.{needs}
 use Rattle.rule.proofs.reader.read.Statement.{statement}
 use Rattle.rule.proofs.reader.read.Tie as tie

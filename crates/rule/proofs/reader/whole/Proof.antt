@@ -6,9 +6,9 @@ use Rattle.rule.specs.Token.{notesKind}
 use Rattle.rule.specs.Class.{semicolon}
 use Rattle.rule.specs.Machine.{want}
 use Rattle.rule.specs.Machine as machine
-use Rattle.rule.specs.Does.{onward}
+use Rattle.rule.specs.ReadsPart.{onward}
 use Rattle.rule.specs.declared.parts.Role.the-variants.{Note}
-use Rattle.rule.proofs.Does.{then, stop, as-is}
+use Rattle.rule.proofs.ReaderParts.{then, stop, as-is}
 use borrow.Author.Needs.{needs}
 use Rattle.rule.proofs.reader.whole.Statement.{statement}
 use Rattle.rule.proofs.reader.whole.Tie as tie

@@ -3,7 +3,7 @@ use denote.Ref.{now}
 use Rattle.rule.specs.Class.{closeParen, closeBracket}
 use Rattle.rule.specs.Machine.{want}
 use Rattle.rule.specs.Machine as machine
-use Rattle.rule.proofs.Does.{then, stop, as-is}
+use Rattle.rule.proofs.ReaderParts.{then, stop, as-is}
 use native.Mathlib.Omega.{arith}
 use borrow.Author.Needs.{needs}
 use Rattle.rule.proofs.references.ref_brackets.Statement.{statement}

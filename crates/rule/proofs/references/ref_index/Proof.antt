@@ -2,7 +2,7 @@ use borrow.Author.Tests.{ne-eqb}
 use mathlib.Core.Path.{_≡_, refl}
 use denote.Ref.{now}
 use Rattle.rule.specs.Machine.{step, finish}
-use Rattle.rule.proofs.Does.{least, fail, take, beyond, inside}
+use Rattle.rule.proofs.ReaderParts.{least, fail, take, beyond, inside}
 use native.Mathlib.Omega.{arith}
 use borrow.Author.Needs.{needs}
 use Rattle.rule.proofs.references.ref_index.Statement.{statement}

@@ -4,7 +4,7 @@ use Rattle.rule.specs.Token.{indexKind}
 use Rattle.rule.specs.Machine.{want}
 use Rattle.rule.specs.Machine as machine
 use Rattle.rule.specs.declared.parts.Scale.the-variants.{Times}
-use Rattle.rule.proofs.Does.{then, stop, as-is}
+use Rattle.rule.proofs.ReaderParts.{then, stop, as-is}
 use native.Mathlib.Omega.{arith}
 use borrow.Author.Needs.{needs}
 use Rattle.rule.proofs.references.ref_scaled.Statement.{statement}

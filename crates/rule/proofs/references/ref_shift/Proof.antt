@@ -4,7 +4,7 @@ use denote.Ref.{now}
 use Rattle.rule.specs.Machine.{step, finish, out}
 use Rattle.rule.specs.Draft.{ref}
 use Rattle.rule.specs.declared.parts.Shift.the-variants.{Unshifted}
-use Rattle.rule.proofs.Does.{then-does, idle, least, same, take, beyond}
+use Rattle.rule.proofs.ReaderParts.{then-does, idle, least, same, take, beyond}
 use native.Mathlib.Omega.{arith}
 use borrow.Author.Needs.{needs}
 use Rattle.rule.proofs.references.ref_shift.Statement.{statement}

@@ -1,7 +1,7 @@
 use mathlib.Core.List.{_∷_}
 use denote.Ref.{now}
 use Rattle.rule.specs.Machine as machine
-use Rattle.rule.proofs.Does.{then, stop, as-is}
+use Rattle.rule.proofs.ReaderParts.{then, stop, as-is}
 use native.Mathlib.Omega.{arith}
 use borrow.Author.Needs.{needs}
 use Rattle.rule.proofs.references.reference.Statement.{statement}

@@ -6,8 +6,8 @@ use lib.ListN.{getD}
 use borrow.Author.Needs.{needs}
 use Rattle.rule.specs.Sizes.{pushed, topped}
 use Rattle.rule.specs.Stack.{stackOf}
-use Rattle.rule.proofs.Stack.{stack-two}
-use Rattle.rule.proofs.Magnitudes.{pushed-capped}
+use Rattle.rule.proofs.FrameStack.{stack-two}
+use Rattle.rule.proofs.FrameMagnitudes.{pushed-capped}
 use Rattle.rule.proofs.sizes.product_top.Statement.{statement}
 use Rattle.rule.proofs.sizes.product_top.Tie as tie
 

@@ -7,7 +7,7 @@ use borrow.Author.Needs.{needs}
 use borrow.Author.Tests.{le-leb, lt-leb}
 use Rattle.rule.specs.Limits.{magnitudeLimit}
 use Rattle.rule.specs.Sizes.{fits}
-use Rattle.rule.proofs.Stack.{stack-push}
+use Rattle.rule.proofs.FrameStack.{stack-push}
 use Rattle.rule.proofs.sizes.push.Statement.{statement}
 use Rattle.rule.proofs.sizes.push.Tie as tie
 

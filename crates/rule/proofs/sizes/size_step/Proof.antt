@@ -9,8 +9,8 @@ use mir.ValLaws.{toZ-ofZ}
 use Rattle.rule.specs.Frames.{literal, instance, reference, multiply, Kind, operand, arithmetic, kindOf}
 use Rattle.rule.specs.Sizes.{pushed, topped, sized}
 use Rattle.rule.specs.Stack.{stackOf, Ready}
-use Rattle.rule.proofs.KindBytes.{kind-at, sum-range, relation-at, keeping-low, keeping-14, keeping-27}
-use Rattle.rule.proofs.Magnitudes.{sized-keeping}
+use Rattle.rule.proofs.FrameKinds.{kind-at, sum-range, relation-at, keeping-low, keeping-14, keeping-27}
+use Rattle.rule.proofs.FrameMagnitudes.{sized-keeping}
 use Rattle.rule.proofs.sizes.size_step.Statement.{statement}
 use Rattle.rule.proofs.sizes.size_step.Tie as tie
 

@@ -10,8 +10,8 @@ use mir.ValLaws.{toZ-ofZ}
 use Rattle.rule.specs.Frames.{kindOf, frameCount}
 use Rattle.rule.specs.Sizes.{sized, sizeAt, fits, over, isFits, sizesFit}
 use Rattle.rule.specs.Stack.{stackOf, loaded}
-use Rattle.rule.proofs.Magnitudes.{over-at, size-again}
-use Rattle.rule.proofs.Link.{size-ready}
+use Rattle.rule.proofs.FrameMagnitudes.{over-at, size-again}
+use Rattle.rule.proofs.FrameStacks.{size-ready}
 use Rattle.rule.proofs.sizes.sizes_fit.Statement.{statement}
 use Rattle.rule.proofs.sizes.sizes_fit.Tie as tie
 

@@ -4,7 +4,7 @@ use Prim.Native.Nat.{_-_, _+_}
 use native.Mathlib.Omega.{arith}
 use borrow.Author.Needs.{needs}
 use Rattle.rule.specs.Sizes.{topped}
-use Rattle.rule.proofs.Stack.{stack-two}
+use Rattle.rule.proofs.FrameStack.{stack-two}
 use Rattle.rule.proofs.sizes.sum_top.Statement.{statement}
 use Rattle.rule.proofs.sizes.sum_top.Tie as tie
 

@@ -10,9 +10,9 @@ use Rattle.rule.specs.Class.{closeParen}
 use Rattle.rule.specs.Machine.{step, finish, startFactor, out, want, doing}
 use Rattle.rule.specs.Machine as machine
 use Rattle.rule.specs.Draft.{alone, plain}
-use Rattle.rule.specs.Does.{signByte}
-use Rattle.rule.proofs.Does.{then, stop, then-does, idle, as-is, least, same, fail, take, beyond, inside}
-use Rattle.rule.proofs.Marked.{sign-some, sign-pass, sign-step}
+use Rattle.rule.specs.ReadsPart.{signByte}
+use Rattle.rule.proofs.ReaderParts.{then, stop, then-does, idle, as-is, least, same, fail, take, beyond, inside}
+use Rattle.rule.proofs.ReaderMarks.{sign-some, sign-pass, sign-step}
 use borrow.Author.Needs.{needs}
 use borrow.Fn.Kinds.{In}
 use borrow.Fn.PlainCycle.{Measures, is, falls, and}

@@ -1,5 +1,5 @@
 use borrow.Author.Tests.{eq-eqb, ne-eqb}
-use Rattle.rule.specs.Does.{signByte}
+use Rattle.rule.specs.ReadsPart.{signByte}
 use Rattle.rule.proofs.sums.sign_kind.Statement.{statement}
 use Rattle.rule.proofs.sums.sign_kind.Tie as tie
 

@@ -1,7 +1,7 @@
 -- `rule::tokens::mark_of` meets its contract: in each arm the tests that led there say which mark it is. Assumes nothing.
 use borrow.Author.Tests.{eq-eqb, ne-eqb}
 use Rattle.rule.specs.Token.{markOf}
-use Rattle.rule.proofs.Marks.{mark-alone, mark-none}
+use Rattle.rule.proofs.TokenMarks.{mark-alone, mark-none}
 use borrow.Author.Needs.{needs}
 use Rattle.rule.proofs.tokens.mark_of.Statement.{statement}
 use Rattle.rule.proofs.tokens.mark_of.Tie as tie

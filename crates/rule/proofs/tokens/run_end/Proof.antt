@@ -3,7 +3,7 @@ use mathlib.Core.Path.{_≡_, sym, _∙_}
 use Prim.Native.Nat.{_≤_, _+_, _-_}
 use lib.ListN.{length, drop}
 use Rattle.rule.specs.Class.{span}
-use Rattle.rule.proofs.Span.{span-end, span-stop, span-more}
+use Rattle.rule.proofs.TokenSpans.{span-end, span-stop, span-more}
 use borrow.Author.Needs.{needs}
 use native.Mathlib.Omega.{arith}
 use Rattle.rule.proofs.tokens.run_end.Statement.{statement}

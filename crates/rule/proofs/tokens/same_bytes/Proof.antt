@@ -3,7 +3,7 @@ use mathlib.Core.Path.{_≡_, refl, sym, _∙_}
 use Prim.Native.Nat.{_≤_, _-_}
 use lib.ListN.{length, drop}
 use Rattle.rule.specs.Token.{same}
-use Rattle.rule.proofs.Words.{same-longer, same-end, same-more, same-differ}
+use Rattle.rule.proofs.TokenWords.{same-longer, same-end, same-more, same-differ}
 use borrow.Author.Needs.{needs}
 use native.Mathlib.Omega.{arith}
 use Rattle.rule.proofs.tokens.same_bytes.Statement.{statement}

@@ -1,7 +1,7 @@
 -- `rule::tokens::token_at` meets its contract: each answer is the law of `Here` for its class. Assumes nothing.
 use mathlib.Core.Path.{refl}
-use Rattle.rule.proofs.Marks.{width-some}
-use Rattle.rule.proofs.Here.{none, word, number, mark-here, foreign-here}
+use Rattle.rule.proofs.TokenMarks.{width-some}
+use Rattle.rule.proofs.TokenNext.{none, word, number, mark-here, foreign-here}
 use native.Mathlib.Omega.{arith}
 use borrow.Author.Needs.{needs}
 use Rattle.rule.proofs.tokens.token_at.Statement.{statement}

@@ -1,0 +1,90 @@
+-- What 12 lets through: the facts that a feed and a pull go by, and 12 field by field. Assumes nothing.
+use mathlib.Core.Path.{_≡_, refl, sym, ap, _∙_}
+use mathlib.Core.Bool.{Bool, true, false, _&&_}
+use mathlib.Core.List.{List}
+use Prim.Native.Nat.{ℕ, _*_, _<_, _≤_}
+use borrow.Author.Tests.{leb-true, eqb-true, le-leb, lt-leb}
+use lib.Dec.{leb, eqb}
+use lib.IntN.{ℤ}
+use lib.ListN.{getD, take}
+use Rattle.numbers.proofs.Bools.{true-false, and-true}
+use Rattle.rule.specs.Limits.{eventLimit, frameLimit, frameBytes}
+use Rattle.rule.specs.Check.{checkedOf}
+use Rattle.rule.specs.declared.Checked.{Checked}
+use Rattle.rule.specs.declared.Checked.the-variants.{Accepted, Refused}
+use Rattle.verdict.specs.Found.{instanceLimit}
+use Rattle.checker.specs.Limits.{widthLimit}
+use Rattle.checker.specs.State.{sumOf, tallyIn, stateFrames, refsIn}
+use Rattle.checker.specs.Open.{widthFits}
+use Rattle.checker.specs.StateTest.{isAccepted, allTo, countPasses, rulePasses, tallyPasses, statePasses}
+use Rattle.checker.specs.BasePass.{basesOf, countFits, ruleFits, tallyFits}
+use Rattle.checker.specs.Offer.{Countable}
+use Rattle.checker.specs.Parts.{stateOf}
+use Rattle.checker.specs.Ready.{Ready}
+use Rattle.checker.specs.declared.parts.Fields.{Fields}
+use Rattle.checker.specs.declared.Totals.{Totals}
+use Rattle.checker.specs.declared.State.{State}
+use Rattle.checker.proofs.Admissions.{in-good}
+
+-- ---- a good state
+pub record Facts (s : State) : Type 0 where
+  pub few : s .len ≤ frameLimit
+  pub accepted : checkedOf (stateFrames s) ≡ Accepted
+  pub some : 1 ≤ s .width
+  pub most : s .width ≤ widthLimit
+  pub totals : Countable (s .totals) (s .next .0)
+
+accepted-by : (x : Checked) → isAccepted x ≡ true → x ≡ Accepted
+accepted-by Accepted e = refl
+accepted-by (Refused r) e = absurd (true-false (sym e))
+
+pub good-facts : (s : State) → statePasses s ≡ true → Facts s
+unfolding statePasses rulePasses tallyPasses
+good-facts s e =
+    let a = and-true (rulePasses s) (tallyPasses (refsIn s) (s .width) (tallyIn s)) e in
+    let b = and-true (leb (s .len) frameLimit && isAccepted (checkedOf (stateFrames s))) (widthFits (s .width)) (a .0) in
+    let f = and-true (leb (s .len) frameLimit) (isAccepted (checkedOf (stateFrames s))) (b .0) in
+    let w = and-true (leb 1 (s .width)) (leb (s .width) widthLimit) (b .1) in
+    let t = and-true (allTo eventLimit (countPasses (refsIn s) (s .width) (tallyIn s))) (leb (s .next .0) instanceLimit && eqb (sumOf (s .totals)) (s .next .0)) (a .1) in
+    let u = and-true (leb (s .next .0) instanceLimit) (eqb (sumOf (s .totals)) (s .next .0)) (t .1) in
+    record {
+      few = leb-true (s .len) frameLimit (f .0);
+      accepted = accepted-by (checkedOf (stateFrames s)) (f .1);
+      some = leb-true 1 (s .width) (w .0);
+      most = leb-true (s .width) widthLimit (w .1);
+      totals = record { sum = eqb-true (sumOf (s .totals)) (s .next .0) (u .1); low = leb-true (s .next .0) instanceLimit (u .0) };
+    }
+
+-- the same of what the inner calls require
+pub ready-facts : {frames : List ℕ} {f : Fields} {win : List ℤ} → Ready frames f win → Facts (stateOf frames f)
+ready-facts {frames} {f} {win} r = good-facts (stateOf frames f) (in-good (stateOf frames f) win (r .let-in))
+
+-- ---- 12, field by field
+pub rule-facts : (frames : List ℕ) (n w : ℕ) → ruleFits frames n w ≡ true → (n ≤ frameLimit) × (checkedOf (take (n * frameBytes) frames) ≡ Accepted)
+rule-facts frames n w e =
+    let r = and-true (leb n frameLimit && isAccepted (checkedOf (take (n * frameBytes) frames))) (widthFits w) e in
+    let f = and-true (leb n frameLimit) (isAccepted (checkedOf (take (n * frameBytes) frames))) (r .0) in
+    (leb-true n frameLimit (f .0), accepted-by (checkedOf (take (n * frameBytes) frames)) (f .1))
+
+pub good-by : (s : State) (r : Bool) → ruleFits (s .frames) (s .len) (s .width) ≡ true → r ≡ tallyPasses (refsIn s) (s .width) (tallyIn s) → r ≡ statePasses s
+unfolding statePasses rulePasses
+good-by s r q e = e ∙ sym (ap (λ (x : Bool). x && tallyPasses (refsIn s) (s .width) (tallyIn s)) q)
+
+pub bad-by : (s : State) → ruleFits (s .frames) (s .len) (s .width) ≡ false → false ≡ statePasses s
+unfolding statePasses rulePasses
+bad-by s q = sym (ap (λ (x : Bool). x && tallyPasses (refsIn s) (s .width) (tallyIn s)) q)
+
+abbrev allFit : ℕ → List ℕ → List ℕ → Bool
+allFit w bases counts = allTo eventLimit (λ e. countFits w (getD bases e 0) (getD counts e 0))
+
+pub tally-by : (s : List ℕ) (w : ℕ) (counts : List ℕ) (p : ℕ) (totals : Totals) (bases : List ℕ) (a b : Bool) → p ≤ instanceLimit → bases ≡ basesOf s p
+    → a ≡ allTo eventLimit (λ e. countFits w (getD bases e 0) (getD counts e 0)) → b ≡ eqb (sumOf totals) p → (a && b) ≡ tallyFits s w counts p totals
+unfolding tallyFits
+tally-by s w counts p totals bases a b h l ea eb =
+    ap (λ (x : Bool). x && b) (ea ∙ ap (λ (x : List ℕ). allFit w x counts) l)
+    ∙ ap (λ (y : Bool). allFit w (basesOf s p) counts && y) eb
+    ∙ sym (ap (λ (x : Bool). x && (allFit w (basesOf s p) counts && eqb (sumOf totals) p)) (le-leb p instanceLimit h))
+
+pub tally-no : (s : List ℕ) (w : ℕ) (counts : List ℕ) (p : ℕ) (totals : Totals) → instanceLimit < p → false ≡ tallyFits s w counts p totals
+unfolding tallyFits
+tally-no s w counts p totals h = sym (ap (λ (x : Bool). x && (allFit w (basesOf s p) counts && eqb (sumOf totals) p)) (lt-leb p instanceLimit h))

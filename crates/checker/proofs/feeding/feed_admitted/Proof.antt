@@ -1,0 +1,45 @@
+-- `checker::feeding::feed_admitted` meets its contract. Assumes nothing.
+use mathlib.Core.Path.{sym}
+use native.Mathlib.Omega.{arith}
+use lib.Seq.{length-take-le}
+use borrow.Author.Needs.{needs}
+use Rattle.checker.proofs.CodeStateTest.{ready-facts}
+use Rattle.checker.proofs.feeding.feed_admitted.Statement.{statement}
+use Rattle.checker.proofs.feeding.feed_admitted.Tie as tie
+
+cast-n : tie.Need-cast-n
+cast-n c = search needs
+
+mul-n : tie.Need-mul-n
+mul-n c = omega (arith, ready-facts (c .before .before .before .pre) .few)
+
+slice-aggregate-bases : tie.Need-slice-aggregate-bases
+slice-aggregate-bases c =
+    let p = c .before .before .before .before .before .pre in
+    sym (length-take-le _ _ (omega (arith, p .long, ready-facts p .few)))
+
+bases-requires : tie.Need-bases-requires
+bases-requires c κs =
+    let f = ready-facts (c .before .before .before .before .before .pre) in
+    record { accepted = f .accepted; instance-in = f .totals .low }
+
+feed-with-requires : tie.Need-feed-with-requires
+feed-with-requires c κs = (c .before .before .before .before .before .before .before .pre, c .before .bases .ensures)
+
+same-length : tie.Need-same-length
+same-length c = search needs
+
+returns : tie.Need-returns
+returns c = c .before .feed-with .ensures
+
+pub feed-admitted-spec : {M : Type 1} → statement M
+feed-admitted-spec =
+    tie.close
+    (tie.spec
+    cast-n
+    mul-n
+    slice-aggregate-bases
+    bases-requires
+    feed-with-requires
+    same-length
+    returns)

@@ -1,0 +1,22 @@
+// The limits of the window, the counts and the report, each named once, as specs/Limits names them.
+
+// W is 1 to 256.
+pub const WIDTH_LIMIT: u32 = 256;
+
+// Window is the document's term: it has 32 × W words.
+pub const WIDTH_WORDS: usize = 32;
+
+// An event has at most 1,000,000 lines.
+pub const LINE_LIMIT: u32 = 1000000;
+
+// No instance number is larger.
+pub const INSTANCE_LIMIT: u32 = 1009999;
+
+// A report buffer has at least 166 bytes.
+pub const REPORT_LEAST: usize = 166;
+
+// At most 64 frames, as the state counts them.
+pub const FRAME_LIMIT: u32 = rule::limits::FRAME_LIMIT as u32;
+
+// At most 8 events, as places of the counts.
+pub const COUNT_PLACES: usize = rule::limits::EVENT_LIMIT as usize;
