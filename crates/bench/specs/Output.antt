@@ -51,8 +51,11 @@ openedFor frames = openDef frames benchWidth (replicate (windowWords benchWidth)
 -- "A refused rule prints .. the only line"
 abbrev pub afterReading : List ℕ → List ℕ → Reading → List ℕ
 afterReading log buffer (Refused r) = refusedLine r
-afterReading log buffer (Frames n) = afterOpening log (openedFor (take (n * frameBytes) buffer)) (openedFor (take (n * frameBytes) buffer) .answer)
+afterReading log buffer (Frames n) =
+    afterOpening log (openedFor (take (n * frameBytes) buffer)) (openedFor (take (n * frameBytes) buffer) .answer)
 
 -- for a rule's text and a log
 abbrev pub outputOf : List ℕ → List ℕ → List ℕ
-outputOf text log = afterReading log (readOf text (replicate (frameLimit * frameBytes) 0) .1) (readOf text (replicate (frameLimit * frameBytes) 0) .0)
+outputOf text log =
+    afterReading log (readOf text (replicate (frameLimit * frameBytes) 0) .1)
+    (readOf text (replicate (frameLimit * frameBytes) 0) .0)

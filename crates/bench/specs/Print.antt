@@ -24,7 +24,8 @@ hexLine bytes = hexOf bytes ++ lineFeed
 -- "true, false, unknown, accepted, ignored, refused, 4 bytes each"
 abbrev pub totalsBytes : Totals → Counts → List ℕ
 totalsBytes t c =
-    wordBytes (t .held) (wordBytes (t .failed) (wordBytes (t .unknown) (wordBytes (c .accepted) (wordBytes (c .ignored) (wordBytes (c .refused) [])))))
+    wordBytes (t .held) (wordBytes (t .failed) (wordBytes (t .unknown)
+    (wordBytes (c .accepted) (wordBytes (c .ignored) (wordBytes (c .refused) [])))))
 
 -- ".. on one line"
 abbrev pub totalsLine : Totals → Counts → List ℕ

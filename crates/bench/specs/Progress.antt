@@ -125,7 +125,13 @@ unfoldable pub afterBytes : Chunked → List ℕ → Chunked
 afterBytes o [] = o
 afterBytes o (b ∷ s) =
     afterBytes
-    (cond (eqb b 10) (record { progress = afterLine (o .progress) (o .held); held = [] }) (record { progress = o .progress; held = kept (o .held) (b ∷ []) }))
+    (cond (eqb b 10) (record {
+      progress = afterLine (o .progress) (o .held);
+      held = [];
+    }) (record {
+      progress = o .progress;
+      held = kept (o .held) (b ∷ []);
+    }))
     s
 
 -- what is held, if anything is

@@ -31,7 +31,8 @@ fn put_byte(out: &mut [u8], at: usize, b: u8)
 // The bytes as a line at a place; answers the place after it.
 pub fn put_line(out: &mut [u8], at: usize, bytes: &[u8]) -> usize
     requires { ⌜ at + (2 * length (now bytes) + 1) ≤ length (now out) ⌝ }
-    ensures { λ r. ⌜ (r ≡ at + (2 * length (now (bytes .entry)) + 1)) × (now (out .exit) ≡ sets (now (out .entry)) at (hexLine (now (bytes .entry)))) ⌝ }
+    ensures { λ r. ⌜ (r ≡ at + (2 * length (now (bytes .entry)) + 1))
+        × (now (out .exit) ≡ sets (now (out .entry)) at (hexLine (now (bytes .entry)))) ⌝ }
 {
     let mut n = at;
     let mut i = 0;

@@ -80,7 +80,8 @@ fn chunk(
     requires { ⌜ Holding (now frames) r (now carry) (now window) (now out) ⌝ }
     ensures { λ q. ⌜ Ready (now (frames .entry)) (q .fields) (now (window .exit))
         × ((q .full ≤ outBytes) × ((q .held ≤ keptLimit)
-        × AfterChunked (afterBytes (chunkedOf (now (frames .entry)) r (now (carry .entry)) (now (window .entry)) (now (out .entry))) (now (s .entry))) (chunkedOf (now (frames .entry)) q (now (carry .exit)) (now (window .exit)) (now (out .exit))))) ⌝ }
+        × AfterChunked (afterBytes (chunkedOf (now (frames .entry)) r (now (carry .entry)) (now (window .entry)) (now (out .entry)))
+        (now (s .entry))) (chunkedOf (now (frames .entry)) q (now (carry .exit)) (now (window .exit)) (now (out .exit))))) ⌝ }
 {
     let mut q = r;
     let mut at = 0;
@@ -124,7 +125,8 @@ fn turn(frames: &[u8], r: Run, carry: &mut [u8], window: &mut [i32], out: &mut [
 fn last(frames: &[u8], r: Run, carry: &[u8], window: &mut [i32], out: &mut [u8]) -> Run
     requires { ⌜ Holding (now frames) r (now carry) (now window) (now out) ⌝ }
     ensures { λ q. ⌜ (q .full ≤ outBytes)
-        × After (atEnd (chunkedOf (now (frames .entry)) r (now (carry .entry)) (now (window .entry)) (now (out .entry)))) (progressOf (now (frames .entry)) q (now (window .exit)) (now (out .exit))) ⌝ }
+        × After (atEnd (chunkedOf (now (frames .entry)) r (now (carry .entry)) (now (window .entry)) (now (out .entry))))
+        (progressOf (now (frames .entry)) q (now (window .exit)) (now (out .exit))) ⌝ }
 {
     let held = r.held;
     if held == 0 {
@@ -151,7 +153,8 @@ fn all(frames: &[u8], r: Run, carry: &mut [u8], window: &mut [i32], out: &mut [u
 // The totals behind what waits; answers how many bytes then wait.
 fn put_end(r: Run, out: &mut [u8]) -> usize
     requires { ⌜ (r .full ≤ outBytes) × (length (now out) ≡ outBytes) ⌝ }
-    ensures { λ n. ⌜ (n ≤ outBytes) × Ends (take n (now (out .exit))) (take (r .full) (now (out .entry)) ++ totalsLine (r .fields .totals) (r .counts)) ⌝ }
+    ensures { λ n. ⌜ (n ≤ outBytes) × Ends (take n (now (out .exit)))
+        (take (r .full) (now (out .entry)) ++ totalsLine (r .fields .totals) (r .counts)) ⌝ }
 {
     let full = r.full;
     let fields = r.fields;

@@ -48,7 +48,8 @@ fn report_length(references: u8) -> usize
 // A report as a line.
 fn say_report(out: &mut [u8], full: usize, report: &[u8]) -> usize
     requires { ⌜ (full ≤ outBytes) × ((length (now out) ≡ outBytes) × (length (now report) ≡ reportLeast)) ⌝ }
-    ensures { λ r. ⌜ (r ≤ outBytes) × Ends (take r (now (out .exit))) (take full (now (out .entry)) ++ hexLine (reportPart (now (report .entry)))) ⌝ }
+    ensures { λ r. ⌜ (r ≤ outBytes) × Ends (take r (now (out .exit)))
+        (take full (now (out .entry)) ++ hexLine (reportPart (now (report .entry)))) ⌝ }
 {
     let at = make_room(out, full);
     let n = report_length(report[5]);
@@ -150,7 +151,8 @@ fn counted(c: Counts, answer: FeedAnswer) -> Counts
 fn feed_line(frames: &[u8], r: Run, window: &mut [i32], line: &[u8]) -> Run
     requires { ⌜ Ready (now frames) (r .fields) (now window) ⌝ }
     ensures { λ q. ⌜ Ready (now (frames .entry)) (q .fields) (now (window .exit))
-        × ((q .held ≡ r .held) × ((q .full ≡ r .full) × ((out : List ℕ) → progressOf (now (frames .entry)) q (now (window .exit)) out
+        × ((q .held ≡ r .held) × ((q .full ≡ r .full)
+        × ((out : List ℕ) → progressOf (now (frames .entry)) q (now (window .exit)) out
         ≡ fedLine (progressOf (now (frames .entry)) r (now (window .entry)) out) (now (line .entry))))) ⌝ }
 {
     let before = r.fields;

@@ -1,11 +1,15 @@
+-- Laws of choices, of the window's words, of bases, of tallies, and of what 12 and 13 let through.
 mod Choices
 mod Ring
 mod Bases
 mod Tallies
 mod Admissions
+-- The plain machine and the checker: one call, a fresh checker, every list of calls.
 mod Simulation
 mod Fresh
 mod Lists
+mod Stays
+-- What follows for verdicts, totals, answers and reports: the third demand, and two lists for one rule.
 mod Final
 mod Sums
 mod Value
@@ -13,25 +17,29 @@ mod Text
 mod Agree
 mod Order
 mod Reports
-mod Views
-mod Earlier
 mod Never
 mod Exactly
 mod Unchanged
+-- Points of document 02: views, logs of the earlier edition, the rework tariff.
+mod Views
+mod Earlier
+mod Prices
+mod Charges
+-- Computed examples.
 mod Marked
 mod ViewExamples
 mod TariffExamples
-mod Prices
-mod Charges
+-- What the proofs of functions cite: opening, bases, the window, 12, feeding.
 mod CodeCopy
 mod CodeBase
 mod CodeRing
 mod CodeStateTest
 mod CodeFeed
-mod Stays
-pub mod Main
-pub mod Laws
+-- What the proofs of functions cite: marks and notes, the report, pulling.
 mod PullBits
 mod PullFound
 mod PullReport
 mod PullOffer
+-- What other crates cite, and the headline statements.
+pub mod Laws
+pub mod Main

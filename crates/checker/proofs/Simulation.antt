@@ -27,7 +27,7 @@ use Rattle.verdict.specs.declared.Verdict.{Verdict}
 use Rattle.verdict.specs.declared.Judgement.{Judgement}
 use Rattle.verdict.specs.declared.Judgement.the-variants.{Unsettled, True, False, Unknown}
 use Rattle.verdict.proofs.Main.{own-references}
-use Rattle.verdict.proofs.Laws.{found-same}
+use Rattle.verdict.proofs.Laws.{SameOn, found-same}
 use Rattle.checker.specs.Limits.{windowWords, lineLimit, reportLeast}
 use Rattle.checker.specs.Base.{referenced, orZero, base}
 use Rattle.checker.specs.State.{Tally, countOf, tallyIn, stateFrames, refsIn, withLine, withVerdict, withTally}
@@ -71,10 +71,6 @@ pub record Sim (frames : List ℕ) (w : ℕ) (m : Machine) (k : Checker) : Type 
 pub record Both (frames : List ℕ) (w : ℕ) (m : Machine) (k : Checker) : Type 0 where
   pub sound : Sound (references (treeOf frames)) w (tallyOf m)
   pub sim : Sim frames w m k
-
--- both say the same of each of the references
-abbrev SameOn : List Reference → (Reference → Found) → (Reference → Found) → Type 0
-SameOn rs found found′ = (r : Reference) → List·Memᴰ r rs → found r ≡ found′ r
 
 -- ---- counts
 pub count-of : (m : Machine) (e : ℕ) → e < 8 → countOf (tallyOf m) e ≡ length (m .lists e)

@@ -78,7 +78,8 @@ zeroState = stateWith (replicate (frameLimit * frameBytes) 0) 0 0 (tallyFrom 0)
 -- "the state .. that an unrefused opening gave back", zero after the last frame
 unfoldable pub freshState : List ℕ → ℕ → State
 freshState frames w =
-    stateWith (frames ++ replicate (frameLimit * frameBytes - length frames) 0) (length frames / frameBytes) w (tallyFrom (firstFor frames))
+    stateWith (frames ++ replicate (frameLimit * frameBytes - length frames) 0) (length frames / frameBytes) w
+    (tallyFrom (firstFor frames))
 
 -- "a state whose frames": those that its rule is
 abbrev pub stateFrames : State → List ℕ

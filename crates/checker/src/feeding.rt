@@ -60,7 +60,8 @@ fn feed_event(
     event: u8,
     notes: Notes,
 ) -> FedFields
-    requires { ⌜ Ready (now frames) fields (now window) × (bases ≡ basesOf (stateFrames (stateOf (now frames) fields)) (fields .next .0)) ⌝ }
+    requires { ⌜ Ready (now frames) fields (now window)
+        × (bases ≡ basesOf (stateFrames (stateOf (now frames) fields)) (fields .next .0)) ⌝ }
     ensures { λ r. ⌜ feedOutcome (fedOf (now (frames .entry)) r) (now (window .exit))
         ≡ fedBy (stateOf (now (frames .entry)) fields) (now (window .entry))
         (eventIn (stateOf (now (frames .entry)) fields) event (notesOf notes)) ⌝ }
@@ -96,7 +97,8 @@ fn feed_with(
     window: &mut [i32],
     line: &[u8],
 ) -> FedFields
-    requires { ⌜ Ready (now frames) fields (now window) × (bases ≡ basesOf (stateFrames (stateOf (now frames) fields)) (fields .next .0)) ⌝ }
+    requires { ⌜ Ready (now frames) fields (now window)
+        × (bases ≡ basesOf (stateFrames (stateOf (now frames) fields)) (fields .next .0)) ⌝ }
     ensures { λ r. ⌜ feedOutcome (fedOf (now (frames .entry)) r) (now (window .exit))
         ≡ feedDef (stateOf (now (frames .entry)) fields) (now (window .entry)) (now (line .entry)) ⌝ }
 {

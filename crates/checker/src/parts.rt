@@ -1,4 +1,5 @@
-// A state taken apart, put together and changed; only here its fields are listed. The frames are lent, the other fields go by value.
+// A state taken apart, put together and changed; only here its fields are listed. The frames are lent, the other fields go by
+// value.
 use crate::State;
 use crate::Totals;
 use verdict::Instance;

@@ -59,7 +59,11 @@ fn hand_out(fields: Fields, answer: PullAnswer, v: Verdict) -> PulledFields
 fn give(fields: Fields, judged: Judgement) -> PulledFields
     requires { ⌜ Countable (fields .totals) (fields .next .0) ⌝ }
     ensures { λ r. ⌜ ((fs report : List ℕ) → pullOutcome (pulledOf fs r) report
-        ≡ record { answer = pullAnswer (offered judged); state = stateAfter (stateOf fs fields) (offered judged); report = report }) ⌝ }
+        ≡ record {
+          answer = pullAnswer (offered judged);
+          state = stateAfter (stateOf fs fields) (offered judged);
+          report = report;
+        }) ⌝ }
 {
     match judged {
         Judgement::Unsettled => PulledFields {

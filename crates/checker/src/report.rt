@@ -70,7 +70,8 @@ fn put_entry(report: &mut [u8], at: usize, mark: u8, note: i32)
 // One frame more: a reference's entry, and where the next goes.
 fn put_frame(report: &mut [u8], at: usize, kind: u8, mark: u8, note: i32) -> usize
     requires { ⌜ (kind ≡ referenceByte → at + 5 ≤ length (now report)) ⌝ }
-    ensures { λ r. ⌜ (now (report .exit) ≡ cond (eqb kind referenceByte) (sets (now (report .entry)) at (entryOf mark note)) (now (report .entry))) × (r ≡ cond (eqb kind referenceByte) (at + 5) at) ⌝ }
+    ensures { λ r. ⌜ (now (report .exit) ≡ cond (eqb kind referenceByte) (sets (now (report .entry)) at (entryOf mark note))
+        (now (report .entry))) × (r ≡ cond (eqb kind referenceByte) (at + 5) at) ⌝ }
 {
     if kind == rule::REFERENCE {
         put_entry(report, at, mark, note);
@@ -83,7 +84,9 @@ fn put_frame(report: &mut [u8], at: usize, kind: u8, mark: u8, note: i32) -> usi
 // The report of instance p, by the marks and notes of accepted frames.
 pub fn fill(report: &mut [u8], frames: &[u8], p: Instance, marks: &[u8], notes: &[i32])
     requires { ⌜ Fillable (now frames) (length (now report)) (now marks) (now notes) ⌝ }
-    ensures { λ r. ⌜ now (report .exit) ≡ written (reportTo (now (frames .entry)) (now (marks .entry)) (now (notes .entry)) (headerOf (p .0) (referenceCount (now (frames .entry)))) (frameCount (now (frames .entry)))) (now (report .entry)) ⌝ }
+    ensures { λ r. ⌜ now (report .exit) ≡ written
+        (reportTo (now (frames .entry)) (now (marks .entry)) (now (notes .entry))
+        (headerOf (p .0) (referenceCount (now (frames .entry)))) (frameCount (now (frames .entry)))) (now (report .entry)) ⌝ }
 {
     let n = frames.len() / FRAME_BYTES;
     let count = rule::reference_count(frames);

@@ -92,8 +92,10 @@ fn unfit() -> Tested
 
 // Whether counts, p and totals are those of a checker with these frames.
 fn tally_fits(frames: &[u8], s: Fields) -> Tested
-    requires { ⌜ (length (now frames) ≡ frameLimit * frameBytes) × ((s .len ≤ frameLimit) × (checkedOf (take (s .len * frameBytes) (now frames)) ≡ Checked.Accepted)) ⌝ }
-    ensures { λ r. ⌜ (r .fits ≡ tallyFits (take (s .len * frameBytes) (now (frames .entry))) (s .width) (s .counts) (s .next .0) (s .totals)) × (r .fits ≡ true → r .bases ≡ basesOf (take (s .len * frameBytes) (now (frames .entry))) (s .next .0)) ⌝ }
+    requires { ⌜ (length (now frames) ≡ frameLimit * frameBytes)
+        × ((s .len ≤ frameLimit) × (checkedOf (take (s .len * frameBytes) (now frames)) ≡ Checked.Accepted)) ⌝ }
+    ensures { λ r. ⌜ (r .fits ≡ tallyFits (take (s .len * frameBytes) (now (frames .entry))) (s .width) (s .counts) (s .next .0)
+        (s .totals)) × (r .fits ≡ true → r .bases ≡ basesOf (take (s .len * frameBytes) (now (frames .entry))) (s .next .0)) ⌝ }
 {
     let p = s.next;
     if p.0 <= limits::INSTANCE_LIMIT {
@@ -113,7 +115,8 @@ fn tally_fits(frames: &[u8], s: Fields) -> Tested
 // Whether 12 lets a state through: its frames, with those after the last, and its other fields.
 pub fn state_passes(frames: &[u8], s: Fields) -> Tested
     requires { ⌜ length (now frames) ≡ frameLimit * frameBytes ⌝ }
-    ensures { λ r. ⌜ (r .fits ≡ statePasses (stateOf (now (frames .entry)) s)) × (r .fits ≡ true → r .bases ≡ basesOf (stateFrames (stateOf (now (frames .entry)) s)) (s .next .0)) ⌝ }
+    ensures { λ r. ⌜ (r .fits ≡ statePasses (stateOf (now (frames .entry)) s))
+        × (r .fits ≡ true → r .bases ≡ basesOf (stateFrames (stateOf (now (frames .entry)) s)) (s .next .0)) ⌝ }
 {
     if rule_fits(frames, s.len, s.width) {
         tally_fits(frames, s)

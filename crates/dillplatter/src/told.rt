@@ -52,7 +52,8 @@ fn plain(answer: u32) -> Told
 }
 
 fn refusal(r: Refusal) -> Told
-    ensures { λ t. ⌜ (t .answer ≡ answerOf (checked (refused (r .number) (r .place)))) × ((t .number ≡ r .number) × (t .place ≡ r .place)) ⌝ }
+    ensures { λ t. ⌜ (t .answer ≡ answerOf (checked (refused (r .number) (r .place))))
+        × ((t .number ≡ r .number) × (t .place ≡ r .place)) ⌝ }
 {
     Told {
         answer: REFUSED,
@@ -63,7 +64,8 @@ fn refusal(r: Refusal) -> Told
 
 // An answer to opening.
 pub fn opening(a: OpenAnswer) -> Told
-    ensures { λ r. ⌜ (r .answer ≡ answerOf (checked (openTold a))) × ((r .number ≡ numberOf (checked (openTold a))) × (r .place ≡ placeOf (checked (openTold a)))) ⌝ }
+    ensures { λ r. ⌜ (r .answer ≡ answerOf (checked (openTold a)))
+        × ((r .number ≡ numberOf (checked (openTold a))) × (r .place ≡ placeOf (checked (openTold a)))) ⌝ }
 {
     match a {
         OpenAnswer::Opened => plain(OPENED),
@@ -73,7 +75,8 @@ pub fn opening(a: OpenAnswer) -> Told
 
 // An answer to feeding.
 pub fn feeding(a: FeedAnswer) -> Told
-    ensures { λ r. ⌜ (r .answer ≡ answerOf (checked (feedTold a))) × ((r .number ≡ numberOf (checked (feedTold a))) × (r .place ≡ placeOf (checked (feedTold a)))) ⌝ }
+    ensures { λ r. ⌜ (r .answer ≡ answerOf (checked (feedTold a)))
+        × ((r .number ≡ numberOf (checked (feedTold a))) × (r .place ≡ placeOf (checked (feedTold a)))) ⌝ }
 {
     match a {
         FeedAnswer::Accepted => plain(ACCEPTED),
@@ -84,7 +87,8 @@ pub fn feeding(a: FeedAnswer) -> Told
 
 // An answer to pulling.
 pub fn pulling(a: PullAnswer) -> Told
-    ensures { λ r. ⌜ (r .answer ≡ answerOf (checked (pullTold a))) × ((r .number ≡ numberOf (checked (pullTold a))) × (r .place ≡ placeOf (checked (pullTold a)))) ⌝ }
+    ensures { λ r. ⌜ (r .answer ≡ answerOf (checked (pullTold a)))
+        × ((r .number ≡ numberOf (checked (pullTold a))) × (r .place ≡ placeOf (checked (pullTold a)))) ⌝ }
 {
     match a {
         PullAnswer::True => plain(TRUE),
@@ -106,7 +110,8 @@ pub struct ReadResult {
 
 // An answer to reading.
 pub fn reading(a: Reading) -> ReadResult
-    ensures { λ r. ⌜ (r .answer ≡ answerOf (readTold a)) × ((r .number ≡ numberOf (readTold a)) × ((r .place ≡ placeOf (readTold a)) × (r .frames ≡ framesOf (readTold a)))) ⌝ }
+    ensures { λ r. ⌜ (r .answer ≡ answerOf (readTold a))
+        × ((r .number ≡ numberOf (readTold a)) × ((r .place ≡ placeOf (readTold a)) × (r .frames ≡ framesOf (readTold a)))) ⌝ }
 {
     match a {
         Reading::Frames(n) => ReadResult {

@@ -87,6 +87,7 @@ pub data Answered (text b : List ℕ) : Reading × List ℕ → Type 0 where
       → Answered text b (refusedAs 6 0, b)
   refused-7 : {x : Rule} → length b ≡ bufferBytes → Within text x → references (meaning text x) ≡ []
       → Answered text b (refusedAs 7 0, b)
-  refused-8 : {x : Rule} → length b ≡ bufferBytes → Within text x → (references (meaning text x) ≡ [] → ⊥) → (NoneExceeds (parts (meaning text x)) → ⊥)
+  refused-8 : {x : Rule} → length b ≡ bufferBytes → Within text x → (references (meaning text x) ≡ [] → ⊥)
+      → (NoneExceeds (parts (meaning text x)) → ⊥)
       → Answered text b (refusedAs 8 0, b)
   accepted : {n : ℕ} {s : List ℕ} → length b ≡ bufferBytes → ReadAs text n s → Answered text b (reading.Frames n, s)

@@ -5,7 +5,8 @@ use mathlib.Core.Path.{_≡_}
 use mathlib.Core.Bool.{cond}
 use mathlib.Core.List.{List, [], _∷_, _++_}
 use lib.Dec.{eqb}
-use Rattle.rule.specs.Token.{nameKind, numberKind, eventsKind, notesKind, indexKind, absKind, arrowKind, barsKind, ampersandsKind, unequalKind, atMostKind, atLeastKind}
+use Rattle.rule.specs.Token.{nameKind, numberKind, eventsKind, notesKind, indexKind, absKind, arrowKind, barsKind}
+use Rattle.rule.specs.Token.{ampersandsKind, unequalKind, atMostKind, atLeastKind}
 pub use Rattle.rule.specs.Class.{semicolon, bang, openBrace, closeBrace, openParen, closeParen, openBracket, closeBracket}
 pub use Rattle.rule.specs.Class.{star, plusMark, minusMark, equalMark, lessMark, moreMark}
 use Rattle.rule.specs.declared.Token.{Token}
@@ -150,7 +151,8 @@ abbrev mutual
   spellFactor var r = mark indexKind ∷ r
   spellFactor (parens x) r = mark openParen ∷ spellSum x (mark closeParen ∷ r)
   spellFactor (absolute x) r = mark absKind ∷ mark openParen ∷ spellSum x (mark closeParen ∷ r)
-  spellFactor (reference n e x) r = name n ∷ mark openParen ∷ name e ∷ mark openBracket ∷ spellIndex x (mark closeBracket ∷ mark closeParen ∷ r)
+  spellFactor (reference n e x) r =
+      name n ∷ mark openParen ∷ name e ∷ mark openBracket ∷ spellIndex x (mark closeBracket ∷ mark closeParen ∷ r)
 
 -- {name}
 abbrev pub spellNames : List Place → List Word → List Word
@@ -160,7 +162,8 @@ spellNames (p ∷ ps) r = name p ∷ spellNames ps r
 -- rule: "events" name {name} ";" "notes" name {name} ";" cond
 abbrev pub spellRule : Rule → List Word → List Word
 spellRule (rule e es n ns c) r =
-    mark eventsKind ∷ name e ∷ spellNames es (mark semicolon ∷ mark notesKind ∷ name n ∷ spellNames ns (mark semicolon ∷ spellCond c r))
+    mark eventsKind ∷ name e ∷ spellNames es (mark semicolon ∷ mark notesKind ∷ name n ∷ spellNames ns
+    (mark semicolon ∷ spellCond c r))
 
 -- the words of a rule, and nothing after
 abbrev pub yield : Rule → List Word
@@ -190,5 +193,6 @@ Begins-rule ts = (x : Rule) × (ws : List Word) × (yield x ≡ words ts ++ ws)
 
 -- "outside the grammar, place the first token that with those before it begins no rule (the length if the text ends early)"
 pub data Wrong-at (n : ℕ) : List Token → ℕ → Type 0 where
-  at-token : (us : List Token) (t : Token) (vs : List Token) → Begins-rule us → (Begins-rule (us ++ t ∷ []) → ⊥) → Wrong-at n (us ++ t ∷ vs) (t .start)
+  at-token : (us : List Token) (t : Token) (vs : List Token) → Begins-rule us → (Begins-rule (us ++ t ∷ []) → ⊥)
+      → Wrong-at n (us ++ t ∷ vs) (t .start)
   at-end : (ts : List Token) → Begins-rule ts → (Is-rule ts → ⊥) → Wrong-at n ts n

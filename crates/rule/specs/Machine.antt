@@ -57,7 +57,9 @@ condition d s = unit d ∷ ands d ∷ ors d ∷ arrow d ∷ s
 
 -- rule: "events" name {name} ";" "notes" name {name} ";" cond
 abbrev pub start : List Sym
-start = want eventsKind ∷ name-of Event ∷ names-of Event ∷ want semicolon ∷ want notesKind ∷ name-of Note ∷ names-of Note ∷ want semicolon ∷ condition 0 []
+start =
+    want eventsKind ∷ name-of Event ∷ names-of Event ∷ want semicolon ∷ want notesKind ∷ name-of Note ∷ names-of Note
+    ∷ want semicolon ∷ condition 0 []
 
 -- one level further in; one over the limit stands for every depth over it
 unfoldable pub deeper : ℕ → ℕ
@@ -85,7 +87,8 @@ module _ (M : Type 0) (act : Act → M → M) where
       cond (eqb k numberKind) (on s (act (out (lit p)) (act (sized OfLiteral p) m)))
       (cond (eqb k indexKind) (on s (act (out index-var) m))
       (cond (eqb k openParen) (on (sum (deeper d) (want closeParen ∷ s)) (act (enter (deeper d)) m))
-      (cond (eqb k absKind) (on (want openParen ∷ sum (deeper d) (want closeParen ∷ doing (out (alone Kind.absolute)) ∷ s)) (act (enter (deeper d)) m))
+      (cond (eqb k absKind) (on (want openParen ∷ sum (deeper d) (want closeParen ∷ doing (out (alone Kind.absolute)) ∷ s))
+      (act (enter (deeper d)) m))
       (cond (eqb k nameKind) (on (want openParen ∷ ref-event p ∷ s) (act (uses Note p) m)) stuck))))
 
   -- what a token of kind k, at p, does with the stack
@@ -95,18 +98,25 @@ module _ (M : Type 0) (act : Act → M → M) where
       cond (eqb k bang) (on (unit (deeper d) ∷ doing (out (alone Kind.negation)) ∷ s) (act (enter (deeper d)) m))
       (cond (eqb k openBrace) (on (condition (deeper d) (want closeBrace ∷ s)) (act (enter (deeper d)) m))
       (startFactor d m k p (muls d ∷ adds d ∷ rel d ∷ s)))
-  step (ands d ∷ s) m k p = cond (eqb k ampersandsKind) (on (unit d ∷ doing (out (alone (Kind.connective Connective.and))) ∷ ands d ∷ s) m) (step s m k p)
-  step (ors d ∷ s) m k p = cond (eqb k barsKind) (on (conj d (doing (out (alone (Kind.connective Connective.or))) ∷ ors d ∷ s)) m) (step s m k p)
-  step (arrow d ∷ s) m k p = cond (eqb k arrowKind) (on (condition (deeper d) (doing (out (alone (Kind.connective Connective.implies))) ∷ s)) (act (enter (deeper d)) m)) (step s m k p)
+  step (ands d ∷ s) m k p =
+      cond (eqb k ampersandsKind) (on (unit d ∷ doing (out (alone (Kind.connective Connective.and))) ∷ ands d ∷ s) m) (step s m k p)
+  step (ors d ∷ s) m k p =
+      cond (eqb k barsKind) (on (conj d (doing (out (alone (Kind.connective Connective.or))) ∷ ors d ∷ s)) m) (step s m k p)
+  step (arrow d ∷ s) m k p =
+      cond (eqb k arrowKind) (on (condition (deeper d) (doing (out (alone (Kind.connective Connective.implies))) ∷ s))
+      (act (enter (deeper d)) m)) (step s m k p)
   step (factor d ∷ s) m k p = startFactor d m k p s
-  step (muls d ∷ s) m k p = cond (eqb k star) (on (factor d ∷ doing (out (alone (Kind.arithmetic Arithmetic.multiply))) ∷ muls d ∷ s) m) (step s m k p)
+  step (muls d ∷ s) m k p =
+      cond (eqb k star) (on (factor d ∷ doing (out (alone (Kind.arithmetic Arithmetic.multiply))) ∷ muls d ∷ s) m) (step s m k p)
   step (adds d ∷ s) m k p =
       byMark signMark k (λ g. on (prod d (doing (out (alone (Kind.arithmetic (signOf g)))) ∷ adds d ∷ s)) m) (step s m k p) signs
   step (rel d ∷ s) m k p = byMark relMark k (λ c. on (sum d (doing (out (alone (Kind.relation (relationOf c)))) ∷ s)) m) stuck rels
   step (want x ∷ s) m k p = cond (eqb k x) (on s m) stuck
   step (name-of r ∷ s) m k p = cond (eqb k nameKind) (on s (act (declare r p) m)) stuck
   step (names-of r ∷ s) m k p = cond (eqb k nameKind) (on (names-of r ∷ s) (act (declare r p) m)) (step s m k p)
-  step (ref-event n ∷ s) m k p = cond (eqb k nameKind) (on (want openBracket ∷ ref-index n p ∷ want closeBracket ∷ want closeParen ∷ s) (act (uses Event p) m)) stuck
+  step (ref-event n ∷ s) m k p =
+      cond (eqb k nameKind) (on (want openBracket ∷ ref-index n p ∷ want closeBracket ∷ want closeParen ∷ s)
+      (act (uses Event p) m)) stuck
   step (ref-index n e ∷ s) m k p =
       cond (eqb k numberKind) (on (want star ∷ want indexKind ∷ ref-shift n e (Times p) ∷ s) (act (sized OfFactor p) m))
       (cond (eqb k indexKind) (on (ref-shift n e Once ∷ s) m) stuck)

@@ -24,7 +24,8 @@ use Rattle.rule.specs.declared.parts.Shift.the-variants.{Unshifted, By}
 use Rattle.rule.specs.declared.memory.Registers.{Registers}
 use Rattle.rule.specs.declared.memory.Fields.{Fields}
 
--- frames so far, at most 65; whether a depth was over 16; the first bad number and the first bad name; the names declared; the bytes
+-- frames so far, at most 65; whether a depth was over 16; the first bad number and the first bad name; the names declared; the
+-- bytes
 pub record Mem : Type 0 where
   pub count : ℕ
   pub deep : Bool
@@ -45,8 +46,26 @@ table Note m = m .notes
 
 -- one name more, "numbered from 0 as declared"
 abbrev pub enlist : Role → ℕ → Mem → Mem
-enlist Event c m = record { count = m .count; deep = m .deep; number = m .number; name = m .name; events = m .events ++ c ∷ []; notes = m .notes; bytes = m .bytes }
-enlist Note c m = record { count = m .count; deep = m .deep; number = m .number; name = m .name; events = m .events; notes = m .notes ++ c ∷ []; bytes = m .bytes }
+enlist Event c m =
+    record {
+      count = m .count;
+      deep = m .deep;
+      number = m .number;
+      name = m .name;
+      events = m .events ++ c ∷ [];
+      notes = m .notes;
+      bytes = m .bytes;
+    }
+enlist Note c m =
+    record {
+      count = m .count;
+      deep = m .deep;
+      number = m .number;
+      name = m .name;
+      events = m .events;
+      notes = m .notes ++ c ∷ [];
+      bytes = m .bytes;
+    }
 
 -- "place the first": a place is kept if there was none
 abbrev pub first : ℕ → Place → ℕ
@@ -54,7 +73,16 @@ first z p = cond (eqb z 0) (p .start + 1) z
 
 -- a bad name at p
 abbrev pub blame : Place → Mem → Mem
-blame p m = record { count = m .count; deep = m .deep; number = m .number; name = first (m .name) p; events = m .events; notes = m .notes; bytes = m .bytes }
+blame p m =
+    record {
+      count = m .count;
+      deep = m .deep;
+      number = m .number;
+      name = first (m .name) p;
+      events = m .events;
+      notes = m .notes;
+      bytes = m .bytes;
+    }
 
 -- c is one of the list
 abbrev pub isDeclared : ℕ → List ℕ → Bool
@@ -89,7 +117,15 @@ put b k f =
 -- a frame is counted, up to 65, and put
 abbrev pub written : Fields → Mem → Mem
 written f m =
-    record { count = cond (ltb (m .count) frameLimit) (m .count + 1) (suc frameLimit); deep = m .deep; number = m .number; name = m .name; events = m .events; notes = m .notes; bytes = put (m .bytes) (m .count) f }
+    record {
+      count = cond (ltb (m .count) frameLimit) (m .count + 1) (suc frameLimit);
+      deep = m .deep;
+      number = m .number;
+      name = m .name;
+      events = m .events;
+      notes = m .notes;
+      bytes = put (m .bytes) (m .count) f;
+    }
 
 module _ (code value : Place → ℕ) where
   -- the factor of i, "1 if absent"; a frame has a byte for it
@@ -107,7 +143,14 @@ module _ (code value : Place → ℕ) where
   abbrev pub fields : List ℕ → List ℕ → Draft → Fields
   fields E N (lit p) = record { kind = kindByte (Kind.operand Source.literal); event = 0; note = 0; factor = 0; word = value p }
   fields E N index-var = record { kind = kindByte (Kind.operand Source.instance); event = 0; note = 0; factor = 0; word = 0 }
-  fields E N (ref n e f o) = record { kind = kindByte (Kind.operand Source.reference); event = position (code e) E; note = position (code n) N; factor = factorOf f; word = offsetOf o }
+  fields E N (ref n e f o) =
+      record {
+        kind = kindByte (Kind.operand Source.reference);
+        event = position (code e) E;
+        note = position (code n) N;
+        factor = factorOf f;
+        word = offsetOf o;
+      }
   fields E N (plain k) = record { kind = k; event = 0; note = 0; factor = 0; word = 0 }
 
   -- 5: "a number beyond its limit"
@@ -116,14 +159,33 @@ module _ (code value : Place → ℕ) where
 
   -- 4, of a name that is declared: "over 12 letters, twice in its list, a 9th event, a 5th note"
   abbrev pub misnamed : Role → Place → Mem → Bool
-  misnamed r p m = cond (leb longName (code p)) true (cond (isDeclared (code p) (table r m)) true (leb (room r) (length (table r m))))
+  misnamed r p m =
+      cond (leb longName (code p)) true (cond (isDeclared (code p) (table r m)) true (leb (room r) (length (table r m))))
 
   -- what each act does
   abbrev pub remember : Act → Mem → Mem
   remember (declare r p) m = cond (misnamed r p m) (blame p m) (enlist r (code p) m)
   remember (uses r p) m = cond (isDeclared (code p) (table r m)) m (blame p m)
-  remember (sized b p) m = record { count = m .count; deep = m .deep; number = cond (bad-number (sized-by b p)) (first (m .number) p) (m .number); name = m .name; events = m .events; notes = m .notes; bytes = m .bytes }
-  remember (enter d) m = record { count = m .count; deep = cond (ltb depthLimit d) true (m .deep); number = m .number; name = m .name; events = m .events; notes = m .notes; bytes = m .bytes }
+  remember (sized b p) m =
+      record {
+        count = m .count;
+        deep = m .deep;
+        number = cond (bad-number (sized-by b p)) (first (m .number) p) (m .number);
+        name = m .name;
+        events = m .events;
+        notes = m .notes;
+        bytes = m .bytes;
+      }
+  remember (enter d) m =
+      record {
+        count = m .count;
+        deep = cond (ltb depthLimit d) true (m .deep);
+        number = m .number;
+        name = m .name;
+        events = m .events;
+        notes = m .notes;
+        bytes = m .bytes;
+      }
   remember (out f) m = written (fields (m .events) (m .notes) f) m
 
 -- the answer that the registers give, as two numbers: refusals 4 to 6 with the place, or 0 and the number of frames
@@ -156,4 +218,12 @@ listed tb from (suc n) = getD tb from 0 ∷ listed tb (suc from) n
 -- the memory that the registers t, the table tb and the buffer b are
 unfoldable pub mem : Registers → List ℕ → List ℕ → Mem
 mem t tb b =
-    record { count = t .count; deep = t .deep; number = t .number; name = t .name; events = listed tb 0 (min eventLimit (t .events)); notes = listed tb eventLimit (min noteLimit (t .notes)); bytes = b }
+    record {
+      count = t .count;
+      deep = t .deep;
+      number = t .number;
+      name = t .name;
+      events = listed tb 0 (min eventLimit (t .events));
+      notes = listed tb eventLimit (min noteLimit (t .notes));
+      bytes = b;
+    }

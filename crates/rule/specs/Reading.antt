@@ -31,7 +31,9 @@ afterCheck b m (Refused r) = (reading.Refused r, b)
 
 -- 4 to 6, then 7 and 8; a refusal "changes nothing", else the buffer holds the frames, and zero after the last
 abbrev pub concluded : List ℕ → Mem → Reading × List ℕ
-concluded b m = cond (eqb (told m .0) 0) (afterCheck b m (checkedOf (take (m .count * frameBytes) (m .bytes)))) (refusedAs (told m .0) (told m .1), b)
+concluded b m =
+    cond (eqb (told m .0) 0) (afterCheck b m (checkedOf (take (m .count * frameBytes) (m .bytes))))
+    (refusedAs (told m .0) (told m .1), b)
 
 -- 3, then the rest
 abbrev pub afterGrammar : List ℕ → Answer Mem → Reading × List ℕ

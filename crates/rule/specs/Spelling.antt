@@ -90,7 +90,8 @@ module _ (text : List ℕ) where
 
   -- 4: "a name over 12 letters, twice in its list, a 9th event, a 5th note, or undeclared in its role", after the names before it
   abbrev pub badName : List Named → Named → Bool
-  badName before (declared r p) = cond (longAt p) true (cond (amongWords (letters text p) (wordsOf r before)) true (leb (room r) (length (wordsOf r before))))
+  badName before (declared r p) =
+      cond (longAt p) true (cond (amongWords (letters text p) (wordsOf r before)) true (leb (room r) (length (wordsOf r before))))
   badName before (used r p) = cond (longAt p) true (cond (amongWords (letters text p) (wordsOf r before)) false true)
 
   -- "place the first such name"

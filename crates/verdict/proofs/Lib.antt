@@ -1,7 +1,9 @@
+-- References and truth values: what a reference is found to be, Kleene's tables, what later lines leave.
+mod Resolve
 mod Tables
 mod Own
-mod Resolve
 mod Stays
+-- The evaluator: integers, kinds, trees that frames build, bounds, its loop, and what it answers.
 mod Numbers
 mod ByKind
 mod Built
@@ -9,7 +11,9 @@ mod Bounds
 mod Loop
 mod Mirror
 mod Means
+-- Computed examples.
 mod Marked
 mod Examples
-pub mod Main
+-- What other crates cite, and the headline statements.
 pub mod Laws
+pub mod Main
