@@ -11,7 +11,7 @@ use lib.IntN.{ℤ}
 use lib.ListN.{length, take, drop, length-append, length-take, length-drop, drop-of-length-le}
 use lib.Seq.{take-all, take-take, take-append-le, length-take-le, drop-drop}
 use Rattle.log.specs.Digit.{isDigit}
-use Rattle.log.specs.Line.{Told, digitsAtFront, badPlace, lineOf, refused}
+use Rattle.log.specs.Line.{LineAnswer, digitsAtFront, badPlace, lineOf, refused}
 use Rattle.log.specs.Walk.{toLF, endOf, lineAt}
 use Rattle.log.specs.declared.walk.Found.the-variants.{Line, End}
 use Rattle.log.proofs.Main.{line-of-other, endOf-within}
@@ -56,7 +56,7 @@ unfolding feedDef
 feed-kept s win l = go (admission s win)
   where
     go : (a : Admission) → fedIf s win (take keptLimit l) a ≡ fedIf s win l a
-    go admitted = ap (λ (d : Told). fedBy s win (lineIn s d)) (line-kept l)
+    go admitted = ap (λ (d : LineAnswer). fedBy s win (lineIn s d)) (line-kept l)
     go (barred number) = refl
 
 pub after-kept : (x : Progress) (l : List ℕ) → afterLine x (take keptLimit l) ≡ afterLine x l

@@ -39,12 +39,12 @@ bytes-take n s h = bytes-by (take n s) (λ i l. at n s i (h i))
     at (suc n) (x ∷ xs) zero h = h
     at (suc n) (x ∷ xs) (suc i) h = at n xs i h
 
-pub rule-in : {s : List ℕ} → Bytes s → checkedOf s ≡ Accepted → IsRule s
-rule-in b e = let p = frames-exactly b .0 e in record { tree = p .tree; limits = p .limits; bytes = p .bytes }
+pub accepted-rule : {s : List ℕ} → Bytes s → checkedOf s ≡ Accepted → IsRule s
+accepted-rule b e = let p = frames-exactly b .0 e in record { tree = p .tree; limits = p .limits; bytes = p .bytes }
 
 pub within-in : {s : List ℕ} → Bytes s → checkedOf s ≡ Accepted → AllWithin (references (treeOf s))
 within-in {s} b e =
-    let r : IsRule s = rule-in b e in
+    let r : IsRule s = accepted-rule b e in
     subst (λ (t : Cond). AllWithin (references t)) (sym (tree-of r)) (references-within (r .tree) (r .limits))
 
 -- ---- the steps of the pass
@@ -154,7 +154,7 @@ pub base-is : {s : List ℕ} → Bytes s → checkedOf s ≡ Accepted → (p e :
     → BaseIs (referenced (references (treeOf s)) e) (base (references (treeOf s)) e p) (getD (basesOf s p) e 0)
 unfolding basesOf referenced base
 base-is {s} b q p e h l =
-    let r : IsRule s = rule-in b q in
+    let r : IsRule s = accepted-rule b q in
     let ls : List ℕ = replicate eventLimit noBase in
     let refs : List Reference = references (treeOf s) in
     let over : basesOf s p ≡ overReferences (lowered p) refs ls =

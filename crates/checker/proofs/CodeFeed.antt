@@ -8,7 +8,7 @@ use borrow.Author.Tests.{le-leb, lt-leb}
 use lib.IntN.{ℤ}
 use lib.ListN.{getD}
 use Rattle.rule.specs.Frames.{Bytes}
-use Rattle.log.specs.Line.{Told, lineOf}
+use Rattle.log.specs.Line.{LineAnswer, lineOf}
 use Rattle.checker.specs.Limits.{lineLimit}
 use Rattle.checker.specs.Base.{referenced, base}
 use Rattle.checker.specs.State.{withLine, tallyIn, withTally, stateFrames, refsIn}
@@ -25,7 +25,7 @@ use Rattle.checker.proofs.CodeBase.{within-in, high-none, BaseIs, base-
 use Rattle.checker.proofs.CodeStateTest.{good-facts}
 
 -- ---- what is let through is fed the line
-pub fed-by : (s : State) (win : List ℤ) (line : List ℕ) → admission s win ≡ admitted → (d : Told) → lineOf line ≡ d
+pub fed-by : (s : State) (win : List ℤ) (line : List ℕ) → admission s win ≡ admitted → (d : LineAnswer) → lineOf line ≡ d
     → feedDef s win line ≡ fedBy s win (lineIn s d)
 unfolding feedDef
 fed-by s win line a d q = rw (a, q)

@@ -7,7 +7,7 @@ use lib.Dec.{leb, eqb}
 use lib.IntN.{ℤ}
 use Rattle.rule.specs.Tree.{Reference, references}
 use Rattle.rule.specs.Build.{treeOf}
-use Rattle.log.specs.Line.{Told, lineOf}
+use Rattle.log.specs.Line.{LineAnswer, lineOf}
 use Rattle.log.specs.Line as line
 use Rattle.log.specs.Earlier.{oldLineOf, raisedDef}
 use Rattle.log.specs.Earlier as log
@@ -41,7 +41,7 @@ event-same refs w t e notes =
 -- ---- one call, with bytes that 15 refuses at 0 in place of a line that 23 names
 module _ (frames : List ℕ) (w : ℕ) (other : List ℕ) (named : lineOf other ≡ line.refused 15 0) (m : Machine) where
   -- feeding a line as it was read
-  abbrev readAs : Told → FeedRead
+  abbrev readAs : LineAnswer → FeedRead
   readAs t = feedRead (references (treeOf frames)) w (tallyOf m) t
 
   -- the line that is fed
@@ -58,18 +58,18 @@ module _ (frames : List ℕ) (w : ℕ) (other : List ℕ) (named : lineOf other 
       let reading : lineOf (bytes s) ≡ oldLineOf s =
       ap (λ (x : log.Answer). lineOf (raisedOr other x (raisedDef s .line))) raised ∙ same in
       let notes = event-same (references (treeOf frames)) w (tallyOf m) e (a ∷ (b ∷ (c ∷ (d ∷ [])))) in (
-        ap (λ (t : Told). feedAnswer (readAs t)) (reading ∙ read)
+        ap (λ (t : LineAnswer). feedAnswer (readAs t)) (reading ∙ read)
             ∙ sym notes
-            ∙ ap (λ (t : Told). inRaised (feedAnswer (readAs t))) (sym read),
-        ap (λ (t : Told). afterFeed m (readAs t)) reading,
+            ∙ ap (λ (t : LineAnswer). inRaised (feedAnswer (readAs t))) (sym read),
+        ap (λ (t : LineAnswer). afterFeed m (readAs t)) reading,
       )
 
   same-refused : (s : List ℕ) {p : ℕ} → oldLineOf s ≡ line.refused 23 p → raisedDef s .answer ≡ log.turned 23 p → Same s
   same-refused s {p} read raised =
       let reading : lineOf (bytes s) ≡ line.refused 15 0 =
       ap (λ (x : log.Answer). lineOf (raisedOr other x (raisedDef s .line))) raised ∙ named in (
-        ap (λ (t : Told). feedAnswer (readAs t)) reading ∙ ap (λ (t : Told). inRaised (feedAnswer (readAs t))) (sym read),
-        ap (λ (t : Told). afterFeed m (readAs t)) reading ∙ ap (λ (t : Told). afterFeed m (readAs t)) (sym read),
+        ap (λ (t : LineAnswer). feedAnswer (readAs t)) reading ∙ ap (λ (t : LineAnswer). inRaised (feedAnswer (readAs t))) (sym read),
+        ap (λ (t : LineAnswer). afterFeed m (readAs t)) reading ∙ ap (λ (t : LineAnswer). afterFeed m (readAs t)) (sym read),
       )
 
   same-fed : (s : List ℕ) → Same s

@@ -11,14 +11,14 @@ use lib.ListN.{length, replicate, length-replicate}
 use lib.Seq.{take-at}
 use Rattle.rule.specs.Limits.{frameLimit, frameBytes}
 use Rattle.rule.specs.Frames.{Bytes}
-use Rattle.rule.specs.Tree.{Reference, IsRule, references, postfix, LimitsR}
+use Rattle.rule.specs.Tree.{Reference, references, postfix, LimitsR}
 use Rattle.rule.specs.Build.{treeOf}
 use Rattle.rule.specs.Check.{checkedOf}
 use Rattle.rule.specs.Opening.{Proper}
 use Rattle.rule.specs.declared.Checked.{Checked}
 use Rattle.rule.specs.declared.Checked.the-variants.{Accepted, Refused}
 use Rattle.rule.proofs.Main.{frames-exactly, tree-of}
-use Rattle.rule.proofs.Laws.{rule-length, AllWithin, references-within}
+use Rattle.rule.proofs.Laws.{proper-rule, rule-length, AllWithin, references-within}
 use Rattle.numbers.proofs.Bools.{true-false, and-true}
 use Rattle.checker.specs.Limits.{windowWords}
 use Rattle.checker.specs.Answer.{Answer, opened, accepted, ignored, waiting, verdict, refused}
@@ -72,13 +72,10 @@ within-member (x ∷ xs) a r m =
     (λ (n : List·Memᴰ r xs). within-member xs (a .1) r n)
     (List·Memᴰ·cases-cons m)
 
-abbrev rule-in : {s : List ℕ} → Proper s → IsRule s
-rule-in p = record { tree = p .tree; limits = p .limits; bytes = p .bytes }
-
 fine : (frames : List ℕ) (w : ℕ) (win : List ℤ) → Bytes frames → Passed frames w win → Fine frames w
 fine frames w win b o =
     let p : Proper frames = frames-exactly b .0 (o .accepted) in
-    let t : treeOf frames ≡ p .tree = tree-of (rule-in p) in
+    let t : treeOf frames ≡ p .tree = tree-of (proper-rule p) in
     record {
       accepted = o .accepted;
       width = o .width;
@@ -90,7 +87,7 @@ fine frames w win b o =
 whole-length : (frames : List ℕ) → Bytes frames → checkedOf frames ≡ Accepted → (length frames ≡ length frames / frameBytes * frameBytes) × (length frames / frameBytes ≤ frameLimit)
 whole-length frames b e =
     let p : Proper frames = frames-exactly b .0 e in
-    let l : length frames ≡ length (postfix (p .tree)) * 8 = rule-length (rule-in p) in
+    let l : length frames ≡ length (postfix (p .tree)) * 8 = rule-length (proper-rule p) in
     let s : length (postfix (p .tree)) ≤ 64 = p .short in
     (omega arith, omega arith)
 

@@ -17,7 +17,7 @@ use Rattle.rule.specs.Number.{numberValue}
 use Rattle.rule.specs.Spelling.{decimalFrom, decimal}
 use Rattle.rule.specs.Machine.{deeper, startFactor, step, finish, run}
 use Rattle.rule.specs.Memory.{position, negated, put, acts}
-use Rattle.rule.specs.Frames.{add, subtract, multiply, equal, less, atMost, more, or, kindOf}
+use Rattle.rule.specs.Frames.{add, multiply, equal, less, more, or, kindOf}
 use Rattle.rule.specs.Tree.{Sum, literal, reference, arithmetic, abs, Cond, relation, connective, postfix, bytesOf}
 use Rattle.rule.specs.References.{referenceCount}
 use Rattle.rule.specs.Order.{orderOf}
@@ -29,6 +29,7 @@ use Rattle.rule.specs.Answers.{refusedAs}
 use Rattle.rule.specs.Reading.{judged, readOf}
 use Rattle.rule.specs.declared.Reading.{Reading}
 use Rattle.rule.specs.declared.Reading.the-variants as reading
+use Rattle.rule.proofs.Laws.{latency}
 use Rattle.log.specs.Digit.{digitValue}
 use Rattle.log.specs.Line.{digitsAtFront, badPlace, lineOf}
 use Rattle.verdict.specs.declared.Verdict.the-variants.{True, False, Unknown}
@@ -54,9 +55,6 @@ t e o = reference (record { event = e; note = 0; factor = 1; offset = o })
 -- "the rule above", the bench program's
 abbrev latencyText : String
 latencyText = "events in out; notes t; t(out[i]) - t(in[i]) <= 25"
-
-abbrev pub latency : Cond
-latency = relation atMost (arithmetic subtract (t 1 (pos 0)) (t 0 (pos 0))) (literal 25)
 
 -- "With `events a b; notes t;` from here on", "(after 003)"
 abbrev after003Text : String

@@ -8,7 +8,7 @@ use lib.Dec.{leb}
 use lib.IntN.{ℤ}
 use Rattle.rule.specs.Tree.{Reference, references}
 use Rattle.rule.specs.Build.{treeOf}
-use Rattle.log.specs.Line.{Told, isLine, lineOf, badPlace, byteAt, noteAt}
+use Rattle.log.specs.Line.{LineAnswer, isLine, lineOf, badPlace, byteAt, noteAt}
 use Rattle.log.specs.Line as log
 use Rattle.checker.specs.Limits.{lineLimit}
 use Rattle.checker.specs.Answer.{Answer, opened, accepted, ignored, waiting, verdict, refused}
@@ -37,7 +37,7 @@ Late a = (numberIn a ≢ 12) × (numberIn a ≢ 13)
 line-number : (s : List ℕ) (refs : List Reference) (w : ℕ) (t : Tally) → Late (feedAnswer (feedRead refs w t (lineOf s)))
 unfolding lineOf feedEvent
 line-number s refs w t =
-    cond-case (λ (l : Told). Late (feedAnswer (feedRead refs w t l))) (isLine s) (log.line (byteAt s 0) (noteAt s 0) (noteAt s 1) (noteAt s 2) (noteAt s 3)) (log.refused 15 (badPlace s))
+    cond-case (λ (l : LineAnswer). Late (feedAnswer (feedRead refs w t l))) (isLine s) (log.line (byteAt s 0) (noteAt s 0) (noteAt s 1) (noteAt s 2) (noteAt s 3)) (log.refused 15 (badPlace s))
     (λ _. cond-case (λ (f : FeedRead). Late (feedAnswer f)) (referenced refs (byteAt s 0)) _ _
     (λ _. cond-case (λ (f : FeedRead). Late (feedAnswer f)) (leb lineLimit (countOf t (byteAt s 0))) _ _
     (λ _. (λ q. omega (arith, q), λ q. omega (arith, q)))

@@ -17,7 +17,7 @@ use Rattle.rule.specs.declared.Frame.{Frame}
 use Rattle.rule.specs.declared.Checked.the-variants.{Accepted}
 use Rattle.rule.proofs.Laws.{passed, reference-at}
 use Rattle.verdict.specs.Found.{Found, present, pending, void}
-use Rattle.verdict.specs.Marks.{Tells, Told}
+use Rattle.verdict.specs.Marks.{Tells, TellAll}
 use Rattle.checker.specs.Sights.{Shows, ShownTo, ShowsAll, Limited}
 
 shows-tells : (x : Found) (m : ℕ) (z : ℤ) → Shows x m z → Tells x m z
@@ -25,7 +25,7 @@ shows-tells (present y) m z w = (w .mark-is, w .note-is)
 shows-tells pending m z w = w .mark-is
 shows-tells void m z w = w .mark-is
 
-pub shown-told : (s : List ℕ) (found : Reference → Found) (marks : List ℕ) (notes : List ℤ) → ShownTo s found marks notes (frameCount s) → Told s found marks notes
+pub shown-told : (s : List ℕ) (found : Reference → Found) (marks : List ℕ) (notes : List ℤ) → ShownTo s found marks notes (frameCount s) → TellAll s found marks notes
 shown-told s found marks notes w k h e = shows-tells (found (referenceOf (frameAt s k))) (getD marks k 0) (getD notes k (pos 0)) (w k h e)
 
 pub shown-next : (s : List ℕ) (found : Reference → Found) (marks : List ℕ) (notes : List ℤ) (k m : ℕ) (z : ℤ) → ShownTo s found marks notes k

@@ -15,7 +15,7 @@ use Rattle.rule.specs.Tree.{Reference, Cond, references, LimitsR}
 use Rattle.rule.specs.Build.{treeOf}
 use Rattle.rule.specs.Check.{checkedOf}
 use Rattle.rule.specs.declared.Checked.the-variants.{Accepted}
-use Rattle.log.specs.Line.{Told, lineOf}
+use Rattle.log.specs.Line.{LineAnswer, lineOf}
 use Rattle.log.specs.Line as log
 use Rattle.numbers.proofs.Bools.{true-false, and-true, true-and}
 use Rattle.verdict.specs.Found.{instanceLimit, meant, Found, pending, byLists, foundIn, Given, givenIn, isPresent, isPending, someOf}
@@ -82,7 +82,7 @@ Took refs w t (turned number place) = Unit {0}
 Took refs w t skipped = Unit {0}
 Took refs w t (taken e notes) = (referenced refs e ≡ true) × (countOf t e < lineLimit) × (countOf t e < base refs e (t .next) + w)
 
-pub took : (refs : List Reference) (w : ℕ) (t : Tally) (l : Told) → Took refs w t (feedRead refs w t l)
+pub took : (refs : List Reference) (w : ℕ) (t : Tally) (l : LineAnswer) → Took refs w t (feedRead refs w t l)
 unfolding feedEvent
 took refs w t (log.refused number place) = tt
 took refs w t (log.line e n₀ n₁ n₂ n₃) =

@@ -47,13 +47,13 @@ module _ (s : State) (g : statePasses s ≡ true) where
   unfolding statePasses
   sound-in = tally-facts (refsIn s) (s .width) (tallyIn s) (and-true (rulePasses s) (tallyPasses (refsIn s) (s .width) (tallyIn s)) g .1)
 
-  rule-in : rulePasses s ≡ true
+  rule-passes : rulePasses s ≡ true
   unfolding statePasses
-  rule-in = and-true (rulePasses s) (tallyPasses (refsIn s) (s .width) (tallyIn s)) g .0
+  rule-passes = and-true (rulePasses s) (tallyPasses (refsIn s) (s .width) (tallyIn s)) g .0
 
   good-with : (t : Tally) → Sound (refsIn s) (s .width) t → statePasses (withTally s t) ≡ true
   unfolding statePasses rulePasses withTally
-  good-with t x = true-and _ _ rule-in (tally-good (refsIn s) (s .width) t x)
+  good-with t x = true-and _ _ rule-passes (tally-good (refsIn s) (s .width) t x)
 
   fed-good : (win : List ℤ) (f : FeedRead) → Took (refsIn s) (s .width) (tallyIn s) f → statePasses (fedBy s win f .state) ≡ true
   fed-good win (turned number place) t = g

@@ -12,6 +12,7 @@ use Rattle.rule.specs.Order.{orderOf}
 use Rattle.rule.specs.Sizes.{sizesFit}
 use Rattle.rule.specs.Build.{treeOf}
 use Rattle.rule.specs.Check.{checkedOf}
+use Rattle.rule.proofs.Laws.{latency}
 use Rattle.checker.specs.Base.{ofEvent, referenced, smallest, base}
 use Rattle.checker.specs.State.{zeroState, freshState}
 use Rattle.checker.specs.StateTest.{rulePasses, countPasses, allTo, tallyPasses, statePasses}
@@ -19,7 +20,6 @@ use Rattle.checker.specs.Tariff.{bandsFrom, bandsOf, riseFrom, bandsFit,
 use Rattle.checker.specs.Tariff.{cents, turned, chargeDef}
 use Rattle.checker.specs.declared.State.{State}
 use Rattle.checker.specs.declared.Tariff.{Tariff}
-use Rattle.checker.proofs.Marked.{latency}
 use Rattle.checker.proofs.Prices.{sum-none}
 use Rattle.checker.proofs.Charges.{charged-by, turned-12}
 

@@ -12,6 +12,7 @@ use Rattle.rule.specs.Order.{orderOf}
 use Rattle.rule.specs.Sizes.{sizesFit}
 use Rattle.rule.specs.Build.{treeOf}
 use Rattle.rule.specs.Check.{checkedOf}
+use Rattle.rule.proofs.Laws.{latency}
 use Rattle.log.specs.Digit.{digitValue}
 use Rattle.log.specs.Line.{digitsAtFront, badPlace, lineOf}
 use Rattle.verdict.specs.declared.Verdict.the-variants.{True, False, Unknown}
@@ -28,7 +29,7 @@ use Rattle.checker.specs.Pull.{pullRead, pullDef}
 use Rattle.checker.specs.Calls.{Call, outs}
 use Rattle.checker.specs.Demand.{verdicts}
 use Rattle.checker.specs.View.{viewDef, views, viewsOut, InstanceVerdict, reportedFrom, reportedOut, seen}
-use Rattle.checker.proofs.Marked.{latency, line, next}
+use Rattle.checker.proofs.Marked.{line, next}
 
 -- ---- "a buffer under 166 bytes gives 14 and an empty view"
 none : viewDef [] ≡ record { number = 14; bytes = [] }

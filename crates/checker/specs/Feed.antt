@@ -6,7 +6,7 @@ use Prim.Native.Nat.{ℕ, _+_}
 use lib.Dec.{leb}
 use lib.IntN.{ℤ}
 use Rattle.rule.specs.Tree.{Reference}
-use Rattle.log.specs.Line.{Told, lineOf}
+use Rattle.log.specs.Line.{LineAnswer, lineOf}
 use Rattle.log.specs.Line as log
 use Rattle.checker.specs.Limits.{lineLimit}
 use Rattle.checker.specs.Answer.{Answer, accepted, ignored, refused, feedTold}
@@ -34,7 +34,7 @@ feedEvent refs w t e notes =
     skipped
 
 -- "a line that 15 names is refused with 15 and its place"
-abbrev pub feedRead : List Reference → ℕ → Tally → Told → FeedRead
+abbrev pub feedRead : List Reference → ℕ → Tally → LineAnswer → FeedRead
 feedRead refs w t (log.refused number place) = turned number place
 feedRead refs w t (log.line e a b c d) = feedEvent refs w t e (a ∷ b ∷ c ∷ d ∷ [])
 
@@ -67,7 +67,7 @@ fedBy s win (taken e notes) =
     }
 
 -- what a line does to a state that is let through
-abbrev pub lineIn : State → Told → FeedRead
+abbrev pub lineIn : State → LineAnswer → FeedRead
 lineIn s l = feedRead (refsIn s) (s .width) (tallyIn s) l
 
 -- and a line that could be read

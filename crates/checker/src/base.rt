@@ -1,6 +1,7 @@
 // The base of each event, in one pass over the frames. Base is the document's term.
 use rule::FRAME_BYTES;
 use rule::Frame;
+use rule::kinds;
 use verdict::Instance;
 use verdict::Meant;
 ghost use mathlib.Core.Path.{_≡_};
@@ -33,7 +34,7 @@ fn lower_by(bases: &mut [u32; 8], x: Frame, p: Instance)
     ensures kept { λ r. ⌜ length (now (bases .exit)) ≡ eventLimit ⌝ }
     ensures { λ r. ⌜ now (bases .exit) ≡ loweredBy (p .0) x (now (bases .entry)) ⌝ }
 {
-    if x.kind == rule::REFERENCE {
+    if x.kind == kinds::REFERENCE_BYTE {
         let e = x.event as usize;
         let low = lower(bases[e], p, x.factor, x.value);
         bases[e] = low;

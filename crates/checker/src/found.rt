@@ -2,6 +2,7 @@
 use crate::words;
 use rule::FRAME_BYTES;
 use rule::Frame;
+use rule::kinds;
 use verdict::Instance;
 use verdict::Meant;
 use verdict::Occurrence;
@@ -72,7 +73,7 @@ fn of_frame(x: Frame, p: Instance, width: u32, counts: [u32; 8], window: &[i32])
     ensures { λ r. ⌜ (x .kind ≡ referenceByte
         → Shows (foundInWindow width counts (now (window .entry)) (p .0) (referenceOf x)) (r .mark) (r .note)) ⌝ }
 {
-    if x.kind == rule::REFERENCE {
+    if x.kind == kinds::REFERENCE_BYTE {
         of_reference(x, p, width, counts, window)
     } else {
         Seen {

@@ -1,5 +1,6 @@
 // The report of a false verdict. Report is the document's term.
 use rule::FRAME_BYTES;
+use rule::kinds;
 use verdict::Instance;
 ghost use mathlib.Core.Path.{_≡_};
 ghost use mathlib.Core.Bool.{cond};
@@ -73,7 +74,7 @@ fn put_frame(report: &mut [u8], at: usize, kind: u8, mark: u8, note: i32) -> usi
     ensures { λ r. ⌜ (now (report .exit) ≡ cond (eqb kind referenceByte) (sets (now (report .entry)) at (entryOf mark note))
         (now (report .entry))) × (r ≡ cond (eqb kind referenceByte) (at + 5) at) ⌝ }
 {
-    if kind == rule::REFERENCE {
+    if kind == kinds::REFERENCE_BYTE {
         put_entry(report, at, mark, note);
         at + ENTRY
     } else {

@@ -12,20 +12,20 @@ use Rattle.checker.specs.declared.Fed.{Fed}
 use Rattle.checker.specs.declared.Pulled.{Pulled}
 use Rattle.checker.specs.declared.State.{State}
 use Rattle.dillplatter.specs.Told.{checked, answerOf, numberOf, placeOf, CallNumbers, callOutcome, inNumbers, openNumbers, feedNumbers, pullNumbers}
-use Rattle.dillplatter.specs.declared.told.Told as code
+use Rattle.dillplatter.specs.declared.told.AnswerNumbers.{AnswerNumbers}
 use Rattle.dillplatter.specs.declared.CallResult.{CallResult}
 
 -- the numbers of an answer
-abbrev IsIn : code.Told → Answer → Type 0
+abbrev IsIn : AnswerNumbers → Answer → Type 0
 IsIn t a = (t .answer ≡ answerOf (checked a)) × ((t .number ≡ numberOf (checked a)) × (t .place ≡ placeOf (checked a)))
 
-abbrev withState : code.Told → State → CallResult
+abbrev withState : AnswerNumbers → State → CallResult
 withState t s = record { state = s; answer = t .answer; number = t .number; place = t .place }
 
-in-numbers : {A : Type 0} (t : code.Told) (s : State) (lent : A) (a : Answer) → IsIn t a → callOutcome (withState t s) lent ≡ inNumbers a s lent
+in-numbers : {A : Type 0} (t : AnswerNumbers) (s : State) (lent : A) (a : Answer) → IsIn t a → callOutcome (withState t s) lent ≡ inNumbers a s lent
 in-numbers t s lent a e = rw (e .0, e .1 .0, e .1 .1)
 
-module _ (t : code.Told) where
+module _ (t : AnswerNumbers) where
   pub open-numbers : (r : Opened) (win : List ℤ) (d : OpenResult) → IsIn t (openTold (r .answer)) → openOutcome r win ≡ d
       → callOutcome (withState t (r .state)) win ≡ openNumbers d
   open-numbers r win d e q = rw (sym q) (in-numbers t (r .state) win (openTold (r .answer)) e)

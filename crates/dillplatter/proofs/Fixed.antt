@@ -16,11 +16,11 @@ use Rattle.checker.specs.StateTest.{statePasses}
 use Rattle.checker.specs.Tariff.{bandsFit, pricesFit, centsOf, Charge, cents, turned, chargeDef}
 use Rattle.checker.specs.declared.State.{State}
 use Rattle.checker.specs.declared.Tariff.{Tariff}
-use Rattle.dillplatter.specs.Told.{Told, read, checked, readTold, answerOf, numberOf, placeOf, framesOf, conversionNumber, conversionPlace}
+use Rattle.dillplatter.specs.Told.{AnyAnswer, read, checked, readTold, answerOf, numberOf, placeOf, framesOf, conversionNumber, conversionPlace}
 use Rattle.dillplatter.specs.Told.{chargeNumber, chargePlace, chargeCents}
 
 -- the answer with given numbers
-got : (answer number place frames : ℕ) → Told
+got : (answer number place frames : ℕ) → AnyAnswer
 got zero n p f = checked (refused n p)
 got (suc zero) n p f = read f
 got (suc (suc zero)) n p f = checked opened
@@ -32,7 +32,7 @@ got (suc (suc (suc (suc (suc (suc (suc zero))))))) n p f = checked (verdict Fals
 got (suc (suc (suc (suc (suc (suc (suc (suc k)))))))) n p f = checked (verdict Unknown)
 
 -- it is the one that has them
-got-back : (t : Told) → got (answerOf t) (numberOf t) (placeOf t) (framesOf t) ≡ t
+got-back : (t : AnyAnswer) → got (answerOf t) (numberOf t) (placeOf t) (framesOf t) ≡ t
 unfolding got
 got-back (read n) = refl
 got-back (checked opened) = refl
@@ -44,7 +44,7 @@ got-back (checked (verdict False)) = refl
 got-back (checked (verdict Unknown)) = refl
 got-back (checked (refused n p)) = refl
 
-pub told-fixed : (s t : Told) → answerOf s ≡ answerOf t → numberOf s ≡ numberOf t → placeOf s ≡ placeOf t → framesOf s ≡ framesOf t → s ≡ t
+pub told-fixed : (s t : AnyAnswer) → answerOf s ≡ answerOf t → numberOf s ≡ numberOf t → placeOf s ≡ placeOf t → framesOf s ≡ framesOf t → s ≡ t
 told-fixed s t a n p f =
     sym (got-back s)
     ∙ (ap (λ x. got x (numberOf s) (placeOf s) (framesOf s)) a
@@ -54,7 +54,7 @@ told-fixed s t a n p f =
     ∙ got-back t))))
 
 -- the reading that is told so
-heard : Told → Reading
+heard : AnyAnswer → Reading
 heard (read n) = Frames n
 heard (checked opened) = Frames 0
 heard (checked accepted) = Frames 0

@@ -7,12 +7,12 @@ use Rattle.log.specs.declared.earlier.LowerAnswer.{LowerAnswer}
 use Rattle.checker.specs.Tariff.{chargeDef}
 use Rattle.checker.specs.declared.State.{State}
 use Rattle.checker.specs.declared.Tariff.{Tariff}
-use Rattle.dillplatter.specs.Told.{Told, readTold, answerOf, numberOf, placeOf, framesOf, conversionNumber, conversionPlace}
+use Rattle.dillplatter.specs.Told.{AnyAnswer, readTold, answerOf, numberOf, placeOf, framesOf, conversionNumber, conversionPlace}
 use Rattle.dillplatter.specs.Told.{chargeNumber, chargePlace, chargeCents}
 use Rattle.dillplatter.proofs.Fixed as fixed
 
 -- The four numbers fix the answer: no two answers of any calls have the same numbers.
-pub told-fixed : (s t : Told) → answerOf s ≡ answerOf t → numberOf s ≡ numberOf t → placeOf s ≡ placeOf t → framesOf s ≡ framesOf t → s ≡ t
+pub told-fixed : (s t : AnyAnswer) → answerOf s ≡ answerOf t → numberOf s ≡ numberOf t → placeOf s ≡ placeOf t → framesOf s ≡ framesOf t → s ≡ t
 told-fixed = fixed.told-fixed
 
 -- What is told of a reading fixes the reading.

@@ -16,17 +16,17 @@ use Rattle.checker.specs.declared.State.{State}
 use Rattle.dillplatter.specs.declared.CallResult.{CallResult}
 
 -- an answer of any call: a text was read into so many frames, or an answer of the checker
-pub data Told : Type 0 where
-  read : (frames : ℕ) → Told
-  checked : Answer → Told
+pub data AnyAnswer : Type 0 where
+  read : (frames : ℕ) → AnyAnswer
+  checked : Answer → AnyAnswer
 
 -- what `read` answers, a refusal as the checker tells it
-abbrev pub readTold : Reading → Told
+abbrev pub readTold : Reading → AnyAnswer
 readTold (Frames n) = read n
 readTold (Refused r) = checked (refused (r .number) (r .place))
 
 -- which answer
-abbrev pub answerOf : Told → ℕ
+abbrev pub answerOf : AnyAnswer → ℕ
 answerOf (checked (refused number place)) = 0
 answerOf (read n) = 1
 answerOf (checked opened) = 2
@@ -38,7 +38,7 @@ answerOf (checked (verdict False)) = 7
 answerOf (checked (verdict Unknown)) = 8
 
 -- "A refusal returns its number and place"; 0 where nothing is refused
-abbrev pub numberOf : Told → ℕ
+abbrev pub numberOf : AnyAnswer → ℕ
 numberOf (read n) = 0
 numberOf (checked (refused number place)) = number
 numberOf (checked opened) = 0
@@ -48,7 +48,7 @@ numberOf (checked waiting) = 0
 numberOf (checked (verdict v)) = 0
 
 -- the refusal's place, 0 where nothing is refused
-abbrev pub placeOf : Told → ℕ
+abbrev pub placeOf : AnyAnswer → ℕ
 placeOf (read n) = 0
 placeOf (checked (refused number place)) = place
 placeOf (checked opened) = 0
@@ -58,7 +58,7 @@ placeOf (checked waiting) = 0
 placeOf (checked (verdict v)) = 0
 
 -- "answers the number of frames", 0 where a text was not read
-abbrev pub framesOf : Told → ℕ
+abbrev pub framesOf : AnyAnswer → ℕ
 framesOf (read n) = n
 framesOf (checked a) = 0
 

@@ -34,28 +34,28 @@ const FALSE: u32 = 7;
 const UNKNOWN: u32 = 8;
 
 // An answer in numbers; number and place are 0 where nothing is refused.
-pub struct Told {
+pub struct AnswerNumbers {
     pub answer: u32,
     pub number: u32,
     pub place: u32,
 }
 
 // An answer that is no refusal.
-fn plain(answer: u32) -> Told
+fn plain(answer: u32) -> AnswerNumbers
     ensures { λ r. ⌜ (r .answer ≡ answer) × ((r .number ≡ 0) × (r .place ≡ 0)) ⌝ }
 {
-    Told {
+    AnswerNumbers {
         answer,
         number: 0,
         place: 0,
     }
 }
 
-fn refusal(r: Refusal) -> Told
+fn refusal(r: Refusal) -> AnswerNumbers
     ensures { λ t. ⌜ (t .answer ≡ answerOf (checked (refused (r .number) (r .place))))
         × ((t .number ≡ r .number) × (t .place ≡ r .place)) ⌝ }
 {
-    Told {
+    AnswerNumbers {
         answer: REFUSED,
         number: r.number as u32,
         place: r.place,
@@ -63,7 +63,7 @@ fn refusal(r: Refusal) -> Told
 }
 
 // An answer to opening.
-pub fn opening(a: OpenAnswer) -> Told
+pub fn opening(a: OpenAnswer) -> AnswerNumbers
     ensures { λ r. ⌜ (r .answer ≡ answerOf (checked (openTold a)))
         × ((r .number ≡ numberOf (checked (openTold a))) × (r .place ≡ placeOf (checked (openTold a)))) ⌝ }
 {
@@ -74,7 +74,7 @@ pub fn opening(a: OpenAnswer) -> Told
 }
 
 // An answer to feeding.
-pub fn feeding(a: FeedAnswer) -> Told
+pub fn feeding(a: FeedAnswer) -> AnswerNumbers
     ensures { λ r. ⌜ (r .answer ≡ answerOf (checked (feedTold a)))
         × ((r .number ≡ numberOf (checked (feedTold a))) × (r .place ≡ placeOf (checked (feedTold a)))) ⌝ }
 {
@@ -86,7 +86,7 @@ pub fn feeding(a: FeedAnswer) -> Told
 }
 
 // An answer to pulling.
-pub fn pulling(a: PullAnswer) -> Told
+pub fn pulling(a: PullAnswer) -> AnswerNumbers
     ensures { λ r. ⌜ (r .answer ≡ answerOf (checked (pullTold a)))
         × ((r .number ≡ numberOf (checked (pullTold a))) × (r .place ≡ placeOf (checked (pullTold a)))) ⌝ }
 {

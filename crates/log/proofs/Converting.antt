@@ -10,7 +10,7 @@ use lib.IntN.{pos, natAbs}
 use lib.ListN.{length, take, drop, replicate}
 use lib.Seq.{sets}
 use Rattle.log.specs.Digit.{capital}
-use Rattle.log.specs.Line.{byteAt, noteAt, badPlaceOf, badPlace, Told, line, refused, lineOf, AreDigits, AllDigits}
+use Rattle.log.specs.Line.{byteAt, noteAt, badPlaceOf, badPlace, LineAnswer, line, refused, lineOf, AreDigits, AllDigits}
 use Rattle.log.specs.Earlier.{oldDigits, oldNoteFrom, oldNoteAt, oldLineOf, digitsOf, newNote, oldLine, newLine}
 use Rattle.log.specs.Earlier.{Answer, done, turned, Converted, converted, notConverted, raisedBy, raisedDef}
 use Rattle.log.specs.Earlier.{lineDigits, raiseTold, lowerTold}
@@ -155,9 +155,9 @@ lowered-bytes s l1 l2 l3 l4 h e a b c d =
     rw (w .gives, lowered-spelled s w, d, c, b, a, pair, one, two, three) refl
 
 -- what the loss of a line that was read tells
-pub lowered-told : (s : List ℕ) {x : Answer} {t : Told} → x ≡ loweredBy t .answer → t ≡ lineOf s → x ≡ loweredDef s .answer
+pub lowered-told : (s : List ℕ) {x : Answer} {t : LineAnswer} → x ≡ loweredBy t .answer → t ≡ lineOf s → x ≡ loweredDef s .answer
 unfolding loweredDef
-lowered-told s e f = e ∙ ap (λ (t : Told). loweredBy t .answer) f
+lowered-told s e f = e ∙ ap (λ (t : LineAnswer). loweredBy t .answer) f
 
 pub done-by : (s : List ℕ) {a : LowerAnswer} → a ≡ lowers.Lowered → lowerTold a ≡ loweredDef s .answer → loweredDef s .answer ≡ done
 unfolding lowerTold

@@ -5,7 +5,7 @@ use Prim.Native.Nat.{ℕ, zero, suc, _-_}
 use lib.IntN.{pos, negsuc}
 use lib.ListN.{replicate}
 use Rattle.log.specs.Digit.{digitValue, capital}
-use Rattle.log.specs.Line.{digitsAtFront, badPlace, Told, line, refused, lineOf}
+use Rattle.log.specs.Line.{digitsAtFront, badPlace, LineAnswer, line, refused, lineOf}
 use Rattle.log.specs.Walk.{linesOf}
 
 -- the bench log: 000000000A000000000000000000000000
@@ -82,7 +82,7 @@ unfolding digitValue digitsAtFront badPlace lineOf
 extremes-small = refl
 
 -- the answer to 34 digits, those before a place a, those after it F, with a byte at that place
-answer-with : ℕ → ℕ → Told
+answer-with : ℕ → ℕ → LineAnswer
 answer-with place b = lineOf (replicate place 97 ++ (b ∷ []) ++ replicate (33 - place) 70)
 
 -- the bytes beside the digits: / and :, @ and G, ` and g

@@ -7,7 +7,7 @@ use native.Mathlib.Omega.{arith}
 use lib.Dec.{eqb}
 use lib.IntN.{ℤ, natAbs}
 use lib.ListN.{replicate}
-use Rattle.log.specs.Line.{Told, line, refused, told}
+use Rattle.log.specs.Line.{LineAnswer, line, refused, told}
 use Rattle.log.specs.Earlier.{oldDigits, oldLine, Answer, done, turned, notePlace, holds16, lossBy, lossOf, unlessLost, loweredBy}
 use Rattle.log.specs.declared.line.Line.{Line}
 use Rattle.log.specs.declared.line.Line.the-variants as lines
@@ -62,7 +62,7 @@ answer-of-event {read} {e} {n} h =
     sym (answer-unless (lossOf (n .0) (n .1) (n .2) (n .3)) _) ∙ ap (λ (r : Line). loweredBy (told r) .answer) (sym h)
 
 -- nothing is handed back of a line that is refused
-pub refused-zeros : (t : Told) (number place : ℕ) → loweredBy t .answer ≡ turned number place
+pub refused-zeros : (t : LineAnswer) (number place : ℕ) → loweredBy t .answer ≡ turned number place
     → loweredBy t .line ≡ replicate oldDigits 0
 refused-zeros (refused n p) number place e = refl
 refused-zeros (line e a b c d) number place h = zeros (lossOf a b c d) h

@@ -12,7 +12,7 @@ use mir.Syntax.{w16, w32}
 use mir.Val.{ofZ}
 use Rattle.numbers.specs.Word.{signedHalf}
 use Rattle.log.specs.Digit.{hexDigit}
-use Rattle.log.specs.Line.{byteFrom, byteAt, noteAt, areDigits, badPlaceOf, Told, line, refused, lineOf}
+use Rattle.log.specs.Line.{byteFrom, byteAt, noteAt, areDigits, badPlaceOf, LineAnswer, line, refused, lineOf}
 use Rattle.log.specs.Line.{AllDigits, PlaceOf15}
 use Rattle.log.specs.declared.earlier.RaiseAnswer.{RaiseAnswer}
 use Rattle.log.specs.declared.earlier.RaiseAnswer.the-variants as raises
@@ -38,7 +38,7 @@ oldNoteAt s n = oldNoteFrom s (2 + 4 * n)
 
 -- "lines of 14 digits: event, three notes of signed 16 bits .. the fourth note 0"; refusal 23, "an old line that isn't 14 digits,
 -- place as in 15 with 14 for 34"
-unfoldable pub oldLineOf : List ℕ → Told
+unfoldable pub oldLineOf : List ℕ → LineAnswer
 oldLineOf s =
     cond (areDigits oldDigits s)
     (line (byteAt s 0) (oldNoteAt s 0) (oldNoteAt s 1) (oldNoteAt s 2) (pos 0))
@@ -98,7 +98,7 @@ abbrev pub notConverted : ℕ → ℕ → ℕ → Converted
 notConverted n number place = record { answer = turned number place; line = replicate n 0 }
 
 -- "brings them up, the fourth note 0": what an old line gives, as it was read
-abbrev pub raisedBy : Told → Converted
+abbrev pub raisedBy : LineAnswer → Converted
 raisedBy (line e a b c d) = converted (newLine e a b c d)
 raisedBy (refused number place) = notConverted lineDigits number place
 
@@ -137,7 +137,7 @@ unlessLost done s = converted s
 unlessLost (turned number place) s = notConverted oldDigits number place
 
 -- "brings new lines down where nothing is lost .. after 15": what a line gives, as it was read
-abbrev pub loweredBy : Told → Converted
+abbrev pub loweredBy : LineAnswer → Converted
 loweredBy (refused number place) = notConverted oldDigits number place
 loweredBy (line e a b c d) = unlessLost (lossOf a b c d) (oldLine e a b c)
 

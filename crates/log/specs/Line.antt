@@ -53,12 +53,12 @@ unfoldable pub noted : List ℕ → ℕ → Noted
 noted s at = cond (leb 8 (digitsAtFront (drop at s))) (noteds.Note (noteFrom s at)) noteds.Bad
 
 -- the answer to a line: its event and its four notes, or a refusal, "its number and place"
-pub data Told : Type 0 where
-  line : (event : ℕ) (first second third fourth : ℤ) → Told
-  refused : (number place : ℕ) → Told
+pub data LineAnswer : Type 0 where
+  line : (event : ℕ) (first second third fourth : ℤ) → LineAnswer
+  refused : (number place : ℕ) → LineAnswer
 
 -- document 01's number and values for each case of the code's answer: `Bad` is refusal 15
-unfoldable pub told : Line → Told
+unfoldable pub told : Line → LineAnswer
 told (lines.Event e n) = line e (n .0) (n .1) (n .2) (n .3)
 told (lines.Bad p) = refused 15 p
 
@@ -71,7 +71,7 @@ abbrev pub isLine : List ℕ → Bool
 isLine s = areDigits 34 s
 
 -- "A log line is 34 digits .. event (1 byte), four notes"; refusal 15, "not 34 digits"
-unfoldable pub lineOf : List ℕ → Told
+unfoldable pub lineOf : List ℕ → LineAnswer
 lineOf s = cond (isLine s) (line (byteAt s 0) (noteAt s 0) (noteAt s 1) (noteAt s 2) (noteAt s 3)) (refused 15 (badPlace s))
 
 -- n digits, byte by byte

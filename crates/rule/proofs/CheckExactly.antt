@@ -11,7 +11,7 @@ use Rattle.rule.specs.Tree.{Cond, relation, not, connective, postfixS, p
 use Rattle.rule.specs.References.{referenceCount}
 use Rattle.rule.specs.Check.{checkedOf}
 use Rattle.rule.proofs.CheckNumbers.{numberOf, placeOf}
-use Rattle.rule.specs.Opening.{Whole, Place, Opening, refused-9, refused-10, refused-7, refused-8, accepted, Proper, refused}
+use Rattle.rule.specs.Opening.{Whole, PlaceOf10, Opening, refused-9, refused-10, refused-7, refused-8, accepted, Proper, refused}
 use Rattle.rule.specs.declared.Checked.{Checked}
 use Rattle.rule.specs.declared.Checked.the-variants.{Accepted}
 use Rattle.rule.specs.declared.Frame.{Frame}
@@ -40,8 +40,8 @@ short-of {s} r w =
     let m : length s ≤ 512 = w .most in
     omega arith
 
-abbrev rule-in : {s : List ℕ} → Proper s → IsRule s
-rule-in p = record { tree = p .tree; limits = p .limits; bytes = p .bytes }
+abbrev pub proper-rule : {s : List ℕ} → Proper s → IsRule s
+proper-rule p = record { tree = p .tree; limits = p .limits; bytes = p .bytes }
 
 -- ---- accepted
 to-proper : {s : List ℕ} {o : Checked} → numberOf o ≡ 0 → Opening s o → Proper s
@@ -52,20 +52,20 @@ to-proper e (refused-8 w r h a) = absurd (let z : 8 ≡ 0 = e in omega arith)
 to-proper e (accepted w r h a) = record { tree = r .tree; limits = r .limits; bytes = r .bytes; short = short-of r w; named = h; exact = a }
 
 from-proper : {s : List ℕ} → Proper s → Opening s Accepted
-from-proper p = accepted (whole-of (rule-in p) (p .short)) (rule-in p) (p .named) (p .exact)
+from-proper p = accepted (whole-of (proper-rule p) (p .short)) (proper-rule p) (p .named) (p .exact)
 
 pub accepted-iff : {s : List ℕ} → Bytes s → (checkedOf s ≡ Accepted) ↔ Proper s
 accepted-iff b = (λ e. to-proper refl (opening-iff b Accepted .0 e), λ p. opening-iff b Accepted .1 (from-proper p))
 
 -- ---- refused with 10
-to-place : {s : List ℕ} {o : Checked} (p : ℕ) → numberOf o ≡ 10 → placeOf o ≡ p → Opening s o → Whole (length s) × Place s p
+to-place : {s : List ℕ} {o : Checked} (p : ℕ) → numberOf o ≡ 10 → placeOf o ≡ p → Opening s o → Whole (length s) × PlaceOf10 s p
 to-place p e f (refused-9 w) = absurd (let z : 9 ≡ 10 = e in omega arith)
-to-place {s} p e f (refused-10 w a) = (w, subst (Place s) f a)
+to-place {s} p e f (refused-10 w a) = (w, subst (PlaceOf10 s) f a)
 to-place p e f (refused-7 w r h) = absurd (let z : 7 ≡ 10 = e in omega arith)
 to-place p e f (refused-8 w r h a) = absurd (let z : 8 ≡ 10 = e in omega arith)
 to-place p e f (accepted w r h a) = absurd (let z : 0 ≡ 10 = e in omega arith)
 
-pub place-iff : {s : List ℕ} → Bytes s → (p : ℕ) → (checkedOf s ≡ refused 10 p) ↔ (Whole (length s) × Place s p)
+pub place-iff : {s : List ℕ} → Bytes s → (p : ℕ) → (checkedOf s ≡ refused 10 p) ↔ (Whole (length s) × PlaceOf10 s p)
 place-iff b p =
     (λ e. to-place p refl refl (opening-iff b (refused 10 p) .0 e), λ a. opening-iff b (refused 10 p) .1 (refused-10 (a .0) (a .1)))
 
@@ -73,5 +73,5 @@ place-iff b p =
 pub few : {s : List ℕ} → Bytes s → checkedOf s ≡ Accepted → referenceCount s ≤ 32
 few {s} b e =
     let p : Proper s = accepted-iff b .0 e in
-    let r : IsRule s = rule-in p in
+    let r : IsRule s = proper-rule p in
     subst (λ (n : ℕ). n ≤ 32) (sym (count-of r)) (at-most-32 r (whole-of r (p .short) .most))

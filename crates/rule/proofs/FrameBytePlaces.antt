@@ -8,7 +8,7 @@ use lib.ListN.{length, take}
 use Rattle.rule.specs.Frames.{frameCount, Bytes}
 use Rattle.rule.specs.Tree.{postfix, bytesOf, IsRule}
 use Rattle.rule.specs.Order.{orderOf}
-use Rattle.rule.specs.Opening.{Begins, Place}
+use Rattle.rule.specs.Opening.{Begins, PlaceOf10}
 use Rattle.rule.specs.declared.Frame.{Frame}
 use Rattle.rule.specs.declared.order.Ordered.the-variants.{At}
 use Rattle.rule.proofs.FrameLists.{framesOf, frames-length, frames-append, frames-bytes, bytes-frames, AllOctets, all-take, octets-in}
@@ -58,7 +58,7 @@ module _ (s : List ℕ) (b : Bytes s) (h : length s % 8 ≡ 0) where
   some : (p : ℕ) → AllOctets (take p (framesOf s))
   some p = all-take p (framesOf s) (octets-in b)
 
-  to-bytes : (p : ℕ) → PlaceF (framesOf s) p → Place s p
+  to-bytes : (p : ℕ) → PlaceF (framesOf s) p → PlaceOf10 s p
   to-bytes p a =
       let l : length (framesOf s) ≡ frameCount s = frames-length s in
       let i : p ≤ length (framesOf s) = a .inside in
@@ -69,7 +69,7 @@ module _ (s : List ℕ) (b : Bytes s) (h : length s % 8 ≡ 0) where
         end = λ g r. a .end (omega arith) (rule-frames r);
       }
 
-  to-frames : (p : ℕ) → Place s p → PlaceF (framesOf s) p
+  to-frames : (p : ℕ) → PlaceOf10 s p → PlaceF (framesOf s) p
   to-frames p a =
       let l : length (framesOf s) ≡ frameCount s = frames-length s in
       let i : p * 8 ≤ length s = a .inside in
@@ -80,5 +80,5 @@ module _ (s : List ℕ) (b : Bytes s) (h : length s % 8 ≡ 0) where
         end = λ g r. a .end (omega arith) (frames-rule b h r);
       }
 
-pub place-bytes : {s : List ℕ} → Bytes s → length s % 8 ≡ 0 → (p : ℕ) → (orderOf s ≡ At p) ↔ Place s p
+pub place-bytes : {s : List ℕ} → Bytes s → length s % 8 ≡ 0 → (p : ℕ) → (orderOf s ≡ At p) ↔ PlaceOf10 s p
 place-bytes {s} b h p = (λ e. to-bytes s b h p (place-frames b p .0 e), λ a. place-frames b p .1 (to-frames s b h p a))

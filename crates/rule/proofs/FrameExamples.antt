@@ -22,7 +22,7 @@ abbrev frames : Cond → List ℕ
 frames c = bytesOf (postfix c)
 
 -- t(out[i]) - t(in[i]) <= 25, with the events in, out
-abbrev latency : Cond
+abbrev pub latency : Cond
 latency = relation atMost (arithmetic subtract (t 1 (pos 0)) (t 0 (pos 0))) (literal 25)
 
 latency-frames : frames latency

@@ -21,8 +21,8 @@ use Rattle.rule.specs.declared.parts.Role.the-variants.{Event, Note}
 use Rattle.rule.proofs.FrameDrafts.{All, all-right, Fine, NameFits, LimitsD}
 use Rattle.rule.proofs.SpellLists.{all-map, all-flat}
 
-pub no-place : {p : Place} → _≡_ {A = Option Place} (some p) none → ⊥
-no-place e = let z : _≡_ {A = ℕ} 0 1 = cc in omega arith
+pub some-not-none : {p : Place} → _≡_ {A = Option Place} (some p) none → ⊥
+some-not-none e = let z : _≡_ {A = ℕ} 0 1 = cc in omega arith
 
 -- ---- a name that stands among others has a number below their count
 pub position-below : (c : ℕ) (xs : List ℕ) → isDeclared c xs ≡ true → position c xs < length xs
@@ -60,7 +60,7 @@ module _ (code value : Place → ℕ) where
   not-first before x xs e = go (bad-name code value before x) e
     where
       go : (b : Bool) → cond b (some (spot code value x)) (first-name code value (before ++ x ∷ []) xs) ≡ none → (b ≡ false) × (first-name code value (before ++ x ∷ []) xs ≡ none)
-      go true f = absurd (no-place f)
+      go true f = absurd (some-not-none f)
       go false f = (refl, f)
 
   -- a name used is one of those declared before it
@@ -117,7 +117,7 @@ module _ (code value : Place → ℕ) where
   all-fine (sized-by l p ∷ xs) e = go (beyond l (value p)) (all-fine xs) e
     where
       go : (b : Bool) → (first-number code value xs ≡ none → All (Fine value) xs) → cond b (some p) (first-number code value xs) ≡ none → (b ≡ false) × All (Fine value) xs
-      go true k f = absurd (no-place f)
+      go true k f = absurd (some-not-none f)
       go false k f = (refl, k f)
 
   -- ---- frames, with T the names of each role

@@ -179,15 +179,15 @@ place-one fs p q a b =
       | no h ↦ elim (decLt q p) [ yes g ↦ absurd (before-not fs q p b a g) | no g ↦ omega arith ]
     ]
 
-no-place : (fs : List Frame) (p : ℕ) → PlaceF fs p → Rule fs → ⊥
-no-place fs p a r =
+placed-no-rule : (fs : List Frame) (p : ℕ) → PlaceF fs p → Rule fs → ⊥
+placed-no-rule fs p a r =
     elim (decLt p (length fs)) [
       | yes h ↦ a .here h (rule-begins fs (suc p) h r)
       | no h ↦ let i : p ≤ length fs = a .inside in a .end (omega arith) r
     ]
 
 place-back : (s : List ℕ) → AllOctets (framesOf s) → (p : ℕ) (r : Ordered) → orderOf s ≡ r → PlaceF (framesOf s) p → orderOf s ≡ At p
-place-back s ok p (Fine m) e a = absurd (no-place (framesOf s) p a (rule-of (framesOf s) ok (fine-runs s (fine-order s m e))))
+place-back s ok p (Fine m) e a = absurd (placed-no-rule (framesOf s) p a (rule-of (framesOf s) ok (fine-runs s (fine-order s m e))))
 place-back s ok p (At q) e a = e ∙ ap At (place-one (framesOf s) q p (place s ok q e) a)
 
 pub place-frames : {s : List ℕ} → Bytes s → (p : ℕ) → (orderOf s ≡ At p) ↔ PlaceF (framesOf s) p

@@ -20,3 +20,7 @@ pub use Rattle.rule.proofs.FrameReferences.{overReferences, over-refere
 pub use Rattle.rule.proofs.FrameFacts.{passed, reference-at, AllWithin, references-within}
 -- bytes, one by one
 pub use Rattle.rule.proofs.FrameLists.{bytes-by, bytes-length}
+-- accepted frames are a rule's
+pub use Rattle.rule.proofs.CheckExactly.{proper-rule}
+-- document 01's first rule
+pub use Rattle.rule.proofs.FrameExamples.{latency}

@@ -13,7 +13,7 @@ use Rattle.rule.specs.Tree.{Limits, postfix, IsRule, references, parts, 
 use Rattle.rule.specs.References.{referenceCount}
 use Rattle.rule.specs.Build.{treeOf}
 use Rattle.rule.specs.Check.{checkedOf}
-use Rattle.rule.specs.Opening.{Whole, Place, Opening, Proper, refused}
+use Rattle.rule.specs.Opening.{Whole, PlaceOf10, Opening, Proper, refused}
 use Rattle.rule.specs.declared.Checked.{Checked}
 use Rattle.rule.specs.declared.Checked.the-variants.{Accepted}
 use Rattle.rule.proofs.TokenWords as words
@@ -107,7 +107,7 @@ tree-of = FrameRules.tree-of
 
 -- refused with 10 at p: exactly where the frames before p begin some rule of some length, and with the frame at p none;
 -- at their count, where only the end is wrong
-pub place-10 : {s : List ℕ} → Bytes s → (p : ℕ) → (checkedOf s ≡ refused 10 p) ↔ (Whole (length s) × Place s p)
+pub place-10 : {s : List ℕ} → Bytes s → (p : ℕ) → (checkedOf s ≡ refused 10 p) ↔ (Whole (length s) × PlaceOf10 s p)
 place-10 = CheckExactly.place-iff
 
 -- at most 32 references in 64 frames

@@ -14,7 +14,7 @@ use Rattle.rule.specs.Tree.{Cond, IsRule, references, parts, NoneExceeds
 use Rattle.rule.specs.Measure.{frames}
 use Rattle.rule.specs.Check.{checkedOf}
 use Rattle.rule.proofs.CheckNumbers.{numberOf}
-use Rattle.rule.specs.Opening.{Whole, Place, Opening, refused-9, refused-10, refused-7, refused-8, accepted, refused}
+use Rattle.rule.specs.Opening.{Whole, PlaceOf10, Opening, refused-9, refused-10, refused-7, refused-8, accepted, refused}
 use Rattle.rule.proofs.ReaderFrames.{treeBytes}
 use Rattle.rule.specs.Answers.{Within}
 use Rattle.rule.specs.declared.Checked.{Checked}
@@ -26,7 +26,7 @@ use Rattle.rule.specs.Meaning.{meaning}
 use Rattle.rule.proofs.FrameTrees.{meaning-limits, tree-taken, tree-rule}
 
 -- bytes that are a rule have no place for 10
-no-place : {s : List ℕ} {p : ℕ} → IsRule s → Place s p → ⊥
+no-place : {s : List ℕ} {p : ℕ} → IsRule s → PlaceOf10 s p → ⊥
 no-place {s} {p} r a =
     elim (decLt (p * 8) (length s)) [
       | yes h ↦ a .here h (record { rest = drop (suc p * 8) s; rule = rw (take-append-drop (suc p * 8) s) r })

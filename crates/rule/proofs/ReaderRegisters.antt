@@ -20,7 +20,7 @@ use Rattle.rule.specs.Items.{Item, enters, puts, itemsCond}
 use Rattle.rule.specs.Machine.{Act, declare, uses, sized, enter, out}
 use Rattle.rule.proofs.GrammarWalk.{readEach, readName, readNumber, readDraft, readItems, readRule}
 use Rattle.rule.proofs.FrameDrafts.{All, Used, names-used}
-use Rattle.rule.proofs.FrameLimits.{no-place, codes-append}
+use Rattle.rule.proofs.FrameLimits.{some-not-none, codes-append}
 use Rattle.rule.proofs.ReaderRefusals.{refused-by, read-as, telling, after-number, after-name, outcome, codes, bad-name, spot, first-name, first-number}
 use Rattle.rule.specs.Spelling.{room}
 use Rattle.rule.specs.Name.{longName}
@@ -200,14 +200,14 @@ module _ (code value : Place → ℕ) where
       → Listed (cond b (blame p m) (enlist r (code p) m)) (l ++ declared r p ∷ [])
   declare-kept r p m l h (some q) e true f =
       let z : first-name code value [] (l ++ declared r p ∷ []) ≡ some q = rw (name-snoc [] l (declared r p), e) in
-      record { first-is = rw (z, h .first-is, e) (blamed-once q p); tables = λ y. absurd (no-place (sym z ∙ y)) }
+      record { first-is = rw (z, h .first-is, e) (blamed-once q p); tables = λ y. absurd (some-not-none (sym z ∙ y)) }
   declare-kept r p m l h (some q) e false f =
       let z : first-name code value [] (l ++ declared r p ∷ []) ≡ some q = rw (name-snoc [] l (declared r p), e) in
-      record { first-is = enlist-name r (code p) m ∙ (h .first-is ∙ (ap (λ x. spot1 x) e ∙ sym (ap (λ x. spot1 x) z))); tables = λ y. absurd (no-place (sym z ∙ y)) }
+      record { first-is = enlist-name r (code p) m ∙ (h .first-is ∙ (ap (λ x. spot1 x) e ∙ sym (ap (λ x. spot1 x) z))); tables = λ y. absurd (some-not-none (sym z ∙ y)) }
   declare-kept r p m l h none e true f =
       let bad : bad-name code value l (declared r p) ≡ true = subst (λ (x : List ℕ). cond (leb longName (code p)) true (cond (isDeclared (code p) x) true (leb (room r) (length x))) ≡ true) (table-is r m l (h .tables e)) f in
       let z : first-name code value [] (l ++ declared r p ∷ []) ≡ some p = rw (name-snoc [] l (declared r p), e, bad) in
-      record { first-is = rw (z, h .first-is, e); tables = λ y. absurd (no-place (sym z ∙ y)) }
+      record { first-is = rw (z, h .first-is, e); tables = λ y. absurd (some-not-none (sym z ∙ y)) }
   declare-kept r p m l h none e false f =
       let bad : bad-name code value l (declared r p) ≡ false = subst (λ (x : List ℕ). cond (leb longName (code p)) true (cond (isDeclared (code p) x) true (leb (room r) (length x))) ≡ false) (table-is r m l (h .tables e)) f in
       let z : first-name code value [] (l ++ declared r p ∷ []) ≡ none = rw (name-snoc [] l (declared r p), e, bad) in
@@ -217,10 +217,10 @@ module _ (code value : Place → ℕ) where
       → Listed (cond b m (blame p m)) (l ++ used r p ∷ [])
   use-kept r p m l h (some q) e true f =
       let z : first-name code value [] (l ++ used r p ∷ []) ≡ some q = rw (name-snoc [] l (used r p), e) in
-      record { first-is = rw (z, h .first-is, e); tables = λ y. absurd (no-place (sym z ∙ y)) }
+      record { first-is = rw (z, h .first-is, e); tables = λ y. absurd (some-not-none (sym z ∙ y)) }
   use-kept r p m l h (some q) e false f =
       let z : first-name code value [] (l ++ used r p ∷ []) ≡ some q = rw (name-snoc [] l (used r p), e) in
-      record { first-is = rw (z, h .first-is, e) (blamed-once q p); tables = λ y. absurd (no-place (sym z ∙ y)) }
+      record { first-is = rw (z, h .first-is, e) (blamed-once q p); tables = λ y. absurd (some-not-none (sym z ∙ y)) }
   use-kept r p m l h none e true f =
       let found : isDeclared (code p) (codes code value r l) ≡ true = subst (λ (x : List ℕ). isDeclared (code p) x ≡ true) (table-is r m l (h .tables e)) f in
       let z : first-name code value [] (l ++ used r p ∷ []) ≡ none = rw (name-snoc [] l (used r p), e, found) in
@@ -228,7 +228,7 @@ module _ (code value : Place → ℕ) where
   use-kept r p m l h none e false f =
       let missed : isDeclared (code p) (codes code value r l) ≡ false = subst (λ (x : List ℕ). isDeclared (code p) x ≡ false) (table-is r m l (h .tables e)) f in
       let z : first-name code value [] (l ++ used r p ∷ []) ≡ some p = rw (name-snoc [] l (used r p), e, missed) in
-      record { first-is = rw (z, h .first-is, e); tables = λ y. absurd (no-place (sym z ∙ y)) }
+      record { first-is = rw (z, h .first-is, e); tables = λ y. absurd (some-not-none (sym z ∙ y)) }
 
   name-kept : (a : Act) (m : Mem) (l : List Named) → Listed m l → Listed (remember code value a m) (note-name a l)
   name-kept (declare r p) m l h = declare-kept r p m l h (first-name code value [] l) refl (misnamed code value r p m) refl

@@ -25,7 +25,7 @@ pub record Begins (s : List ℕ) : Type 0 where
   pub rule : IsRule (s ++ rest)
 
 -- "the first frame that with those before it begins no such rule of any length (their count if only the end is wrong)"
-pub record Place (s : List ℕ) (p : ℕ) : Type 0 where
+pub record PlaceOf10 (s : List ℕ) (p : ℕ) : Type 0 where
   pub inside : p * frameBytes ≤ length s
   pub before : Begins (take (p * frameBytes) s)
   pub here : p * frameBytes < length s → Begins (take (suc p * frameBytes) s) → ⊥
@@ -34,7 +34,7 @@ pub record Place (s : List ℕ) (p : ℕ) : Type 0 where
 -- each answer, with what holds of the bytes and what the earlier checks leave
 pub data Opening (s : List ℕ) : Checked → Type 0 where
   refused-9 : (Whole (length s) → ⊥) → Opening s (refused 9 0)
-  refused-10 : {p : ℕ} → Whole (length s) → Place s p → Opening s (refused 10 p)
+  refused-10 : {p : ℕ} → Whole (length s) → PlaceOf10 s p → Opening s (refused 10 p)
   refused-7 : Whole (length s) → (r : IsRule s) → references (r .tree) ≡ [] → Opening s (refused 7 0)
   refused-8 : Whole (length s) → (r : IsRule s) → (references (r .tree) ≡ [] → ⊥) → (NoneExceeds (parts (r .tree)) → ⊥)
       → Opening s (refused 8 0)

@@ -20,7 +20,6 @@ mod order; // order.rt: refusal 10, and how many references there are
 mod sizes; // sizes.rt: refusal 8
 
 pub use frames::frame_at;
-pub use kinds::REFERENCE_BYTE as REFERENCE;
 pub use limits::FRAME_BYTES;
 use order::Ordered;
 pub use order::reference_count;

@@ -3,8 +3,9 @@ use mathlib.Core.Path.{_≡_, refl}
 use mathlib.Core.List.{List, [], _∷_}
 use Prim.Native.Nat.{ℕ}
 use lib.IntN.{ℤ, pos, negsuc}
-use Rattle.rule.specs.Frames.{subtract, equal, less, atMost, more, or, kindOf}
-use Rattle.rule.specs.Tree.{Sum, literal, reference, arithmetic, abs, Cond, relation, connective, postfix, bytesOf}
+use Rattle.rule.specs.Frames.{equal, less, more, or, kindOf}
+use Rattle.rule.specs.Tree.{Sum, literal, reference, abs, Cond, relation, connective, postfix, bytesOf}
+use Rattle.rule.proofs.Laws.{latency}
 use Rattle.verdict.specs.Pass.{judgementOf}
 use Rattle.verdict.specs.declared.Judgement.{Judgement}
 use Rattle.verdict.specs.declared.Judgement.the-variants.{Unsettled, True, False, Unknown}
@@ -15,10 +16,6 @@ t e o = reference (record { event = e; note = 0; factor = 1; offset = o })
 -- a rule's frames at an instance, with marks and notes
 abbrev said : Cond → ℕ → List ℕ → List ℤ → Judgement
 said c i marks notes = judgementOf (bytesOf (postfix c)) i marks notes
-
--- t(out[i]) - t(in[i]) <= 25: frames 0 and 1 are the references
-abbrev latency : Cond
-latency = relation atMost (arithmetic subtract (t 1 (pos 0)) (t 0 (pos 0))) (literal 25)
 
 m1 : said latency 0 (0 ∷ 0 ∷ []) (pos 35 ∷ pos 10 ∷ []) ≡ True
 unfolding judgementOf kindOf

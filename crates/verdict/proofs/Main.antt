@@ -13,7 +13,7 @@ use Rattle.verdict.specs.Found.{instanceLimit, Found, foundIn, Given, gi
 use Rattle.verdict.specs.Value.{noteOf, valueS, value}
 use Rattle.verdict.specs.Settled.{settled, judgement}
 use Rattle.verdict.specs.Later.{Gains, withFound, GainsIn, Sharpens, MoreLines}
-use Rattle.verdict.specs.Marks.{Told}
+use Rattle.verdict.specs.Marks.{TellAll}
 use Rattle.verdict.specs.Pass.{judgementOf}
 use Rattle.verdict.specs.declared.Judgement.the-variants.{Unsettled}
 use Rattle.verdict.proofs.Own
@@ -23,12 +23,12 @@ use Rattle.verdict.proofs.Means
 
 -- what judge answers of accepted frames is the document's: the value of the rule's tree where the instance is settled,
 -- whatever the references are, so long as the arrays tell it
-pub judge-accepted : (s : List ℕ) (g : Given) (marks : List ℕ) (notes : List ℤ) → checkedOf s ≡ Accepted → Told s (g .found) marks notes
+pub judge-accepted : (s : List ℕ) (g : Given) (marks : List ℕ) (notes : List ℤ) → checkedOf s ≡ Accepted → TellAll s (g .found) marks notes
     → judgementOf s (g .instance) marks notes ≡ judgement g (treeOf s)
 judge-accepted = Means.judge-accepted
 
 -- evaluation of a tree's frames in postfix order gives the tree's value
-pub judge-postfix : {s : List ℕ} (r : IsRule s) (g : Given) (marks : List ℕ) (notes : List ℤ) → Told s (g .found) marks notes
+pub judge-postfix : {s : List ℕ} (r : IsRule s) (g : Given) (marks : List ℕ) (notes : List ℤ) → TellAll s (g .found) marks notes
     → judgementOf s (g .instance) marks notes ≡ judgement g (r .tree)
 judge-postfix = Means.judge-postfix
 

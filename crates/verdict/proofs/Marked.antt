@@ -6,7 +6,7 @@ use Prim.Native.Nat.{ℕ}
 use lib.Dec.{eqb}
 use lib.IntN.{ℤ, pos, negsuc}
 use lib.ListN.{replicate}
-use Rattle.rule.specs.Frames.{add, subtract, multiply, equal, less, atMost, more, or, kindOf}
+use Rattle.rule.specs.Frames.{add, multiply, equal, less, more, or, kindOf}
 use Rattle.rule.specs.Tree.{Sum, literal, reference, arithmetic, abs, Cond, relation, connective, postfix, bytesOf}
 use Rattle.rule.specs.Order.{orderOf}
 use Rattle.rule.specs.References.{referenceCount}
@@ -14,6 +14,7 @@ use Rattle.rule.specs.Sizes.{sizesFit}
 use Rattle.rule.specs.Check.{checkedOf}
 use Rattle.rule.specs.Opening.{refused}
 use Rattle.rule.specs.declared.Checked.the-variants.{Accepted}
+use Rattle.rule.proofs.Laws.{latency}
 use Rattle.verdict.specs.Found.{givenIn}
 use Rattle.verdict.specs.Settled.{judgement}
 use Rattle.verdict.specs.declared.Judgement.{Judgement}
@@ -38,10 +39,6 @@ before n = replicate n (pos 0 ∷ [])
 -- t(e[i + o]), t being note 0
 abbrev t : ℕ → ℤ → Sum
 t e o = reference (record { event = e; note = 0; factor = 1; offset = o })
-
--- events in out; notes t; t(out[i]) - t(in[i]) <= 25
-abbrev latency : Cond
-latency = relation atMost (arithmetic subtract (t 1 (pos 0)) (t 0 (pos 0))) (literal 25)
 
 m1 : over (lines (line (pos 10)) (line (pos 35))) 0 latency ≡ True
 m1 = refl

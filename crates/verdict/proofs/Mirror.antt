@@ -21,7 +21,7 @@ use Rattle.verdict.specs.Found.{Found, present, pending, void, Given, is
 use Rattle.verdict.specs.Kleene.{notK, joined, truth}
 use Rattle.verdict.specs.Value.{computed, sizeOf, noteOf, holds, valueS, value}
 use Rattle.verdict.specs.Settled.{judgedBy, judgement}
-use Rattle.verdict.specs.Marks.{presentMark, pendingMark, Tells, Told}
+use Rattle.verdict.specs.Marks.{presentMark, pendingMark, Tells, TellAll}
 use Rattle.verdict.specs.Pass.{Pass, related, operandBy, passBy, passAt, firstT, judgementOf}
 use Rattle.verdict.specs.declared.Truth.{Truth}
 use Rattle.verdict.specs.declared.Truth.the-variants.{Unknown}
@@ -240,7 +240,7 @@ sums-of : (p : Prefix) (cs : List Cond) (ss : List Sum) → Live p → AsMany p 
 sums-of (viable c k) cs ss l h = sym (h .1)
 sums-of (stuck q) cs ss l h = absurd l
 
-module _ (s : List ℕ) (g : Given) (marks : List ℕ) (notes : List ℤ) (f : InOrder s) (told : Told s (g .found) marks notes) where
+module _ (s : List ℕ) (g : Given) (marks : List ℕ) (notes : List ℤ) (f : InOrder s) (told : TellAll s (g .found) marks notes) where
   holds-next : (k : ℕ) → k < frameCount s → (z : Trees) → treesAt s k ≡ z → HoldsIn g z (passAt s (g .instance) marks notes k) → HoldsIn g (treesAt s (suc k)) (passAt s (g .instance) marks notes (suc k))
   holds-next k l (trees cs ss) e h =
       let x = frameAt s k in

@@ -31,8 +31,8 @@ Tells pending mark note = mark ≡ pendingMark
 Tells void mark note = mark ≡ voidMark
 
 -- "per reference in frame order a mark .. and the value": arrays with an entry for each frame say it of those that are references
-abbrev pub Told : List ℕ → (Reference → Found) → List ℕ → List ℤ → Type 0
-Told s found marks notes =
+abbrev pub TellAll : List ℕ → (Reference → Found) → List ℕ → List ℤ → Type 0
+TellAll s found marks notes =
     (k : ℕ) → k < frameCount s → frameAt s k .kind ≡ referenceByte
     → Tells (found (referenceOf (frameAt s k))) (getD marks k 0) (getD notes k (pos 0))
 

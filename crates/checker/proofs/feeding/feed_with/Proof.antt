@@ -2,7 +2,7 @@
 use mathlib.Core.Path.{_≡_, refl, sym, ap, _∙_}
 use Prim.Native.Nat.{ℕ}
 use borrow.Author.Needs.{needs}
-use Rattle.log.specs.Line.{Told, told, lineOf}
+use Rattle.log.specs.Line.{LineAnswer, told, lineOf}
 use Rattle.log.specs.Line as log
 use Rattle.checker.specs.Parts.{stateOf}
 use Rattle.checker.specs.Feed.{turned}
@@ -48,7 +48,7 @@ returns-2 c =
     let s : State = stateOf (a .frames .now) (a .fields) in
     let r = c .before .before .before .before .read2 .given in
     let n = r .0 .1 .0 in
-    let t : Told = log.line (r .0 .0) (n .0) (n .1) (n .2) (n .3) in
+    let t : LineAnswer = log.line (r .0 .0) (n .0) (n .1) (n .2) (n .3) in
     let q : lineOf (a .line .now) ≡ t = sym (c .before .before .before .before .before .before .read-line .ensures) ∙ ap told (r .1) in
     c .before .feed-event .ensures ∙ sym (fed-by s (a .window .now) (a .line .now) (p .pre .0 .let-in) t q)
 
