@@ -19,7 +19,7 @@ use Rattle.checker.specs.Admission.{Admission, admitted, barred, admission}
 use Rattle.checker.specs.Feed.{fedBy, lineIn, fedIf, feedDef}
 use Rattle.checker.specs.Ready.{Ready}
 use Rattle.checker.specs.declared.State.{State}
-use Rattle.bench.specs.Kept.{keptLimit, kept}
+use Rattle.bench.specs.Kept.{keptLimit, heldWith}
 use Rattle.bench.specs.Progress.{Progress, Chunked, fedLine, afterLine, afterBytes, lastLine}
 use Rattle.bench.specs.Carried.{outBytes, roomy, before, After, chunkedOf, AfterChunked}
 use Rattle.bench.specs.declared.Run.{Run}
@@ -75,7 +75,7 @@ kept-on a t =
       | no h ↦ ap (λ (s : List ℕ). take keptLimit (s ++ t)) (take-all keptLimit a (omega arith))
     ]
 
-kept-next : (h : List ℕ) (b : ℕ) (t : List ℕ) → take keptLimit (kept h (b ∷ []) ++ t) ≡ take keptLimit (h ++ (b ∷ t))
+kept-next : (h : List ℕ) (b : ℕ) (t : List ℕ) → take keptLimit (heldWith h (b ∷ []) ++ t) ≡ take keptLimit (h ++ (b ∷ t))
 kept-next h b t = kept-on (h ++ (b ∷ [])) t ∙ ap (take keptLimit) (append-assoc h (b ∷ []) t)
 
 kept-short : (s : List ℕ) → length (take keptLimit s) ≤ keptLimit
@@ -89,28 +89,28 @@ pub split-line : (x : Progress) (h r : List ℕ) → toLF r < length r
     → afterBytes (holding x h) r ≡ afterBytes (holding (afterLine x (h ++ take (toLF r) r)) []) (drop (suc (toLF r)) r)
 unfolding afterBytes toLF
 split-line x h [] l = absurd (omega arith)
-split-line x h (b ∷ r) l = go (eqb b 10) l (split-line x (kept h (b ∷ [])) r)
+split-line x h (b ∷ r) l = go (eqb b 10) l (split-line x (heldWith h (b ∷ [])) r)
   where
-    whole : (t : List ℕ) → afterLine x (kept h (b ∷ []) ++ t) ≡ afterLine x (h ++ (b ∷ t))
+    whole : (t : List ℕ) → afterLine x (heldWith h (b ∷ []) ++ t) ≡ afterLine x (h ++ (b ∷ t))
     whole t =
-        sym (after-kept x (kept h (b ∷ []) ++ t)) ∙ ap (afterLine x) (kept-next h b t) ∙ after-kept x (h ++ (b ∷ t))
+        sym (after-kept x (heldWith h (b ∷ []) ++ t)) ∙ ap (afterLine x) (kept-next h b t) ∙ after-kept x (h ++ (b ∷ t))
 
     go : (t : Bool) → cond t 0 (suc (toLF r)) < suc (length r)
-        → (toLF r < length r → afterBytes (holding x (kept h (b ∷ []))) r ≡ afterBytes (holding (afterLine x (kept h (b ∷ []) ++ take (toLF r) r)) []) (drop (suc (toLF r)) r))
-        → afterBytes (cond t (holding (afterLine x h) []) (holding x (kept h (b ∷ [])))) r
+        → (toLF r < length r → afterBytes (holding x (heldWith h (b ∷ []))) r ≡ afterBytes (holding (afterLine x (heldWith h (b ∷ []) ++ take (toLF r) r)) []) (drop (suc (toLF r)) r))
+        → afterBytes (cond t (holding (afterLine x h) []) (holding x (heldWith h (b ∷ [])))) r
         ≡ afterBytes (holding (afterLine x (h ++ take (cond t 0 (suc (toLF r))) (b ∷ r))) []) (drop (suc (cond t 0 (suc (toLF r)))) (b ∷ r))
     go true m i = ap (λ (s : List ℕ). afterBytes (holding (afterLine x s) []) r) (sym (append-nil h))
     go false m i =
         i (omega arith)
         ∙ ap (λ (y : Progress). afterBytes (holding y []) (drop (suc (toLF r)) r)) (whole (take (toLF r) r))
 
-pub split-none : (x : Progress) (h r : List ℕ) → length h ≤ keptLimit → toLF r ≡ length r → afterBytes (holding x h) r ≡ holding x (kept h r)
+pub split-none : (x : Progress) (h r : List ℕ) → length h ≤ keptLimit → toLF r ≡ length r → afterBytes (holding x h) r ≡ holding x (heldWith h r)
 unfolding afterBytes toLF
 split-none x h [] l e = ap (holding x) (sym (ap (take keptLimit) (append-nil h) ∙ take-all keptLimit h l))
-split-none x h (b ∷ r) l e = go (eqb b 10) e (split-none x (kept h (b ∷ [])) r (kept-short (h ++ (b ∷ []))))
+split-none x h (b ∷ r) l e = go (eqb b 10) e (split-none x (heldWith h (b ∷ [])) r (kept-short (h ++ (b ∷ []))))
   where
-    go : (t : Bool) → cond t 0 (suc (toLF r)) ≡ suc (length r) → (toLF r ≡ length r → afterBytes (holding x (kept h (b ∷ []))) r ≡ holding x (kept (kept h (b ∷ [])) r))
-        → afterBytes (cond t (holding (afterLine x h) []) (holding x (kept h (b ∷ [])))) r ≡ holding x (kept h (b ∷ r))
+    go : (t : Bool) → cond t 0 (suc (toLF r)) ≡ suc (length r) → (toLF r ≡ length r → afterBytes (holding x (heldWith h (b ∷ []))) r ≡ holding x (heldWith (heldWith h (b ∷ [])) r))
+        → afterBytes (cond t (holding (afterLine x h) []) (holding x (heldWith h (b ∷ [])))) r ≡ holding x (heldWith h (b ∷ r))
     go true m i = absurd (omega arith)
     go false m i = i (omega arith) ∙ ap (holding x) (kept-next h b r)
 
@@ -124,12 +124,12 @@ bytes-before w o [] = refl
 bytes-before w o (b ∷ s) = go (eqb b 10) (λ p. bytes-before w p s)
   where
     go : (t : Bool) → ((p : Chunked) → afterBytes (beforeOpen w p) s ≡ beforeOpen w (afterBytes p s))
-        → afterBytes (cond t (holding (afterLine (before w (o .progress)) (o .held)) []) (holding (before w (o .progress)) (kept (o .held) (b ∷ [])))) s
-        ≡ beforeOpen w (afterBytes (cond t (holding (afterLine (o .progress) (o .held)) []) (holding (o .progress) (kept (o .held) (b ∷ [])))) s)
+        → afterBytes (cond t (holding (afterLine (before w (o .progress)) (o .held)) []) (holding (before w (o .progress)) (heldWith (o .held) (b ∷ [])))) s
+        ≡ beforeOpen w (afterBytes (cond t (holding (afterLine (o .progress) (o .held)) []) (holding (o .progress) (heldWith (o .held) (b ∷ [])))) s)
     go true i =
         ap (λ (y : Progress). afterBytes (holding y []) s) (line-before w (o .progress) (o .held))
         ∙ i (holding (afterLine (o .progress) (o .held)) [])
-    go false i = i (holding (o .progress) (kept (o .held) (b ∷ [])))
+    go false i = i (holding (o .progress) (heldWith (o .held) (b ∷ [])))
 
 bytes-grow : (o : Chunked) (s : List ℕ) → length (o .progress .said) ≤ length (afterBytes o s .progress .said)
 unfolding afterBytes
@@ -138,9 +138,9 @@ bytes-grow o (b ∷ s) = go (eqb b 10) (λ p. bytes-grow p s)
   where
     go : (t : Bool) → ((p : Chunked) → length (p .progress .said) ≤ length (afterBytes p s .progress .said))
         → length (o .progress .said)
-        ≤ length (afterBytes (cond t (holding (afterLine (o .progress) (o .held)) []) (holding (o .progress) (kept (o .held) (b ∷ [])))) s .progress .said)
+        ≤ length (afterBytes (cond t (holding (afterLine (o .progress) (o .held)) []) (holding (o .progress) (heldWith (o .held) (b ∷ [])))) s .progress .said)
     go true i = let g = line-grows (o .progress) (o .held) in let j = i (holding (afterLine (o .progress) (o .held)) []) in omega arith
-    go false i = i (holding (o .progress) (kept (o .held) (b ∷ [])))
+    go false i = i (holding (o .progress) (heldWith (o .held) (b ∷ [])))
 
 pub open-refl : (o : Chunked) → AfterChunked o o
 open-refl o = record { progress = after-refl (o .progress); held = refl }
@@ -198,13 +198,13 @@ chunk-line s at b e n f l m want x h y w a = go (ltb (endOf s at) (length s)) re
 -- the rest of a chunk
 pub chunk-rest : (s : List ℕ) (at b e n : ℕ) → lineAt s at ≡ Line b e n → at < length s → n ≤ e
     → (want : Chunked) (x : Progress) (h : List ℕ) → length h ≤ keptLimit → AfterChunked want (afterBytes (holding x h) (drop at s))
-    → AfterChunked want (holding x (kept h (take (e - b) (drop b s))))
+    → AfterChunked want (holding x (heldWith h (take (e - b) (drop b s))))
 chunk-rest s at b e n f l m want x h k w = go (ltb (endOf s at) (length s)) refl (found .1 .1)
   where
     found : (b ≡ at) × ((e ≡ endOf s at) × (n ≡ cond (ltb (endOf s at) (length s)) (endOf s at + 1) (endOf s at)))
     found = found-at s at b e n l f
 
-    go : (t : Bool) → ltb (endOf s at) (length s) ≡ t → n ≡ cond t (endOf s at + 1) (endOf s at) → AfterChunked want (holding x (kept h (take (e - b) (drop b s))))
+    go : (t : Bool) → ltb (endOf s at) (length s) ≡ t → n ≡ cond t (endOf s at + 1) (endOf s at) → AfterChunked want (holding x (heldWith h (take (e - b) (drop b s))))
     go true d c = absurd (omega (arith, found .1 .0))
     go false d c =
         let o = ltb-false (endOf s at) (length s) d in

@@ -6,7 +6,7 @@ use native.Mathlib.Numerals.{add-one}
 use native.Mathlib.Omega.{arith}
 use lib.ListN.{length, getD, set, take, length-append}
 use lib.Seq.{take-suc, take-suc-set, take-all, take-append-add, length-take-le}
-use Rattle.bench.specs.Kept.{keptLimit, kept}
+use Rattle.bench.specs.Kept.{keptLimit, heldWith}
 
 -- what the loop keeps
 pub record Keeping (carry0 : List ℕ) (held : ℕ) (part carry : List ℕ) (n i : ℕ) : Type 0 where
@@ -38,7 +38,7 @@ module _ (carry0 : List ℕ) (held : ℕ) (part : List ℕ) where
         ∙ ap (λ (s : List ℕ). take held carry0 ++ s) (sym b)
 
     -- the part has ended
-    pub keep-whole : held ≤ keptLimit → length carry0 ≡ keptLimit → length part ≤ i → take n carry ≡ kept (take held carry0) part
+    pub keep-whole : held ≤ keptLimit → length carry0 ≡ keptLimit → length part ≤ i → take n carry ≡ heldWith (take held carry0) part
     keep-whole h l e =
         let f : take i part ≡ part = take-all i part e in
         let g : length (take held carry0 ++ part) ≤ keptLimit =
@@ -46,7 +46,7 @@ module _ (carry0 : List ℕ) (held : ℕ) (part : List ℕ) where
         k .same ∙ ap (λ (s : List ℕ). take held carry0 ++ s) f ∙ sym (take-all keptLimit (take held carry0 ++ part) g)
 
     -- there is no more room
-    pub keep-full : held ≤ keptLimit → length carry0 ≡ keptLimit → keptLimit ≤ n → take n carry ≡ kept (take held carry0) part
+    pub keep-full : held ≤ keptLimit → length carry0 ≡ keptLimit → keptLimit ≤ n → take n carry ≡ heldWith (take held carry0) part
     keep-full h l e =
         let f : length (take held carry0) + i ≡ keptLimit = omega (arith, length-take-le held carry0 (omega arith), k .count, k .room) in
         k .same ∙ sym (take-append-add (take held carry0) part i) ∙ ap (λ (m : ℕ). take m (take held carry0 ++ part)) f

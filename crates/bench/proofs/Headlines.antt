@@ -25,8 +25,8 @@ use Rattle.checker.specs.declared.State.{State}
 use Rattle.checker.proofs.Laws.{let-in}
 use Rattle.bench.specs.Print.{refusedLine, reportPart}
 use Rattle.bench.specs.Kept.{keptLimit}
-use Rattle.bench.specs.Progress.{Progress, blank, UntilWaiting, pulls, pullLimit, fedLine, afterLine, afterLines, Chunked, afterBytes, atEnd}
-use Rattle.bench.specs.Output.{atStart, withTotals, begun, wholeRun, openedFor, outputOf}
+use Rattle.bench.specs.Progress.{Progress, emptyReport, UntilWaiting, pulls, pullLimit, fedLine, afterLine, afterLines, Chunked, afterBytes, atEnd}
+use Rattle.bench.specs.Output.{beforeLog, withTotals, begun, wholeRun, openedFor, outputOf}
 use Rattle.bench.proofs.ChunkLaws
 use Rattle.bench.proofs.Whole
 use Rattle.bench.proofs.Waiting
@@ -39,7 +39,7 @@ pulls-wait x g b f = Waiting.pulls-wait x (record { admits = let-in (x .state) (
 
 -- ".. before the first line and after each": for every rule that is read, and after whatever lines
 module _ (text : List ℕ) (n : ℕ) (s : List ℕ) (r : readOf text (replicate (frameLimit * frameBytes) 0) ≡ (Frames n, s)) where
-  pub first-waits : UntilWaiting (atStart (openedFor (take (n * frameBytes) s))) (begun (openedFor (take (n * frameBytes) s)))
+  pub first-waits : UntilWaiting (beforeLog (openedFor (take (n * frameBytes) s))) (begun (openedFor (take (n * frameBytes) s)))
   first-waits = Waiting.first-waits text _ n s r
 
   pub line-waits : (ls : List (List ℕ)) (line : List ℕ)
@@ -74,8 +74,8 @@ pub kept-decides : (x : Progress) (line : List ℕ) → afterLine x (take keptLi
 kept-decides = ChunkLaws.after-kept
 
 -- what is printed of a false verdict is its report, whole and nothing else
-pub report-whole : (s : State) (win : List ℤ) → pullDef s win blank .answer ≡ verdict False
-    → reportPart (pullDef s win blank .report) ≡ reportBytes (s .next .0) (map (foundHere s win) (refsIn s))
+pub report-whole : (s : State) (win : List ℤ) → pullDef s win emptyReport .answer ≡ verdict False
+    → reportPart (pullDef s win emptyReport .report) ≡ reportBytes (s .next .0) (map (foundHere s win) (refsIn s))
 report-whole = Whole.report-printed
 
 -- two printed digits are the byte, as a log line's digits are read

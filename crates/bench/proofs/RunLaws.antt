@@ -27,7 +27,7 @@ use Rattle.checker.specs.declared.parts.Fields.{Fields}
 use Rattle.checker.specs.declared.State.{State}
 use Rattle.checker.proofs.Laws.{opened-stays, fed-stays, pulled-stays}
 use Rattle.bench.specs.Print.{reportPart}
-use Rattle.bench.specs.Progress.{Progress, blank, pullOf, printed, isVerdict, pulledOnce, pulls, pullLimit, countedBy, fedLine, afterLine}
+use Rattle.bench.specs.Progress.{Progress, emptyReport, pullOf, printed, isVerdict, pulledOnce, pulls, pullLimit, countedBy, fedLine, afterLine}
 use Rattle.bench.specs.Carried.{outBytes, progressOf, roomy, Ends, before, After, Running, Stepped}
 use Rattle.bench.specs.declared.Run.{Run}
 
@@ -125,20 +125,20 @@ ready-opened frames fs w win o win′ f b a l e d =
 -- one pull as the code makes it, whatever the answer
 module _ (frames : List ℕ) (r q : Run) (win : List ℤ) (out : List ℕ) (p : PulledFields) (more : Bool) where
   pub pulled-arm : (out′ report report′ : List ℕ) (full : ℕ) → q ≡ record { fields = p .fields; counts = r .counts; held = r .held; full = full; more = more }
-      → Running frames r win out → Bytes (stateFrames (stateOf frames (r .fields))) → report ≡ blank
+      → Running frames r win out → Bytes (stateFrames (stateOf frames (r .fields))) → report ≡ emptyReport
       → pullOutcome (pulledOf frames p) report′ ≡ pullDef (stateOf frames (r .fields)) win report
       → full ≤ outBytes → more ≡ isVerdict (pullTold (p .answer)) → Ends (take full out′) (take (r .full) out ++ printed (pullTold (p .answer)) report′)
       → Stepped frames q win out′ (pulledOnce (progressOf frames r win out))
       × ((q .held ≡ r .held) × (q .more ≡ isVerdict (pullOf (progressOf frames r win out) .answer)))
   pulled-arm out′ report report′ full e y z b d h m n =
-      let d′ : pullOutcome (pulledOf frames p) report′ ≡ pullDef (stateOf frames (r .fields)) win blank = rw b at d in
-      let a : pullTold (p .answer) ≡ pullDef (stateOf frames (r .fields)) win blank .answer = ap (λ (x : PullResult). x .answer) d′ in
-      let s : stateOf frames (p .fields) ≡ pullDef (stateOf frames (r .fields)) win blank .state = ap (λ (x : PullResult). x .state) d′ in
-      let w : report′ ≡ pullDef (stateOf frames (r .fields)) win blank .report = ap (λ (x : PullResult). x .report) d′ in
-      let n′ : Ends (take full out′) (take (r .full) out ++ printed (pullDef (stateOf frames (r .fields)) win blank .answer) (pullDef (stateOf frames (r .fields)) win blank .report)) = rw (a, w) at n in
+      let d′ : pullOutcome (pulledOf frames p) report′ ≡ pullDef (stateOf frames (r .fields)) win emptyReport = rw b at d in
+      let a : pullTold (p .answer) ≡ pullDef (stateOf frames (r .fields)) win emptyReport .answer = ap (λ (x : PullResult). x .answer) d′ in
+      let s : stateOf frames (p .fields) ≡ pullDef (stateOf frames (r .fields)) win emptyReport .state = ap (λ (x : PullResult). x .state) d′ in
+      let w : report′ ≡ pullDef (stateOf frames (r .fields)) win emptyReport .report = ap (λ (x : PullResult). x .report) d′ in
+      let n′ : Ends (take full out′) (take (r .full) out ++ printed (pullDef (stateOf frames (r .fields)) win emptyReport .answer) (pullDef (stateOf frames (r .fields)) win emptyReport .report)) = rw (a, w) at n in
       rw e (
         record {
-          ready = ready-pulled frames (r .fields) (p .fields) win blank (y .ready) z s;
+          ready = ready-pulled frames (r .fields) (p .fields) win emptyReport (y .ready) z s;
           full = h;
           after = pulled-as (progressOf frames r win out) (stateOf frames (p .fields)) (take full out′) s n′;
         },
@@ -147,7 +147,7 @@ module _ (frames : List ℕ) (r q : Run) (win : List ℤ) (out : List ℕ) (p : 
 
   -- one that prints nothing
   pub pulled-quiet : (report report′ : List ℕ) → q ≡ record { fields = p .fields; counts = r .counts; held = r .held; full = r .full; more = more }
-      → Running frames r win out → Bytes (stateFrames (stateOf frames (r .fields))) → report ≡ blank
+      → Running frames r win out → Bytes (stateFrames (stateOf frames (r .fields))) → report ≡ emptyReport
       → pullOutcome (pulledOf frames p) report′ ≡ pullDef (stateOf frames (r .fields)) win report
       → more ≡ isVerdict (pullTold (p .answer)) → printed (pullTold (p .answer)) report′ ≡ []
       → Stepped frames q win out (pulledOnce (progressOf frames r win out))

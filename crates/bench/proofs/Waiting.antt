@@ -30,8 +30,8 @@ use Rattle.checker.specs.Feed.{feedDef}
 use Rattle.checker.specs.Pull.{offered, pullRead, PullResult, givenHere, pulledBy, pullDef}
 use Rattle.checker.specs.declared.State.{State}
 use Rattle.checker.proofs.Laws.{both-opened, in-good, opened-stays, fed-stays, pulled-stays, feed-rule, pull-rule}
-use Rattle.bench.specs.Progress.{Progress, blank, pullOf, isVerdict, pulledOnce, UntilWaiting, last, more, pulls, pullLimit, fedLine, afterLine, afterLines}
-use Rattle.bench.specs.Output.{benchWidth, atStart, begun, openedFor}
+use Rattle.bench.specs.Progress.{Progress, emptyReport, pullOf, isVerdict, pulledOnce, UntilWaiting, last, more, pulls, pullLimit, fedLine, afterLine, afterLines}
+use Rattle.bench.specs.Output.{benchWidth, beforeLog, begun, openedFor}
 use Rattle.bench.proofs.Whole.{read-opened}
 
 -- ---- what 12 and 13 let through
@@ -54,7 +54,7 @@ data Pulled (p : ℕ) (r : PullResult) : Type 0 where
   waited : r .answer ≡ waiting → Pulled p r
   given : (v : Verdict) → r .answer ≡ verdict v → r .state .next .0 ≡ p + 1 → Pulled p r
 
-pulled-by : (s : State) (win : List ℤ) (j : Judgement) → Pulled (s .next .0) (pulledBy s win blank (offered j))
+pulled-by : (s : State) (win : List ℤ) (j : Judgement) → Pulled (s .next .0) (pulledBy s win emptyReport (offered j))
 unfolding withTally
 pulled-by s win Unsettled = waited refl
 pulled-by s win True = given Verdict.True refl refl
@@ -76,8 +76,8 @@ module _ (x : Progress) (s : LetIn x) where
   unfolding pulledOnce
   in-pulled =
       record {
-        admits = pulled-stays (x .state) (x .words) (s .admits) (s .bytes) blank;
-        bytes = subst Bytes (sym (same-frames (x .state) (pullOf x .state) (pull-rule (x .state) (x .words) blank))) (s .bytes);
+        admits = pulled-stays (x .state) (x .words) (s .admits) (s .bytes) emptyReport;
+        bytes = subst Bytes (sym (same-frames (x .state) (pullOf x .state) (pull-rule (x .state) (x .words) emptyReport))) (s .bytes);
       }
 
   in-fed : (line : List ℕ) → LetIn (fedLine x line)
@@ -116,7 +116,7 @@ in-lines x (l ∷ ls) s =
     in-lines (afterLine x l) ls (in-until (fedLine x l) (afterLine x l) (pulls-wait (fedLine x l) f) f)
 
 -- ---- from an unrefused opening
-in-first : {frames : List ℕ} {win : List ℤ} → Unrefused frames benchWidth win → LetIn (atStart (openDef frames benchWidth win))
+in-first : {frames : List ℕ} {win : List ℤ} → Unrefused frames benchWidth win → LetIn (beforeLog (openDef frames benchWidth win))
 in-first {frames} {win} o =
     record {
       admits = opened-stays o;
@@ -127,14 +127,14 @@ module _ (text b : List ℕ) (n : ℕ) (s : List ℕ) (r : readOf text b ≡ (Fr
   abbrev o : OpenResult
   o = openedFor (take (n * frameBytes) s)
 
-  sound-read : LetIn (atStart o)
+  sound-read : LetIn (beforeLog o)
   sound-read = in-first (record { bytes = read-bytes text b n s r; answer = read-opened text b n s r })
 
-  pub first-waits : UntilWaiting (atStart o) (begun o)
-  first-waits = pulls-wait (atStart o) sound-read
+  pub first-waits : UntilWaiting (beforeLog o) (begun o)
+  first-waits = pulls-wait (beforeLog o) sound-read
 
   pub line-waits : (ls : List (List ℕ)) (line : List ℕ)
       → UntilWaiting (fedLine (afterLines (begun o) ls) line) (afterLine (afterLines (begun o) ls) line)
   line-waits ls line =
-      let p = in-lines (begun o) ls (in-until (atStart o) (begun o) first-waits sound-read) in
+      let p = in-lines (begun o) ls (in-until (beforeLog o) (begun o) first-waits sound-read) in
       pulls-wait (fedLine (afterLines (begun o) ls) line) (in-fed (afterLines (begun o) ls) p line)

@@ -33,14 +33,14 @@ use Rattle.checker.specs.Admission.{Admission, admitted, barred, admission}
 use Rattle.checker.specs.Pull.{nextIn, pulledIf, PullRead, short, waits, gave, foundHere, pulledBy, pullDef}
 use Rattle.checker.specs.declared.State.{State}
 use Rattle.bench.specs.Print.{refusedLine, reportPart}
-use Rattle.bench.specs.Kept.{keptLimit, kept}
-use Rattle.bench.specs.Progress.{Progress, blank, Chunked, afterLine, afterLines, afterBytes, atEnd}
+use Rattle.bench.specs.Kept.{keptLimit, heldWith}
+use Rattle.bench.specs.Progress.{Progress, emptyReport, Chunked, afterLine, afterLines, afterBytes, atEnd}
 use Rattle.bench.specs.Output.{withTotals, begun, wholeRun, afterOpening, openedFor, afterReading, outputOf}
 use Rattle.bench.proofs.ChunkLaws.{after-kept, kept-on}
 
 -- ---- chunks
 abbrev stepped : Chunked → ℕ → Chunked
-stepped o b = cond (eqb b 10) (record { progress = afterLine (o .progress) (o .held); held = [] }) (record { progress = o .progress; held = kept (o .held) (b ∷ []) })
+stepped o b = cond (eqb b 10) (record { progress = afterLine (o .progress) (o .held); held = [] }) (record { progress = o .progress; held = heldWith (o .held) (b ∷ []) })
 
 pub bytes-cut : (o : Chunked) (s t : List ℕ) → afterBytes o (s ++ t) ≡ afterBytes (afterBytes o s) t
 unfolding afterBytes
@@ -74,7 +74,7 @@ whole-from x (b ∷ p) [] = after-kept x (b ∷ p) ∙ ap (afterLines x) (sym (f
 whole-from x p (c ∷ s) = go (eqb c 10) (λ y q. whole-from y q s)
   where
     go : (t : Bool) → ((y : Progress) (q : List ℕ) → after y (take keptLimit q) s ≡ afterLines y (from q (linesOf s)))
-        → atEnd (afterBytes (cond t (record { progress = afterLine x (take keptLimit p); held = [] }) (record { progress = x; held = kept (take keptLimit p) (c ∷ []) })) s)
+        → atEnd (afterBytes (cond t (record { progress = afterLine x (take keptLimit p); held = [] }) (record { progress = x; held = heldWith (take keptLimit p) (c ∷ []) })) s)
         ≡ afterLines x (from p (cond t ([] ∷ linesOf s) (onto c (linesOf s))))
     go true i =
         i (afterLine x (take keptLimit p)) []
@@ -126,22 +126,22 @@ unfolding reportBytes
 report-back p xs buffer = take-at (reportBytes p xs) (drop (length (reportBytes p xs)) buffer) (6 + 5 * length xs) (omega (arith, entries-length xs))
 
 module _ (s : State) (win : List ℤ) where
-  by-read : (x : PullRead) → pulledBy s win blank x .answer ≡ verdict False
-      → reportPart (pulledBy s win blank x .report) ≡ reportBytes (s .next .0) (map (foundHere s win) (refsIn s))
+  by-read : (x : PullRead) → pulledBy s win emptyReport x .answer ≡ verdict False
+      → reportPart (pulledBy s win emptyReport x .report) ≡ reportBytes (s .next .0) (map (foundHere s win) (refsIn s))
   by-read short e = absurd (let z : _≡_ {A = ℕ} 0 1 = cc in omega arith)
   by-read waits e = absurd (let z : _≡_ {A = ℕ} 0 1 = cc in omega arith)
   by-read (gave True) e = absurd (let z : _≡_ {A = ℕ} 0 1 = cc in omega arith)
   by-read (gave Unknown) e = absurd (let z : _≡_ {A = ℕ} 0 1 = cc in omega arith)
-  by-read (gave False) e = report-back (s .next .0) (map (foundHere s win) (refsIn s)) blank
+  by-read (gave False) e = report-back (s .next .0) (map (foundHere s win) (refsIn s)) emptyReport
 
-  pub report-printed : pullDef s win blank .answer ≡ verdict False
-      → reportPart (pullDef s win blank .report) ≡ reportBytes (s .next .0) (map (foundHere s win) (refsIn s))
+  pub report-printed : pullDef s win emptyReport .answer ≡ verdict False
+      → reportPart (pullDef s win emptyReport .report) ≡ reportBytes (s .next .0) (map (foundHere s win) (refsIn s))
   unfolding pullDef
   report-printed = go (admission s win)
     where
-      go : (a : Admission) → pulledIf s win blank a .answer ≡ verdict False
-          → reportPart (pulledIf s win blank a .report) ≡ reportBytes (s .next .0) (map (foundHere s win) (refsIn s))
-      go admitted e = by-read (nextIn s win (length blank)) e
+      go : (a : Admission) → pulledIf s win emptyReport a .answer ≡ verdict False
+          → reportPart (pulledIf s win emptyReport a .report) ≡ reportBytes (s .next .0) (map (foundHere s win) (refsIn s))
+      go admitted e = by-read (nextIn s win (length emptyReport)) e
       go (barred number) e = absurd (let z : _≡_ {A = ℕ} 0 1 = cc in omega arith)
 
 -- ---- digits

@@ -9,5 +9,5 @@ abbrev pub keptLimit : ℕ
 keptLimit = 35
 
 -- what is held of a line, with more of it
-abbrev pub kept : List ℕ → List ℕ → List ℕ
-kept held part = take keptLimit (held ++ part)
+abbrev pub heldWith : List ℕ → List ℕ → List ℕ
+heldWith held part = take keptLimit (held ++ part)

@@ -20,8 +20,8 @@ abbrev pub benchWidth : ℕ
 benchWidth = 64
 
 -- nothing printed yet, no line counted
-abbrev pub atStart : OpenResult → Progress
-atStart o = record { state = o .state; words = o .words; counts = record { accepted = 0; ignored = 0; refused = 0 }; said = [] }
+abbrev pub beforeLog : OpenResult → Progress
+beforeLog o = record { state = o .state; words = o .words; counts = record { accepted = 0; ignored = 0; refused = 0 }; said = [] }
 
 -- reports, "then true, false, unknown, accepted, ignored, refused .. on one line"
 abbrev pub withTotals : Progress → List ℕ
@@ -29,7 +29,7 @@ withTotals x = x .said ++ totalsLine (x .state .totals) (x .counts)
 
 -- "pulls until waiting before the first line"
 abbrev pub begun : OpenResult → Progress
-begun o = pulls pullLimit (atStart o)
+begun o = pulls pullLimit (beforeLog o)
 
 -- ".. and after each"
 abbrev pub wholeRun : OpenResult → List ℕ → List ℕ

@@ -14,7 +14,7 @@ use Rattle.checker.specs.Feed.{FeedResult, feedDef}
 use Rattle.checker.specs.Pull.{PullResult, pullDef}
 use Rattle.checker.specs.declared.State.{State}
 use Rattle.bench.specs.Print.{hexLine, reportPart}
-use Rattle.bench.specs.Kept.{kept}
+use Rattle.bench.specs.Kept.{heldWith}
 use Rattle.bench.specs.declared.Counts.{Counts}
 
 -- how far the program has come: the checker's state and window, the counts of lines, and all that it has printed
@@ -26,12 +26,12 @@ pub record Progress : Type 0 where
 
 -- ---- pulling
 -- the report buffer that each pull is lent
-abbrev pub blank : List ℕ
-blank = replicate reportLeast 0
+abbrev pub emptyReport : List ℕ
+emptyReport = replicate reportLeast 0
 
 -- what a pull gives
 abbrev pub pullOf : Progress → PullResult
-pullOf x = pullDef (x .state) (x .words) blank
+pullOf x = pullDef (x .state) (x .words) emptyReport
 
 -- "prints reports as hexadecimal lines": what a pull has printed
 abbrev pub printed : Answer → List ℕ → List ℕ
@@ -79,14 +79,14 @@ pullLimit = 1010001
 
 -- ---- feeding
 -- "(modulo 2^32)"
-abbrev pub oneMore : ℕ → ℕ
-oneMore n = (n + 1) % 2 ^ 32
+abbrev pub oneMoreLine : ℕ → ℕ
+oneMoreLine n = (n + 1) % 2 ^ 32
 
 -- "accepted, ignored, refused": the counts after a line's answer
 abbrev pub countedBy : Answer → Counts → Counts
-countedBy accepted c = record { accepted = oneMore (c .accepted); ignored = c .ignored; refused = c .refused }
-countedBy ignored c = record { accepted = c .accepted; ignored = oneMore (c .ignored); refused = c .refused }
-countedBy (refused number place) c = record { accepted = c .accepted; ignored = c .ignored; refused = oneMore (c .refused) }
+countedBy accepted c = record { accepted = oneMoreLine (c .accepted); ignored = c .ignored; refused = c .refused }
+countedBy ignored c = record { accepted = c .accepted; ignored = oneMoreLine (c .ignored); refused = c .refused }
+countedBy (refused number place) c = record { accepted = c .accepted; ignored = c .ignored; refused = oneMoreLine (c .refused) }
 countedBy opened c = c
 countedBy waiting c = c
 countedBy (verdict v) c = c
@@ -130,7 +130,7 @@ afterBytes o (b ∷ s) =
       held = [];
     }) (record {
       progress = o .progress;
-      held = kept (o .held) (b ∷ []);
+      held = heldWith (o .held) (b ∷ []);
     }))
     s
 

@@ -15,7 +15,7 @@ ghost use Rattle.checker.specs.Limits.{reportLeast};
 ghost use Rattle.checker.specs.Answer.{feedTold};
 ghost use Rattle.checker.specs.Ready.{Ready};
 ghost use Rattle.bench.specs.Print.{hexLine, reportPart};
-ghost use Rattle.bench.specs.Progress.{blank, pullOf, isVerdict, pulledOnce, pulls, pullLimit, countedBy, fedLine, afterLine};
+ghost use Rattle.bench.specs.Progress.{emptyReport, pullOf, isVerdict, pulledOnce, pulls, pullLimit, countedBy, fedLine, afterLine};
 ghost use Rattle.bench.specs.Carried.{outBytes, progressOf, roomy, Ends, Running, Stepped};
 
 // With so many bytes waiting there is room for every line.
@@ -73,7 +73,7 @@ fn with_pulled(r: Run, pulled: PulledFields, full: usize, more: bool) -> Run
 
 // One pull into a report buffer of zeros.
 fn pull_into(frames: &[u8], r: Run, window: &[i32], out: &mut [u8], report: &mut [u8]) -> Run
-    requires { ⌜ Running (now frames) r (now window) (now out) × (now report ≡ blank) ⌝ }
+    requires { ⌜ Running (now frames) r (now window) (now out) × (now report ≡ emptyReport) ⌝ }
     ensures { λ q. ⌜ Stepped (now (frames .entry)) q (now (window .entry)) (now (out .exit))
         (pulledOnce (progressOf (now (frames .entry)) r (now (window .entry)) (now (out .entry))))
         × ((q .held ≡ r .held)

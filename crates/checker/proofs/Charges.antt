@@ -175,8 +175,8 @@ unfolding heard
 heard-back (charges.Cents c) = refl
 heard-back (charges.Refused r) = refl
 
-pub told-injective : (a b : ChargeAnswer) → chargeTold a ≡ chargeTold b → a ≡ b
-told-injective a b e = sym (heard-back a) ∙ ap heard e ∙ heard-back b
+pub charge-told-injective : (a b : ChargeAnswer) → chargeTold a ≡ chargeTold b → a ≡ b
+charge-told-injective a b e = sym (heard-back a) ∙ ap heard e ∙ heard-back b
 
 -- ---- what each refusal says
 never-true : (b : Bool) → (b ≡ true → ⊥) → b ≡ false

@@ -26,7 +26,7 @@ use Rattle.checker.specs.Limits.{lineLimit}
 use Rattle.checker.specs.Base.{ofEvent, isSome, referenced, orZero, startAt, smallest, base}
 use Rattle.checker.specs.State.{Tally, sumOf}
 use Rattle.checker.specs.StateTest.{allTo, countPasses, tallyPasses}
-use Rattle.checker.specs.BasePass.{noBase, lowered, loweredBy, basesTo, basesOf, Startable, Passable, countFits, tallyFits}
+use Rattle.checker.specs.BasePass.{noBase, lowered, basesWith, basesTo, basesOf, Startable, Passable, countFits, tallyFits}
 use Rattle.checker.specs.declared.Totals.{Totals}
 
 -- ---- the tree of accepted bytes
@@ -53,9 +53,9 @@ startable s p k h l x e =
     subst (λ (y : Frame). Startable p y) (sym e)
     (record { instance-in = h .instance-in; limits = λ q. reference-at s k l (passed s (h .accepted) .order) q })
 
-pub bases-next : (s : List ℕ) (p k : ℕ) (x : Frame) → x ≡ frameAt s k → (out out′ : List ℕ) → out ≡ basesTo s p k → out′ ≡ loweredBy p x out → out′ ≡ basesTo s p (k + 1)
+pub bases-next : (s : List ℕ) (p k : ℕ) (x : Frame) → x ≡ frameAt s k → (out out′ : List ℕ) → out ≡ basesTo s p k → out′ ≡ basesWith p x out → out′ ≡ basesTo s p (k + 1)
 bases-next s p k x e out out′ i q =
-    rw (add-one k) (q ∙ ap (loweredBy p x) i ∙ ap (λ (y : Frame). loweredBy p y (basesTo s p k)) e)
+    rw (add-one k) (q ∙ ap (basesWith p x) i ∙ ap (λ (y : Frame). basesWith p y (basesTo s p k)) e)
 
 -- ---- an event's references
 event-within : (e : ℕ) (rs : List Reference) → AllWithin rs → AllWithin (ofEvent e rs)

@@ -56,7 +56,7 @@ module _ (frames : List ℕ) (w : ℕ) (other : List ℕ) (named : lineOf other 
       → lineOf (raisedDef s .line) ≡ oldLineOf s → Same s
   same-raised s {e} {a} {b} {c} {d} read raised same =
       let reading : lineOf (bytes s) ≡ oldLineOf s =
-      ap (λ (x : log.Answer). lineOf (raisedOr other x (raisedDef s .line))) raised ∙ same in
+      ap (λ (x : log.ConversionAnswer). lineOf (raisedOr other x (raisedDef s .line))) raised ∙ same in
       let notes = event-same (references (treeOf frames)) w (tallyOf m) e (a ∷ (b ∷ (c ∷ (d ∷ [])))) in (
         ap (λ (t : LineAnswer). feedAnswer (readAs t)) (reading ∙ read)
             ∙ sym notes
@@ -67,7 +67,7 @@ module _ (frames : List ℕ) (w : ℕ) (other : List ℕ) (named : lineOf other 
   same-refused : (s : List ℕ) {p : ℕ} → oldLineOf s ≡ line.refused 23 p → raisedDef s .answer ≡ log.turned 23 p → Same s
   same-refused s {p} read raised =
       let reading : lineOf (bytes s) ≡ line.refused 15 0 =
-      ap (λ (x : log.Answer). lineOf (raisedOr other x (raisedDef s .line))) raised ∙ named in (
+      ap (λ (x : log.ConversionAnswer). lineOf (raisedOr other x (raisedDef s .line))) raised ∙ named in (
         ap (λ (t : LineAnswer). feedAnswer (readAs t)) reading ∙ ap (λ (t : LineAnswer). inRaised (feedAnswer (readAs t))) (sym read),
         ap (λ (t : LineAnswer). afterFeed m (readAs t)) reading ∙ ap (λ (t : LineAnswer). afterFeed m (readAs t)) (sym read),
       )

@@ -21,7 +21,7 @@ use Rattle.checker.specs.Feed.{FeedRead, turned, skipped, taken, feedAns
 use Rattle.checker.specs.Pull.{PullRead, short, waits, gave, pullAnswer}
 use Rattle.checker.specs.Calls.{Call, feed, pull, outs, end, checker}
 use Rattle.checker.specs.Machine.{Machine, atFirst, joined, moved, afterFeed, afterPull, machineFeed, machinePull, machineFor}
-use Rattle.checker.specs.Demand.{Unrefused, fresh, handed, verdicts, span}
+use Rattle.checker.specs.Demand.{Unrefused, fresh, handed, verdicts, instancesFrom}
 use Rattle.checker.proofs.Choices.{cond-case}
 use Rattle.checker.proofs.Simulation.{Gave, gave-judged, verdict-settled}
 use Rattle.checker.proofs.Lists as lists
@@ -78,7 +78,7 @@ said-stays frames m m′ i v more q =
 module _ (frames : List ℕ) (w : ℕ) where
   -- the verdicts of a list from m on, in the sense of the machine m′ that it ends in
   abbrev Handed : Machine → Machine → List Verdict → Type 0
-  Handed m m′ vs = (map settling.verdict vs ≡ span (m .next) (length vs) (said frames m′)) × (m′ .next ≡ m .next + length vs)
+  Handed m m′ vs = (map settling.verdict vs ≡ instancesFrom (m .next) (length vs) (said frames m′)) × (m′ .next ≡ m .next + length vs)
 
   handed-fed : (m m′ : Machine) (f : FeedRead) (vs : List Verdict) → Handed (afterFeed m f) m′ vs → Handed m m′ (handed (feedAnswer f) vs)
   unfolding joined
@@ -88,14 +88,14 @@ module _ (frames : List ℕ) (w : ℕ) where
 
   handed-pulled : (m m′ : Machine) (x : PullRead) (vs : List Verdict) → MoreLines (m .lists) (m′ .lists) → Gave (treeOf frames) (givenIn (m .lists) (m .next)) x
       → Handed (afterPull m x) m′ vs → Handed m m′ (handed (pullAnswer x) vs)
-  unfolding moved span
+  unfolding moved instancesFrom
   handed-pulled m m′ short vs b g h = h
   handed-pulled m m′ waits vs b g h = h
   handed-pulled m m′ (gave v) vs b g h = (ap₂ _∷_ (sym (said-stays frames m m′ (m .next) v b g)) (h .0), h .1 ∙ omega arith)
 
   all-handed : (cs : List Call) (m : Machine) → Handed m (end (machineFor frames w) cs m) (verdicts (outs (machineFor frames w) cs m))
   unfolding end outs verdicts
-  all-handed [] m = (unfold span in refl, omega arith)
+  all-handed [] m = (unfold instancesFrom in refl, omega arith)
   all-handed (feed line ∷ cs) m =
       let f = machineFeed (treeOf frames) w m line in
       handed-fed m (end (machineFor frames w) cs (afterFeed m f)) f (verdicts (outs (machineFor frames w) cs (afterFeed m f))) (all-handed cs (afterFeed m f))
@@ -112,7 +112,7 @@ module _ {frames : List ℕ} {w : ℕ} {win : List ℤ} (o : Unrefused frames w 
 
   -- instance by instance from the first on, over the machine's lists after the last call
   pub final : map settling.verdict (verdicts (outs checker cs (fresh frames w win)))
-      ≡ span (firstFor frames) (length (verdicts (outs checker cs (fresh frames w win)))) (said frames (end (machineFor frames w) cs (atFirst frames)))
+      ≡ instancesFrom (firstFor frames) (length (verdicts (outs checker cs (fresh frames w win)))) (said frames (end (machineFor frames w) cs (atFirst frames)))
   final = rw verdicts-same (all-handed frames w cs (atFirst frames) .0)
 
 -- ---- one verdict
@@ -136,12 +136,12 @@ getD-map [] i h = absurd (omega arith)
 getD-map (x ∷ xs) zero h = refl
 getD-map (x ∷ xs) (suc i) h = getD-map xs i (le-of-suc-le-suc h)
 
-getD-span : (f : ℕ → Judgement) (p n i : ℕ) → i < n → getD (span p n f) i Unsettled ≡ f (p + i)
-unfolding span
+getD-span : (f : ℕ → Judgement) (p n i : ℕ) → i < n → getD (instancesFrom p n f) i Unsettled ≡ f (p + i)
+unfolding instancesFrom
 getD-span f p zero i h = absurd (omega arith)
 getD-span f p (suc n) zero h = rw add-zero
 getD-span f p (suc n) (suc i) h = getD-span f (p + 1) n i (le-of-suc-le-suc h) ∙ ap f (omega arith)
 
 -- the verdict at a place of a list that is a span
-pub span-at : (vs : List Verdict) (p : ℕ) (f : ℕ → Judgement) (i : ℕ) → map settling.verdict vs ≡ span p (length vs) f → i < length vs → settling.verdict (getD vs i Verdict.Unknown) ≡ f (p + i)
+pub span-at : (vs : List Verdict) (p : ℕ) (f : ℕ → Judgement) (i : ℕ) → map settling.verdict vs ≡ instancesFrom p (length vs) f → i < length vs → settling.verdict (getD vs i Verdict.Unknown) ≡ f (p + i)
 span-at vs p f i q h = sym (getD-map vs i h) ∙ ap (λ (l : List Judgement). getD l i Unsettled) q ∙ getD-span f p (length vs) i h

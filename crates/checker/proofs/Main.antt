@@ -37,7 +37,7 @@ use Rattle.checker.specs.Feed.{feedDef}
 use Rattle.checker.specs.Pull.{pullDef}
 use Rattle.checker.specs.Calls.{Call, Out, outs, checker}
 use Rattle.checker.specs.Machine.{atFirst, tallyOf, machineFor}
-use Rattle.checker.specs.Demand.{Unrefused, fresh, answerOf, span, countIn, totalsOf, checkerAfter, machineAfter, handedOut, ThirdDemand, acceptedIn, Reordered}
+use Rattle.checker.specs.Demand.{Unrefused, fresh, answerOf, instancesFrom, countIn, totalsOf, checkerAfter, machineAfter, handedOut, ThirdDemand, acceptedIn, Reordered}
 use Rattle.checker.specs.Demand.{reportsOut, Reported, ReportedTwice}
 use Rattle.checker.specs.View.{viewDef, viewsOut, reportedOut, seen}
 use Rattle.checker.specs.Earlier.{RaisedLog}
@@ -74,7 +74,7 @@ module _ {frames : List ℕ} {w : ℕ} {win : List ℤ} (o : Unrefused frames w 
   -- the verdicts handed out are those of settled instances, from the first on, by the definition over the machine's lists after
   -- the last call
   pub third-final : map settling.verdict (handedOut frames w win cs)
-      ≡ span (firstFor frames) (length (handedOut frames w win cs)) (λ (i : ℕ). judgement (givenIn (machineAfter frames w cs .lists) i) (treeOf frames))
+      ≡ instancesFrom (firstFor frames) (length (handedOut frames w win cs)) (λ (i : ℕ). judgement (givenIn (machineAfter frames w cs .lists) i) (treeOf frames))
   third-final = Final.final o cs
 
   -- p and the totals in the state count them
@@ -210,7 +210,7 @@ charge-refused = Charges.charge-refused
 
 -- what is told of the answer fixes it
 pub charge-told-injective : (a b : ChargeAnswer) → chargeTold a ≡ chargeTold b → a ≡ b
-charge-told-injective = Charges.told-injective
+charge-told-injective = Charges.charge-told-injective
 
 -- "More violations never cost less": by every tariff, those that 28 and 29 let through among them
 pub more-never-less : (t : Tariff) (m n : ℕ) → m ≤ n → centsOf t m ≤ centsOf t n

@@ -29,8 +29,8 @@ abbrev pub lowered : ℕ → Reference → List ℕ → List ℕ
 lowered p r bases = set bases (r .event) (min (getD bases (r .event) 0) (startAt p r))
 
 -- with one frame more, "over its references"
-abbrev pub loweredBy : ℕ → Frame → List ℕ → List ℕ
-loweredBy p x bases = cond (eqb (x .kind) referenceByte) (lowered p (referenceOf x) bases) bases
+abbrev pub basesWith : ℕ → Frame → List ℕ → List ℕ
+basesWith p x bases = cond (eqb (x .kind) referenceByte) (lowered p (referenceOf x) bases) bases
 
 -- "The base of an event", of each event, after the first k frames
 abbrev pub basesTo : List ℕ → ℕ → ℕ → List ℕ

@@ -55,9 +55,9 @@ verdicts [] = []
 verdicts (o ∷ os) = handed (answerOf o) (verdicts os)
 
 -- f at i, i + 1, .., i + n - 1, for the instances before p, "the number p of verdicts pulled"
-unfoldable pub span : {A : Type 0} → ℕ → ℕ → (ℕ → A) → List A
-span i zero f = []
-span i (suc n) f = f i ∷ span (i + 1) n f
+unfoldable pub instancesFrom : {A : Type 0} → ℕ → ℕ → (ℕ → A) → List A
+instancesFrom i zero f = []
+instancesFrom i (suc n) f = f i ∷ instancesFrom (i + 1) n f
 
 -- 1 where a verdict is the one that is counted, for "a total for each of the verdicts"
 abbrev pub isIt : Verdict → Verdict → ℕ
@@ -101,7 +101,7 @@ pub record ThirdDemand (frames : List ℕ) (w : ℕ) (win : List ℤ) (cs : List
   pub state : tallyIn (checkerAfter frames w win cs .state) ≡ tallyOf (machineAfter frames w cs)
   -- "The definition over all lines accepted in the list is the one over the machine's lists after the last call"
   pub final : map settling.verdict (handedOut frames w win cs)
-      ≡ span (firstFor frames) (length (handedOut frames w win cs))
+      ≡ instancesFrom (firstFor frames) (length (handedOut frames w win cs))
       (λ (i : ℕ). judgement (givenIn (machineAfter frames w cs .lists) i) (treeOf frames))
   -- "the totals true, false, unknown, which sum to p"
   pub totals : (checkerAfter frames w win cs .state .next .0 ≡ firstFor frames + length (handedOut frames w win cs))

@@ -34,7 +34,7 @@ oldMachineFor frames w = oldMachine (treeOf frames) w
 
 -- ---- "its raised log"
 -- the raised line, or other bytes in place of a line that 23 names
-abbrev pub raisedOr : List ℕ → log.Answer → List ℕ → List ℕ
+abbrev pub raisedOr : List ℕ → log.ConversionAnswer → List ℕ → List ℕ
 raisedOr other done raised = raised
 raisedOr other (turned number place) raised = other
 

@@ -11,7 +11,7 @@ ghost use lib.ListN.{length};
 ghost use Rattle.rule.specs.Limits.{eventLimit, factorLimit, offsetLimit};
 ghost use Rattle.verdict.specs.Found.{instanceLimit, occurrence, meantBy};
 ghost use Rattle.checker.specs.Base.{orZero};
-ghost use Rattle.checker.specs.BasePass.{loweredBy, basesOf, Startable, Passable};
+ghost use Rattle.checker.specs.BasePass.{basesWith, basesOf, Startable, Passable};
 
 // In the place of a base, of an event with no reference; no base is as large.
 pub const NO_BASE: u32 = 4294967295;
@@ -32,7 +32,7 @@ fn lower(low: u32, p: Instance, factor: u8, offset: i32) -> u32
 fn lower_by(bases: &mut [u32; 8], x: Frame, p: Instance)
     requires { ⌜ Startable (p .0) x × (length (now bases) ≡ eventLimit) ⌝ }
     ensures kept { λ r. ⌜ length (now (bases .exit)) ≡ eventLimit ⌝ }
-    ensures { λ r. ⌜ now (bases .exit) ≡ loweredBy (p .0) x (now (bases .entry)) ⌝ }
+    ensures { λ r. ⌜ now (bases .exit) ≡ basesWith (p .0) x (now (bases .entry)) ⌝ }
 {
     if x.kind == kinds::REFERENCE_BYTE {
         let e = x.event as usize;

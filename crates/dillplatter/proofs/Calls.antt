@@ -11,13 +11,13 @@ use Rattle.checker.specs.declared.Opened.{Opened}
 use Rattle.checker.specs.declared.Fed.{Fed}
 use Rattle.checker.specs.declared.Pulled.{Pulled}
 use Rattle.checker.specs.declared.State.{State}
-use Rattle.dillplatter.specs.Told.{checked, answerOf, numberOf, placeOf, CallNumbers, callOutcome, inNumbers, openNumbers, feedNumbers, pullNumbers}
+use Rattle.dillplatter.specs.Told.{checked, answerNumber, numberOf, placeOf, CallNumbers, callOutcome, inNumbers, openNumbers, feedNumbers, pullNumbers}
 use Rattle.dillplatter.specs.declared.told.AnswerNumbers.{AnswerNumbers}
 use Rattle.dillplatter.specs.declared.CallResult.{CallResult}
 
 -- the numbers of an answer
 abbrev IsIn : AnswerNumbers → Answer → Type 0
-IsIn t a = (t .answer ≡ answerOf (checked a)) × ((t .number ≡ numberOf (checked a)) × (t .place ≡ placeOf (checked a)))
+IsIn t a = (t .answer ≡ answerNumber (checked a)) × ((t .number ≡ numberOf (checked a)) × (t .place ≡ placeOf (checked a)))
 
 abbrev withState : AnswerNumbers → State → CallResult
 withState t s = record { state = s; answer = t .answer; number = t .number; place = t .place }

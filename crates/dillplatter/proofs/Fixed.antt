@@ -16,7 +16,7 @@ use Rattle.checker.specs.StateTest.{statePasses}
 use Rattle.checker.specs.Tariff.{bandsFit, pricesFit, centsOf, Charge, cents, turned, chargeDef}
 use Rattle.checker.specs.declared.State.{State}
 use Rattle.checker.specs.declared.Tariff.{Tariff}
-use Rattle.dillplatter.specs.Told.{AnyAnswer, read, checked, readTold, answerOf, numberOf, placeOf, framesOf, conversionNumber, conversionPlace}
+use Rattle.dillplatter.specs.Told.{AnyAnswer, read, checked, readAnswer, answerNumber, numberOf, placeOf, framesOf, conversionNumber, conversionPlace}
 use Rattle.dillplatter.specs.Told.{chargeNumber, chargePlace, chargeCents}
 
 -- the answer with given numbers
@@ -32,7 +32,7 @@ got (suc (suc (suc (suc (suc (suc (suc zero))))))) n p f = checked (verdict Fals
 got (suc (suc (suc (suc (suc (suc (suc (suc k)))))))) n p f = checked (verdict Unknown)
 
 -- it is the one that has them
-got-back : (t : AnyAnswer) → got (answerOf t) (numberOf t) (placeOf t) (framesOf t) ≡ t
+got-back : (t : AnyAnswer) → got (answerNumber t) (numberOf t) (placeOf t) (framesOf t) ≡ t
 unfolding got
 got-back (read n) = refl
 got-back (checked opened) = refl
@@ -44,13 +44,13 @@ got-back (checked (verdict False)) = refl
 got-back (checked (verdict Unknown)) = refl
 got-back (checked (refused n p)) = refl
 
-pub told-fixed : (s t : AnyAnswer) → answerOf s ≡ answerOf t → numberOf s ≡ numberOf t → placeOf s ≡ placeOf t → framesOf s ≡ framesOf t → s ≡ t
+pub told-fixed : (s t : AnyAnswer) → answerNumber s ≡ answerNumber t → numberOf s ≡ numberOf t → placeOf s ≡ placeOf t → framesOf s ≡ framesOf t → s ≡ t
 told-fixed s t a n p f =
     sym (got-back s)
     ∙ (ap (λ x. got x (numberOf s) (placeOf s) (framesOf s)) a
-    ∙ (ap (λ x. got (answerOf t) x (placeOf s) (framesOf s)) n
-    ∙ (ap (λ x. got (answerOf t) (numberOf t) x (framesOf s)) p
-    ∙ (ap (λ x. got (answerOf t) (numberOf t) (placeOf t) x) f
+    ∙ (ap (λ x. got (answerNumber t) x (placeOf s) (framesOf s)) n
+    ∙ (ap (λ x. got (answerNumber t) (numberOf t) x (framesOf s)) p
+    ∙ (ap (λ x. got (answerNumber t) (numberOf t) (placeOf t) x) f
     ∙ got-back t))))
 
 -- the reading that is told so
@@ -63,12 +63,12 @@ heard (checked waiting) = Frames 0
 heard (checked (verdict v)) = Frames 0
 heard (checked (refused n p)) = Refused (record { number = n; place = p })
 
-heard-back : (r : Reading) → heard (readTold r) ≡ r
+heard-back : (r : Reading) → heard (readAnswer r) ≡ r
 unfolding heard
 heard-back (Frames n) = refl
 heard-back (Refused r) = refl
 
-pub reading-fixed : (r s : Reading) → readTold r ≡ readTold s → r ≡ s
+pub reading-fixed : (r s : Reading) → readAnswer r ≡ readAnswer s → r ≡ s
 reading-fixed r s e = sym (heard-back r) ∙ (ap heard e ∙ heard-back s)
 
 -- ---- conversions: the answer with a given number and place

@@ -7,16 +7,16 @@ use Rattle.log.specs.declared.earlier.LowerAnswer.{LowerAnswer}
 use Rattle.checker.specs.Tariff.{chargeDef}
 use Rattle.checker.specs.declared.State.{State}
 use Rattle.checker.specs.declared.Tariff.{Tariff}
-use Rattle.dillplatter.specs.Told.{AnyAnswer, readTold, answerOf, numberOf, placeOf, framesOf, conversionNumber, conversionPlace}
+use Rattle.dillplatter.specs.Told.{AnyAnswer, readAnswer, answerNumber, numberOf, placeOf, framesOf, conversionNumber, conversionPlace}
 use Rattle.dillplatter.specs.Told.{chargeNumber, chargePlace, chargeCents}
 use Rattle.dillplatter.proofs.Fixed as fixed
 
 -- The four numbers fix the answer: no two answers of any calls have the same numbers.
-pub told-fixed : (s t : AnyAnswer) → answerOf s ≡ answerOf t → numberOf s ≡ numberOf t → placeOf s ≡ placeOf t → framesOf s ≡ framesOf t → s ≡ t
+pub told-fixed : (s t : AnyAnswer) → answerNumber s ≡ answerNumber t → numberOf s ≡ numberOf t → placeOf s ≡ placeOf t → framesOf s ≡ framesOf t → s ≡ t
 told-fixed = fixed.told-fixed
 
 -- What is told of a reading fixes the reading.
-pub reading-fixed : (r s : Reading) → readTold r ≡ readTold s → r ≡ s
+pub reading-fixed : (r s : Reading) → readAnswer r ≡ readAnswer s → r ≡ s
 reading-fixed = fixed.reading-fixed
 
 -- The number and the place fix the answer to a conversion, up and down.

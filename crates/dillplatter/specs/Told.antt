@@ -21,21 +21,21 @@ pub data AnyAnswer : Type 0 where
   checked : Answer → AnyAnswer
 
 -- what `read` answers, a refusal as the checker tells it
-abbrev pub readTold : Reading → AnyAnswer
-readTold (Frames n) = read n
-readTold (Refused r) = checked (refused (r .number) (r .place))
+abbrev pub readAnswer : Reading → AnyAnswer
+readAnswer (Frames n) = read n
+readAnswer (Refused r) = checked (refused (r .number) (r .place))
 
 -- which answer
-abbrev pub answerOf : AnyAnswer → ℕ
-answerOf (checked (refused number place)) = 0
-answerOf (read n) = 1
-answerOf (checked opened) = 2
-answerOf (checked accepted) = 3
-answerOf (checked ignored) = 4
-answerOf (checked waiting) = 5
-answerOf (checked (verdict True)) = 6
-answerOf (checked (verdict False)) = 7
-answerOf (checked (verdict Unknown)) = 8
+abbrev pub answerNumber : AnyAnswer → ℕ
+answerNumber (checked (refused number place)) = 0
+answerNumber (read n) = 1
+answerNumber (checked opened) = 2
+answerNumber (checked accepted) = 3
+answerNumber (checked ignored) = 4
+answerNumber (checked waiting) = 5
+answerNumber (checked (verdict True)) = 6
+answerNumber (checked (verdict False)) = 7
+answerNumber (checked (verdict Unknown)) = 8
 
 -- "A refusal returns its number and place"; 0 where nothing is refused
 abbrev pub numberOf : AnyAnswer → ℕ
@@ -80,7 +80,7 @@ module _ {A : Type 0} where
   abbrev pub inNumbers : Answer → State → A → CallNumbers A
   inNumbers a s lent =
       record {
-        answer = answerOf (checked a);
+        answer = answerNumber (checked a);
         number = numberOf (checked a);
         place = placeOf (checked a);
         state = s;
@@ -101,12 +101,12 @@ pullNumbers d = inNumbers (d .answer) (d .state) (d .report)
 
 -- ---- the other calls
 -- of a conversion, which is done or refused: the refusal's number, 0 where it is done
-abbrev pub conversionNumber : log.Answer → ℕ
+abbrev pub conversionNumber : log.ConversionAnswer → ℕ
 conversionNumber log.done = 0
 conversionNumber (log.turned number place) = number
 
 -- the refusal's place, 0 where it is done
-abbrev pub conversionPlace : log.Answer → ℕ
+abbrev pub conversionPlace : log.ConversionAnswer → ℕ
 conversionPlace log.done = 0
 conversionPlace (log.turned number place) = place
 

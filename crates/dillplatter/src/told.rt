@@ -10,7 +10,7 @@ use rule::Refusal;
 ghost use mathlib.Core.Path.{_≡_};
 ghost use Rattle.log.specs.Earlier.{raiseTold, lowerTold};
 ghost use Rattle.checker.specs.Answer.{openTold, feedTold, pullTold, refused};
-ghost use Rattle.dillplatter.specs.Told.{checked, readTold, answerOf, numberOf, placeOf, framesOf};
+ghost use Rattle.dillplatter.specs.Told.{checked, readAnswer, answerNumber, numberOf, placeOf, framesOf};
 ghost use Rattle.checker.specs.Tariff.{chargeTold};
 ghost use Rattle.dillplatter.specs.Told.{conversionNumber, conversionPlace, chargeNumber, chargePlace, chargeCents};
 
@@ -52,7 +52,7 @@ fn plain(answer: u32) -> AnswerNumbers
 }
 
 fn refusal(r: Refusal) -> AnswerNumbers
-    ensures { λ t. ⌜ (t .answer ≡ answerOf (checked (refused (r .number) (r .place))))
+    ensures { λ t. ⌜ (t .answer ≡ answerNumber (checked (refused (r .number) (r .place))))
         × ((t .number ≡ r .number) × (t .place ≡ r .place)) ⌝ }
 {
     AnswerNumbers {
@@ -64,7 +64,7 @@ fn refusal(r: Refusal) -> AnswerNumbers
 
 // An answer to opening.
 pub fn opening(a: OpenAnswer) -> AnswerNumbers
-    ensures { λ r. ⌜ (r .answer ≡ answerOf (checked (openTold a)))
+    ensures { λ r. ⌜ (r .answer ≡ answerNumber (checked (openTold a)))
         × ((r .number ≡ numberOf (checked (openTold a))) × (r .place ≡ placeOf (checked (openTold a)))) ⌝ }
 {
     match a {
@@ -75,7 +75,7 @@ pub fn opening(a: OpenAnswer) -> AnswerNumbers
 
 // An answer to feeding.
 pub fn feeding(a: FeedAnswer) -> AnswerNumbers
-    ensures { λ r. ⌜ (r .answer ≡ answerOf (checked (feedTold a)))
+    ensures { λ r. ⌜ (r .answer ≡ answerNumber (checked (feedTold a)))
         × ((r .number ≡ numberOf (checked (feedTold a))) × (r .place ≡ placeOf (checked (feedTold a)))) ⌝ }
 {
     match a {
@@ -87,7 +87,7 @@ pub fn feeding(a: FeedAnswer) -> AnswerNumbers
 
 // An answer to pulling.
 pub fn pulling(a: PullAnswer) -> AnswerNumbers
-    ensures { λ r. ⌜ (r .answer ≡ answerOf (checked (pullTold a)))
+    ensures { λ r. ⌜ (r .answer ≡ answerNumber (checked (pullTold a)))
         × ((r .number ≡ numberOf (checked (pullTold a))) × (r .place ≡ placeOf (checked (pullTold a)))) ⌝ }
 {
     match a {
@@ -110,8 +110,8 @@ pub struct ReadResult {
 
 // An answer to reading.
 pub fn reading(a: Reading) -> ReadResult
-    ensures { λ r. ⌜ (r .answer ≡ answerOf (readTold a))
-        × ((r .number ≡ numberOf (readTold a)) × ((r .place ≡ placeOf (readTold a)) × (r .frames ≡ framesOf (readTold a)))) ⌝ }
+    ensures { λ r. ⌜ (r .answer ≡ answerNumber (readAnswer a))
+        × ((r .number ≡ numberOf (readAnswer a)) × ((r .place ≡ placeOf (readAnswer a)) × (r .frames ≡ framesOf (readAnswer a)))) ⌝ }
 {
     match a {
         Reading::Frames(n) => ReadResult {

@@ -17,7 +17,7 @@ use Rattle.numbers.proofs.Bools.{T-true, and-true, true-and}
 use Rattle.log.specs.Digit.{digitValue, capital}
 use Rattle.log.specs.Line.{digitsAtFront, byteAt, noteAt, badPlaceOf, badPlace, line, refused, lineOf, AreDigits, AllDigits, BadPlace}
 use Rattle.log.specs.Earlier.{oldDigits, lineDigits, oldNoteFrom, oldNoteAt, oldLineOf, digitsOf, oldNote, newNote, oldLine, newLine}
-use Rattle.log.specs.Earlier.{Answer, done, turned, Converted, converted, raiseTold, lowerTold, raisedBy, raisedDef}
+use Rattle.log.specs.Earlier.{ConversionAnswer, done, turned, Converted, converted, raiseTold, lowerTold, raisedBy, raisedDef}
 use Rattle.log.specs.Earlier.{holds16, In16, lossOf, unlessLost, loweredBy, loweredDef}
 use Rattle.log.specs.declared.earlier.RaiseAnswer.{RaiseAnswer}
 use Rattle.log.specs.declared.earlier.RaiseAnswer.the-variants as raises
@@ -175,7 +175,7 @@ module _ (s : List ℕ) where
       nothing-lost (oldNoteAt s 0) (oldNoteAt s 1) (oldNoteAt s 2)
       (held 2 (omega arith)) (held 6 (omega arith)) (held 10 (omega arith)) in
       ap loweredBy (same-reading h)
-      ∙ ap (λ (a : Answer). unlessLost a (oldLine (byteAt s 0) (oldNoteAt s 0) (oldNoteAt s 1) (oldNoteAt s 2))) none
+      ∙ ap (λ (a : ConversionAnswer). unlessLost a (oldLine (byteAt s 0) (oldNoteAt s 0) (oldNoteAt s 1) (oldNoteAt s 2))) none
       ∙ ap converted (old-again h)
 
   -- ---- down and then up

@@ -12,7 +12,7 @@ use lib.Seq.{sets}
 use Rattle.log.specs.Digit.{capital}
 use Rattle.log.specs.Line.{byteAt, noteAt, badPlaceOf, badPlace, LineAnswer, line, refused, lineOf, AreDigits, AllDigits}
 use Rattle.log.specs.Earlier.{oldDigits, oldNoteFrom, oldNoteAt, oldLineOf, digitsOf, newNote, oldLine, newLine}
-use Rattle.log.specs.Earlier.{Answer, done, turned, Converted, converted, notConverted, raisedBy, raisedDef}
+use Rattle.log.specs.Earlier.{ConversionAnswer, done, turned, Converted, converted, notConverted, raisedBy, raisedDef}
 use Rattle.log.specs.Earlier.{lineDigits, raiseTold, lowerTold}
 use Rattle.log.specs.declared.earlier.LowerResult.{LowerResult}
 use Rattle.log.specs.declared.earlier.LowerAnswer.{LowerAnswer}
@@ -118,7 +118,7 @@ module _ (s : List ℕ) where
         first = t .1;
         second = t .2;
         third = t .3;
-        gives = l ∙ ap (λ (a : Answer). unlessLost a bytes) n;
+        gives = l ∙ ap (λ (a : ConversionAnswer). unlessLost a bytes) n;
       }
 
   pub lowerable : loweredDef s .answer ≡ done → Lowerable
@@ -155,7 +155,7 @@ lowered-bytes s l1 l2 l3 l4 h e a b c d =
     rw (w .gives, lowered-spelled s w, d, c, b, a, pair, one, two, three) refl
 
 -- what the loss of a line that was read tells
-pub lowered-told : (s : List ℕ) {x : Answer} {t : LineAnswer} → x ≡ loweredBy t .answer → t ≡ lineOf s → x ≡ loweredDef s .answer
+pub lowered-told : (s : List ℕ) {x : ConversionAnswer} {t : LineAnswer} → x ≡ loweredBy t .answer → t ≡ lineOf s → x ≡ loweredDef s .answer
 unfolding loweredDef
 lowered-told s e f = e ∙ ap (λ (t : LineAnswer). loweredBy t .answer) f
 

@@ -1,6 +1,4 @@
--- What crates above may cite.
-pub mod Main
--- How it is proved, and worked lines.
+-- Lines: values of digits, pairs, notes and places, what a line's answer says.
 mod Values
 mod Digits
 mod Pairs
@@ -8,6 +6,7 @@ mod Lines
 mod Exactly
 mod Cases
 mod Answers
+-- Lines of the earlier edition: digits of numbers, notes that fit, what is lost, both conversions and their refusals.
 mod Spelled
 mod Notes
 mod Losses
@@ -15,6 +14,10 @@ mod Copies
 mod Converting
 mod Conversions
 mod Refusals
+-- A log of many lines.
 mod Walking
+-- Computed examples.
 mod Examples
 mod EarlierExamples
+-- The headline statements, which other crates cite too.
+pub mod Main

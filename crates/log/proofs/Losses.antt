@@ -7,8 +7,8 @@ use native.Mathlib.Omega.{arith}
 use lib.Dec.{eqb}
 use lib.IntN.{ℤ, natAbs}
 use lib.ListN.{replicate}
-use Rattle.log.specs.Line.{LineAnswer, line, refused, told}
-use Rattle.log.specs.Earlier.{oldDigits, oldLine, Answer, done, turned, notePlace, holds16, lossBy, lossOf, unlessLost, loweredBy}
+use Rattle.log.specs.Line.{LineAnswer, line, refused, lineTold}
+use Rattle.log.specs.Earlier.{oldDigits, oldLine, ConversionAnswer, done, turned, notePlace, holds16, lossBy, lossOf, unlessLost, loweredBy}
 use Rattle.log.specs.declared.line.Line.{Line}
 use Rattle.log.specs.declared.line.Line.the-variants as lines
 use Rattle.log.specs.declared.line.Notes.{Notes}
@@ -45,21 +45,21 @@ unfolding lossOf
 loss-of a b c d h i j k = rw (h, i, j, k) refl
 
 -- a line or a refusal: the answer is the loss
-pub answer-unless : (x : Answer) (s : List ℕ) → unlessLost x s .answer ≡ x
+pub answer-unless : (x : ConversionAnswer) (s : List ℕ) → unlessLost x s .answer ≡ x
 answer-unless done s = refl
 answer-unless (turned number place) s = refl
 
 -- a line that could not be read
-pub answer-of-bad : {read : Line} {p : ℕ} → read ≡ lines.Bad p → turned 15 p ≡ loweredBy (told read) .answer
-unfolding told
-answer-of-bad e = ap (λ (r : Line). loweredBy (told r) .answer) (sym e)
+pub answer-of-bad : {read : Line} {p : ℕ} → read ≡ lines.Bad p → turned 15 p ≡ loweredBy (lineTold read) .answer
+unfolding lineTold
+answer-of-bad e = ap (λ (r : Line). loweredBy (lineTold r) .answer) (sym e)
 
 -- one that could
 pub answer-of-event : {read : Line} {e : ℕ} {n : Notes} → read ≡ lines.Event e n
-    → lossOf (n .0) (n .1) (n .2) (n .3) ≡ loweredBy (told read) .answer
-unfolding told
+    → lossOf (n .0) (n .1) (n .2) (n .3) ≡ loweredBy (lineTold read) .answer
+unfolding lineTold
 answer-of-event {read} {e} {n} h =
-    sym (answer-unless (lossOf (n .0) (n .1) (n .2) (n .3)) _) ∙ ap (λ (r : Line). loweredBy (told r) .answer) (sym h)
+    sym (answer-unless (lossOf (n .0) (n .1) (n .2) (n .3)) _) ∙ ap (λ (r : Line). loweredBy (lineTold r) .answer) (sym h)
 
 -- nothing is handed back of a line that is refused
 pub refused-zeros : (t : LineAnswer) (number place : ℕ) → loweredBy t .answer ≡ turned number place
@@ -67,7 +67,7 @@ pub refused-zeros : (t : LineAnswer) (number place : ℕ) → loweredBy t .answe
 refused-zeros (refused n p) number place e = refl
 refused-zeros (line e a b c d) number place h = zeros (lossOf a b c d) h
   where
-    zeros : (x : Answer) → unlessLost x (oldLine e a b c) .answer ≡ turned number place
+    zeros : (x : ConversionAnswer) → unlessLost x (oldLine e a b c) .answer ≡ turned number place
         → unlessLost x (oldLine e a b c) .line ≡ replicate oldDigits 0
     zeros done h = absurd (let z : _≡_ {A = ℕ} 0 1 = cc in omega arith)
     zeros (turned n p) h = refl

@@ -6,7 +6,7 @@ use Prim.Native.Nat.{ℕ, _≤_, _<_}
 use lib.IntN.{ℤ, pos}
 use lib.ListN.{length, replicate}
 use Rattle.log.specs.Digit.{digitValue, capital, hexDigit}
-use Rattle.log.specs.Line.{digitsAtFront, badPlaceOf, badPlace, byteAt, noteAt, line, refused, told, lineOf}
+use Rattle.log.specs.Line.{digitsAtFront, badPlaceOf, badPlace, byteAt, noteAt, line, refused, lineTold, lineOf}
 use Rattle.log.specs.Line.{AreDigits, AllDigits, BadPlace, PlaceOf15}
 use Rattle.log.specs.Earlier.{oldDigits, lineDigits, oldNoteAt, oldLineOf, done, turned, converted, raiseTold, raisedDef, In16, lowerTold, loweredDef}
 use Rattle.log.specs.Earlier.{LowerRefused}
@@ -50,8 +50,8 @@ pub either-case : (s : List ℕ) → lineOf (map capital s) ≡ lineOf s
 either-case = cases.either-case
 
 -- What is told of an answer fixes the answer, so that the contract of `read_line` allows one answer only.
-pub told-injective : (a b : Line) → told a ≡ told b → a ≡ b
-told-injective = answers.told-injective
+pub told-injective : (a b : Line) → lineTold a ≡ lineTold b → a ≡ b
+told-injective = answers.line-told-injective
 
 -- ---- document 02, point 8: lines of the earlier edition
 -- An old line is brought up exactly where it is 14 digits.

@@ -61,13 +61,13 @@ module _ (s : List ℕ) where
   by-tests h false x y z a b c d e =
       refused-as e (fourth h (λ f. true≢false (sym (ap (λ v. eqb (natAbs v) 0) f) ∙ a)))
   by-tests h true false y z a b c d e =
-      wide-at h a e (record { note = 0; among = omega arith; wide = not-16 0 b; first = λ n l. absurd (omega arith); begins = refl })
+      wide-at h a e (record { note = 0; first-three = omega arith; wide = not-16 0 b; first = λ n l. absurd (omega arith); begins = refl })
   by-tests h true true false z a b c d e =
       let before = below-1 (within-16 b) in
-      wide-at h a e (record { note = 1; among = omega arith; wide = not-16 1 c; first = before; begins = refl })
+      wide-at h a e (record { note = 1; first-three = omega arith; wide = not-16 1 c; first = before; begins = refl })
   by-tests h true true true false a b c d e =
       let before = below-2 (within-16 b) (within-16 c) in
-      wide-at h a e (record { note = 2; among = omega arith; wide = not-16 2 d; first = before; begins = refl })
+      wide-at h a e (record { note = 2; first-three = omega arith; wide = not-16 2 d; first = before; begins = refl })
   by-tests h true true true true a b c d e = clash e
 
   says : {n p : ℕ} → loweredDef s .answer ≡ turned n p → LowerRefused s n p
@@ -81,7 +81,7 @@ module _ (s : List ℕ) where
 
   -- ---- and back
   wide-back : {p : ℕ} → AllDigits s → noteAt s 3 ≡ pos 0 → PlaceOf25 s p → loweredDef s .answer ≡ turned 25 p
-  wide-back h z w = go (w .note) (w .among) (w .wide) (w .first) ∙ ap (turned 25) (sym (w .begins))
+  wide-back h z w = go (w .note) (w .first-three) (w .wide) (w .first) ∙ ap (turned 25) (sym (w .begins))
     where
       zero-test : eqb (natAbs (noteAt s 3)) 0 ≡ true
       zero-test = ap (λ v. eqb (natAbs v) 0) z

@@ -68,17 +68,17 @@ newLine e a b c d = digitsOf 2 e (newNote a (newNote b (newNote c (newNote d [])
 
 -- ---- the converter
 -- the answer to a conversion: done, or a refusal, "its number and place"
-pub data Answer : Type 0 where
-  done : Answer
-  turned : (number place : ℕ) → Answer
+pub data ConversionAnswer : Type 0 where
+  done : ConversionAnswer
+  turned : (number place : ℕ) → ConversionAnswer
 
 -- document 02's number and values for each case of what `raised` answers: `Bad` is 23
-unfoldable pub raiseTold : RaiseAnswer → Answer
+unfoldable pub raiseTold : RaiseAnswer → ConversionAnswer
 raiseTold raises.Raised = done
 raiseTold (raises.Bad p) = turned 23 p
 
 -- .. of what `lowered` answers: `Bad` is 15, `Fourth` 24, which names no place, and `Wide` 25
-unfoldable pub lowerTold : LowerAnswer → Answer
+unfoldable pub lowerTold : LowerAnswer → ConversionAnswer
 lowerTold lowers.Lowered = done
 lowerTold (lowers.Bad p) = turned 15 p
 lowerTold lowers.Fourth = turned 24 0
@@ -86,7 +86,7 @@ lowerTold (lowers.Wide p) = turned 25 p
 
 -- "It hands back the line by value": the answer, and the line's bytes
 pub record Converted : Type 0 where
-  pub answer : Answer
+  pub answer : ConversionAnswer
   pub line : List ℕ
 
 -- a line, done
@@ -120,7 +120,7 @@ notePlace n = 2 + 8 * n
 
 -- "24, a fourth note other than 0; 25, one of the first three notes that 16 bits can't hold, place the first such note's first
 -- digit; in this order": whether the fourth note is 0, and whether 16 bits hold the first, the second and the third
-abbrev pub lossBy : Bool → Bool → Bool → Bool → Answer
+abbrev pub lossBy : Bool → Bool → Bool → Bool → ConversionAnswer
 lossBy false first second third = turned 24 0
 lossBy true false second third = turned 25 (notePlace 0)
 lossBy true true false third = turned 25 (notePlace 1)
@@ -128,11 +128,11 @@ lossBy true true true false = turned 25 (notePlace 2)
 lossBy true true true true = done
 
 -- what would be lost of four notes
-unfoldable pub lossOf : ℤ → ℤ → ℤ → ℤ → Answer
+unfoldable pub lossOf : ℤ → ℤ → ℤ → ℤ → ConversionAnswer
 lossOf a b c d = lossBy (eqb (natAbs d) 0) (holds16 a) (holds16 b) (holds16 c)
 
 -- "where nothing is lost": the line, or else the refusal
-abbrev pub unlessLost : Answer → List ℕ → Converted
+abbrev pub unlessLost : ConversionAnswer → List ℕ → Converted
 unlessLost done s = converted s
 unlessLost (turned number place) s = notConverted oldDigits number place
 
@@ -148,7 +148,7 @@ loweredDef s = loweredBy (lineOf s)
 -- 25's place, note by note: "one of the first three notes that 16 bits can't hold, place the first such note's first digit"
 pub record PlaceOf25 (s : List ℕ) (p : ℕ) : Type 0 where
   pub note : ℕ
-  pub among : note < 3
+  pub first-three : note < 3
   pub wide : In16 (noteAt s note) → ⊥
   pub first : (n : ℕ) → n < note → In16 (noteAt s n)
   pub begins : p ≡ notePlace note

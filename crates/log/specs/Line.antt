@@ -58,9 +58,9 @@ pub data LineAnswer : Type 0 where
   refused : (number place : ℕ) → LineAnswer
 
 -- document 01's number and values for each case of the code's answer: `Bad` is refusal 15
-unfoldable pub told : Line → LineAnswer
-told (lines.Event e n) = line e (n .0) (n .1) (n .2) (n .3)
-told (lines.Bad p) = refused 15 p
+unfoldable pub lineTold : Line → LineAnswer
+lineTold (lines.Event e n) = line e (n .0) (n .1) (n .2) (n .3)
+lineTold (lines.Bad p) = refused 15 p
 
 -- n digits: no less, no more, and no other byte
 abbrev pub areDigits : ℕ → List ℕ → Bool

@@ -15,7 +15,7 @@ ghost use lib.IntN.{natAbs};
 ghost use lib.ListN.{length, replicate};
 ghost use lib.Seq.{sets};
 ghost use Rattle.log.specs.Digit as digits;
-ghost use Rattle.log.specs.Line.{AreDigits, told};
+ghost use Rattle.log.specs.Line.{AreDigits, lineTold};
 ghost use Rattle.log.specs.Earlier.{oldDigits, lineDigits, oldNoteFrom, newNote, done};
 ghost use Rattle.log.specs.Earlier.{raiseTold, raisedDef, holds16, lowerTold, lossBy, lossOf, loweredBy, loweredDef};
 
@@ -167,7 +167,7 @@ fn loss_of(notes: Notes) -> LowerAnswer
 
 // What stands against bringing a line down, as it was read: 15, 24, 25.
 fn loss(read: Line) -> LowerAnswer
-    ensures { λ r. ⌜ lowerTold r ≡ loweredBy (told read) .answer ⌝ }
+    ensures { λ r. ⌜ lowerTold r ≡ loweredBy (lineTold read) .answer ⌝ }
 {
     match read {
         Line::Bad(place) => LowerAnswer::Bad(place),

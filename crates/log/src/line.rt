@@ -5,7 +5,7 @@ use crate::digit::read_pair;
 ghost use mathlib.Core.Path.{_≡_};
 ghost use Prim.Native.Nat.{_+_, _≤_};
 ghost use lib.ListN.{length};
-ghost use Rattle.log.specs.Line.{pairFrom, noted, badPlaceOf, badPlace, told, lineOf};
+ghost use Rattle.log.specs.Line.{pairFrom, noted, badPlaceOf, badPlace, lineTold, lineOf};
 
 // The four notes of a line. 'Note' is document 01's term for an event's annotation.
 pub struct Notes(pub i32, pub i32, pub i32, pub i32);
@@ -80,7 +80,7 @@ fn bad_place(bytes: &[u8]) -> u32
 
 // Reads one line, without its LF.
 pub fn read_line(bytes: &[u8]) -> Line
-    ensures { λ r. ⌜ told r ≡ lineOf (now (bytes .entry)) ⌝ }
+    ensures { λ r. ⌜ lineTold r ≡ lineOf (now (bytes .entry)) ⌝ }
 {
     if bytes.len() != DIGITS {
         return Line::Bad(bad_place(bytes));

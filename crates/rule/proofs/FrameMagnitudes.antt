@@ -12,7 +12,7 @@ use borrow.Author.Tests.{leb-true}
 use Rattle.rule.specs.Limits.{magnitudeLimit}
 use Rattle.rule.specs.Frames.{Kind, operand, arithmetic, absolute, relation, negation, connective, none, kindOf, frameAt, frameCount}
 use Rattle.rule.specs.Tree.{grown}
-use Rattle.rule.specs.Sizes.{Sizes, fits, over, pushed, topped, operandSize, sized, sizeNext, sizeAt, isFits, sizesFit}
+use Rattle.rule.specs.Sizes.{Sizes, fits, over, pushed, topped, operandSize, sizesAfter, sizeNext, sizeAt, isFits, sizesFit}
 use Rattle.rule.specs.Stack.{stackOf, loaded, capped, Bounded}
 use Rattle.rule.specs.declared.Frame.{Frame}
 use Rattle.rule.specs.declared.sizes.Size.{Size}
@@ -35,7 +35,7 @@ topped-in f [] h = tt
 topped-in f (b ∷ []) h = h
 topped-in f (b ∷ (a ∷ ms)) h = pushed-in (f a b) ms (h .1 .1)
 
-sized-in : (o : Kind) (v : ℤ) (ms : List ℕ) → Bounded ms → BoundedIn (sized o v ms)
+sized-in : (o : Kind) (v : ℤ) (ms : List ℕ) → Bounded ms → BoundedIn (sizesAfter o v ms)
 sized-in (operand s) v ms h = pushed-in (operandSize s v) ms h
 sized-in (arithmetic o) v ms h = topped-in (grown o) ms h
 sized-in absolute v ms h = h
@@ -77,7 +77,7 @@ capped-by m false ms e = refl
 pub pushed-capped : (m : ℕ) (ms : List ℕ) → pushed (capped m) ms ≡ pushed m ms
 pushed-capped m ms = capped-by m (leb m magnitudeLimit) ms refl
 
-pub sized-keeping : (o : Kind) (v : ℤ) (ms : List ℕ) → T (isKeeping o) → sized o v ms ≡ fits ms
+pub sized-keeping : (o : Kind) (v : ℤ) (ms : List ℕ) → T (isKeeping o) → sizesAfter o v ms ≡ fits ms
 sized-keeping (operand s) v ms t = absurd t
 sized-keeping (arithmetic o) v ms t = absurd t
 sized-keeping absolute v ms t = refl
@@ -87,6 +87,6 @@ sized-keeping (connective j) v ms t = refl
 sized-keeping none v ms t = refl
 
 pub size-again : (s cells cells′ : List ℕ) (i k : ℕ) (x : Frame) (r : Size) → sizeAt s i ≡ fits (stackOf 0 cells k) → x ≡ frameAt s i
-    → loaded cells′ r ≡ sized (kindOf (x .kind)) (x .value) (stackOf 0 cells k) → sizeAt s (i + 1) ≡ loaded cells′ r
+    → loaded cells′ r ≡ sizesAfter (kindOf (x .kind)) (x .value) (stackOf 0 cells k) → sizeAt s (i + 1) ≡ loaded cells′ r
 size-again s cells cells′ i k x r e w h =
-    rw add-one (ap (sizeNext (frameAt s i)) e ∙ ap (λ (y : Frame). sized (kindOf (y .kind)) (y .value) (stackOf 0 cells k)) (sym w) ∙ sym h)
+    rw add-one (ap (sizeNext (frameAt s i)) e ∙ ap (λ (y : Frame). sizesAfter (kindOf (y .kind)) (y .value) (stackOf 0 cells k)) (sym w) ∙ sym h)

@@ -11,7 +11,7 @@ use borrow.Author.Tests.{eqb-true}
 use Rattle.numbers.proofs.Bools.{and-true}
 use Rattle.rule.specs.Frames.{kindOf, Effect, sumOf, condOf, relates, noRule, effect, frameAt, frameCount, fieldsOf}
 use Rattle.rule.specs.References.{referenceByte, referencesTo, oneMore, referenceCount}
-use Rattle.rule.specs.Order.{stepped, stepBy, frameStep, Prefix, viable, stuck, placed, next, prefixAt, ended, orderOf, InOrder}
+use Rattle.rule.specs.Order.{stepped, stepBy, frameStep, Prefix, viable, stuck, orderAt, orderNext, prefixAt, ended, orderOf, InOrder}
 use Rattle.rule.specs.declared.Frame.{Frame}
 use Rattle.rule.specs.declared.order.Ordered.the-variants.{Fine, At}
 use Rattle.rule.specs.declared.order.Shape.{Shape}
@@ -34,21 +34,21 @@ abbrev total : Prefix → ℕ
 total (viable c k) = c + k
 total (stuck p) = 0
 
-one-more : (i x y m : ℕ) (t : Bool) → x + y ≤ m → total (placed i (cond t (Good x y) Bad)) ≤ m
+one-more : (i x y m : ℕ) (t : Bool) → x + y ≤ m → total (orderAt i (cond t (Good x y) Bad)) ≤ m
 one-more i x y m true h = h
 one-more i x y m false h = zero-le
 
-step-total : (i : ℕ) (f : Effect) (c k m : ℕ) → c + k ≤ m → total (placed i (stepped f c k)) ≤ suc m
+step-total : (i : ℕ) (f : Effect) (c k m : ℕ) → c + k ≤ m → total (orderAt i (stepped f c k)) ≤ suc m
 step-total i (sumOf n) c k m h = one-more i c (k - n + 1) (suc m) (leb n k) (omega arith)
 step-total i (condOf n) c k m h = one-more i (c - n + 1) 0 (suc m) (leb n c && eqb k 0) (omega arith)
 step-total i relates c k m h = one-more i (c + 1) 0 (suc m) (eqb k 2) (omega arith)
 step-total i noRule c k m h = zero-le
 
-tested-total : (i : ℕ) (t : Bool) (h : Shape) (m : ℕ) → total (placed i h) ≤ m → total (placed i (cond t h Bad)) ≤ m
+tested-total : (i : ℕ) (t : Bool) (h : Shape) (m : ℕ) → total (orderAt i h) ≤ m → total (orderAt i (cond t h Bad)) ≤ m
 tested-total i true h m l = l
 tested-total i false h m l = zero-le
 
-next-total : (i : ℕ) (x : Frame) (p : Prefix) (m : ℕ) → total p ≤ m → total (next i x p) ≤ suc m
+next-total : (i : ℕ) (x : Frame) (p : Prefix) (m : ℕ) → total p ≤ m → total (orderNext i x p) ≤ suc m
 next-total i x (viable c k) m h =
     tested-total i (fieldsOf (kindOf (x .kind)) x) (stepBy (kindOf (x .kind)) c k) (suc m) (step-total i (effect (kindOf (x .kind))) c k m h)
 next-total i x (stuck p) m h = zero-le
@@ -73,15 +73,15 @@ conds-le s i = le-trans (conds-in (prefixAt s i)) (prefix-total s i)
 
 -- ---- for the loop
 module _ (s : List ℕ) (i c k : ℕ) (e : prefixAt s i ≡ viable c k) where
-  pub prefix-next : (x : Frame) → x ≡ frameAt s i → (r : Shape) → r ≡ frameStep x c k → prefixAt s (i + 1) ≡ placed i r
-  prefix-next x h r g = rw add-one (ap (next i (frameAt s i)) e ∙ ap (λ (y : Frame). placed i (frameStep y c k)) (sym h) ∙ ap (placed i) (sym g))
+  pub prefix-next : (x : Frame) → x ≡ frameAt s i → (r : Shape) → r ≡ frameStep x c k → prefixAt s (i + 1) ≡ orderAt i r
+  prefix-next x h r g = rw add-one (ap (orderNext i (frameAt s i)) e ∙ ap (λ (y : Frame). orderAt i (frameStep y c k)) (sym h) ∙ ap (orderAt i) (sym g))
 
   pub counts : c + k ≤ i
   counts = subst (λ (p : Prefix). total p ≤ i) e (prefix-total s i)
 
 stays : (s : List ℕ) (i p d : ℕ) → prefixAt s i ≡ stuck p → prefixAt s (i + d) ≡ stuck p
 stays s i p zero e = rw add-zero e
-stays s i p (suc d) e = rw (add-suc i d) (ap (next (i + d) (frameAt s (i + d))) (stays s i p d e))
+stays s i p (suc d) e = rw (add-suc i d) (ap (orderNext (i + d) (frameAt s (i + d))) (stays s i p d e))
 
 pub stuck-at : (s : List ℕ) (i n p : ℕ) → i ≤ n → prefixAt s i ≡ stuck p → prefixAt s n ≡ stuck p
 stuck-at s i n p h e = let q : i + (n - i) ≡ n = omega arith in rw q at (stays s i p (n - i) e)
@@ -132,11 +132,11 @@ abbrev Below : ℕ → Prefix → Type 0
 Below i (viable c k) = Unit {0}
 Below i (stuck p) = p < i
 
-below-placed : (i : ℕ) (h : Shape) → Below (suc i) (placed i h)
+below-placed : (i : ℕ) (h : Shape) → Below (suc i) (orderAt i h)
 below-placed i (Good c k) = tt
 below-placed i Bad = le-refl (suc i)
 
-below-next : (i : ℕ) (x : Frame) (p : Prefix) → Below i p → Below (suc i) (next i x p)
+below-next : (i : ℕ) (x : Frame) (p : Prefix) → Below i p → Below (suc i) (orderNext i x p)
 below-next i x (viable c k) h = below-placed i (frameStep x c k)
 below-next i x (stuck p) h = omega arith
 

@@ -17,7 +17,7 @@ use Rattle.rule.specs.Limits.{eventLimit, noteLimit, factorLimit, offset
 use Rattle.rule.specs.Frames.{Source, Arithmetic, Relation, Connective, Kind, kindByte, kindOf, sumOf, condOf, relates, frame, bare, frameAt, frameCount, unused, literalFields, referenceFields, bareFields}
 use Rattle.rule.specs.Tree.{Sum, literal, instance, reference, arithmetic, abs, Cond, relation, not, connective, LimitsR, LimitsS, Limits, postfixS, postfix}
 use Rattle.rule.specs.References.{referenceCount, referenceOf}
-use Rattle.rule.specs.Order.{stepped, stepIn, frameStep, Prefix, viable, stuck, placed, next, prefixAt, ended, orderOf, InOrder}
+use Rattle.rule.specs.Order.{stepped, stepIn, frameStep, Prefix, viable, stuck, orderAt, orderNext, prefixAt, ended, orderOf, InOrder}
 use Rattle.rule.specs.Build.{Trees, trees, top1, top2, related, builtBy, built, treesAt, firstC, treeOf}
 use Rattle.rule.specs.declared.Frame.{Frame}
 use Rattle.rule.specs.declared.order.Ordered.the-variants.{Fine}
@@ -36,11 +36,11 @@ abbrev pub shapeOf : Prefix → Shape
 shapeOf (viable c k) = Good c k
 shapeOf (stuck p) = Bad
 
-shape-placed : (i : ℕ) (h : Shape) → shapeOf (placed i h) ≡ h
+shape-placed : (i : ℕ) (h : Shape) → shapeOf (orderAt i h) ≡ h
 shape-placed i (Good c k) = refl
 shape-placed i Bad = refl
 
-shape-next : (i : ℕ) (x : Frame) (p : Prefix) → shapeOf (next i x p) ≡ ordered x (shapeOf p)
+shape-next : (i : ℕ) (x : Frame) (p : Prefix) → shapeOf (orderNext i x p) ≡ ordered x (shapeOf p)
 shape-next i x (viable c k) = shape-placed i (frameStep x c k)
 shape-next i x (stuck p) = refl
 

@@ -13,7 +13,7 @@ use lib.Seq.{take-length, take-add}
 use borrow.Author.Tests.{le-leb}
 use Rattle.rule.specs.Frames.{Source, Arithmetic, Relation, Connective, Kind, kindOf, bare, frameAt, frameCount, Bytes}
 use Rattle.rule.specs.References.{referenceCount}
-use Rattle.rule.specs.Order.{frameStep, Prefix, viable, stuck, placed, next, prefixAt, ended, orderOf}
+use Rattle.rule.specs.Order.{frameStep, Prefix, viable, stuck, orderAt, orderNext, prefixAt, ended, orderOf}
 use Rattle.rule.specs.declared.Frame.{Frame}
 use Rattle.rule.specs.declared.order.Ordered.{Ordered}
 use Rattle.rule.specs.declared.order.Ordered.the-variants.{Fine, At}
@@ -36,37 +36,37 @@ pub record PlaceF (fs : List Frame) (p : ℕ) : Type 0 where
   pub end : p ≡ length fs → Rule fs → ⊥
 
 -- ---- from any counts some frames lead to a rule
-record Rest (c k : ℕ) : Type 0 where
+record Completion (c k : ℕ) : Type 0 where
   more : List Frame
   octets : AllOctets more
   whole : runs ordered more (Good c k) ≡ Good 1 0
 
-one-more : (o : Kind) (c k c′ k′ : ℕ) → ordered (bare o) (Good c k) ≡ Good c′ k′ → Rest c′ k′ → Rest c k
+one-more : (o : Kind) (c k c′ k′ : ℕ) → ordered (bare o) (Good c k) ≡ Good c′ k′ → Completion c′ k′ → Completion c k
 one-more o c k c′ k′ e r = record { more = bare o ∷ r .more; octets = (bare-octets o, r .octets); whole = ap (runs ordered (r .more)) e ∙ r .whole }
 
-joined : (c : ℕ) → Rest (suc c) 0
+joined : (c : ℕ) → Completion (suc c) 0
 unfolding kindOf
 joined zero = record { more = []; octets = tt; whole = refl }
 joined (suc c) =
     one-more (Kind.connective Connective.and) (suc (suc c)) 0 (suc c) 0
     (rw (le-leb 2 (suc (suc c)) (omega arith)) (ap (λ (x : ℕ). Good x 0) (omega arith))) (joined c)
 
-related : (c : ℕ) → Rest c 2
+related : (c : ℕ) → Completion c 2
 unfolding kindOf
 related c = one-more (Kind.relation Relation.equal) c 2 (suc c) 0 (ap (λ (x : ℕ). Good x 0) (omega arith)) (joined c)
 
-summed : (c k : ℕ) → Rest c (suc (suc k))
+summed : (c k : ℕ) → Completion c (suc (suc k))
 unfolding kindOf
 summed c zero = related c
 summed c (suc k) =
     one-more (Kind.arithmetic Arithmetic.add) c (suc (suc (suc k))) c (suc (suc k))
     (rw (le-leb 2 (suc (suc (suc k))) (omega arith)) (ap (Good c) (omega arith))) (summed c k)
 
-single : (c : ℕ) → Rest c 1
+single : (c : ℕ) → Completion c 1
 unfolding kindOf
 single c = one-more (Kind.operand Source.instance) c 1 c 2 refl (related c)
 
-completes : (c k : ℕ) → Rest c k
+completes : (c k : ℕ) → Completion c k
 unfolding kindOf
 completes zero zero = one-more (Kind.operand Source.instance) 0 0 0 1 refl (single 0)
 completes (suc c) zero = joined c
@@ -76,7 +76,7 @@ completes c (suc (suc k)) = summed c k
 -- ---- frames begin a rule exactly where the pass has not stuck
 good-begins : (fs : List Frame) (c k : ℕ) → AllOctets fs → runs ordered fs (Good 0 0) ≡ Good c k → BeginsF fs
 good-begins fs c k ok g =
-    let r : Rest c k = completes c k in
+    let r : Completion c k = completes c k in
     record {
       rest = r .more;
       rule = rule-of (fs ++ r .more) (all-append fs (r .more) ok (r .octets)) (runs-append ordered fs (r .more) (Good 0 0) ∙ ap (runs ordered (r .more)) g ∙ r .whole);
@@ -99,15 +99,15 @@ record Stuck (s : List ℕ) (p n : ℕ) : Type 0 where
   good : prefixAt s p ≡ viable conds sums
   bad : prefixAt s (suc p) ≡ stuck p
 
-placed-stuck : (i : ℕ) (h : Shape) (p : ℕ) → placed i h ≡ stuck p → i ≡ p
+placed-stuck : (i : ℕ) (h : Shape) (p : ℕ) → orderAt i h ≡ stuck p → i ≡ p
 placed-stuck i (Good c k) p e = cc
 placed-stuck i Bad p e = cc
 
-stuck-next : (s : List ℕ) (p n : ℕ) (q : Prefix) → prefixAt s n ≡ q → (prefixAt s n ≡ stuck p → Stuck s p n) → next n (frameAt s n) q ≡ stuck p → Stuck s p (suc n)
+stuck-next : (s : List ℕ) (p n : ℕ) (q : Prefix) → prefixAt s n ≡ q → (prefixAt s n ≡ stuck p → Stuck s p n) → orderNext n (frameAt s n) q ≡ stuck p → Stuck s p (suc n)
 stuck-next s p n (viable c k) e ih g =
     let i : n ≡ p = placed-stuck n (frameStep (frameAt s n) c k) p g in
     subst (λ (x : ℕ). Stuck s x (suc n)) i
-    (record { below = le-refl (suc n); conds = c; sums = k; good = e; bad = ap (next n (frameAt s n)) e ∙ g ∙ ap stuck (sym i) })
+    (record { below = le-refl (suc n); conds = c; sums = k; good = e; bad = ap (orderNext n (frameAt s n)) e ∙ g ∙ ap stuck (sym i) })
 stuck-next s p n (stuck q) e ih g =
     let r : Stuck s p n = ih (e ∙ g) in
     let l : p < n = r .below in

@@ -11,7 +11,7 @@ use Rattle.numbers.proofs.Bools.{and-true, true-and}
 use Rattle.rule.specs.Limits.{instanceMagnitude, referenceMagnitude, magnitudeLimit}
 use Rattle.rule.specs.Frames.{Kind, kindOf, bare}
 use Rattle.rule.specs.Tree.{Sum, literal, instance, reference, arithmetic, abs, Cond, relation, not, connective, postfixS, postfix, IsRule, grown, magnitude, partsS, parts, NoneExceeds}
-use Rattle.rule.specs.Sizes.{Sizes, fits, over, pushed, sized, sizeNext, sizeAt, isFits, sizesFit}
+use Rattle.rule.specs.Sizes.{Sizes, fits, over, pushed, sizesAfter, sizeNext, sizeAt, isFits, sizesFit}
 use Rattle.rule.specs.declared.Frame.{Frame}
 use Rattle.rule.proofs.FrameKinds.{kind-byte}
 use Rattle.rule.proofs.FrameLists.{framesOf, runs, runs-all, pass1, pass2}
@@ -40,8 +40,8 @@ after fs true u ms ns e = e
 after fs false u ms ns e = over-stays fs
 
 -- an operator's frame after a test
-size-bare : (o : Kind) (t : Bool) (ms : List ℕ) (z : Sizes) → sized o (pos 0) ms ≡ z → sizeNext (bare o) (cond t (fits ms) over) ≡ cond t z over
-size-bare o true ms z e = ap (λ (k : Kind). sized k (pos 0) ms) (kind-byte o) ∙ e
+size-bare : (o : Kind) (t : Bool) (ms : List ℕ) (z : Sizes) → sizesAfter o (pos 0) ms ≡ z → sizeNext (bare o) (cond t (fits ms) over) ≡ cond t z over
+size-bare o true ms z e = ap (λ (k : Kind). sizesAfter k (pos 0) ms) (kind-byte o) ∙ e
 size-bare o false ms z e = refl
 
 cond-both : (t u : Bool) (z : Sizes) → cond t (cond u z over) over ≡ cond (t && u) z over

@@ -12,9 +12,9 @@ use Rattle.numbers.proofs.Bools.{and-l, and-r}
 use Rattle.rule.specs.Limits.{magnitudeLimit}
 use Rattle.rule.specs.Frames.{Kind, operand, arithmetic, absolute, relation, negation, connective, none, kindOf, Effect, sumOf, condOf, relates, noRule, effect, frameAt, frameCount, fieldsOf}
 use Rattle.rule.specs.Tree.{grown}
-use Rattle.rule.specs.Order.{stepped, stepBy, frameStep, Prefix, viable, stuck, placed, next, prefixAt, InOrder}
-use Rattle.rule.specs.Sizes.{Sizes, fits, over, topped, operandSize, sized, sizeNext, sizeAt}
-use Rattle.rule.specs.Stack.{stackOf, SumsFor, CondsFor, Ready, ReadyC, Bounded}
+use Rattle.rule.specs.Order.{stepped, stepBy, frameStep, Prefix, viable, stuck, orderAt, orderNext, prefixAt, InOrder}
+use Rattle.rule.specs.Sizes.{Sizes, fits, over, topped, operandSize, sizesAfter, sizeNext, sizeAt}
+use Rattle.rule.specs.Stack.{stackOf, SumsFor, CondsFor, EnoughSums, ReadyC, Bounded}
 use Rattle.rule.specs.declared.Frame.{Frame}
 use Rattle.rule.specs.declared.order.Shape.{Shape}
 use Rattle.rule.specs.declared.order.Shape.the-variants.{Bad}
@@ -23,12 +23,12 @@ use Rattle.rule.proofs.FrameOrder.{Live, sumsOf, condsOf, live, sums-le
 use Rattle.rule.proofs.FrameMagnitudes.{BoundedIn, sizes-in}
 
 -- ---- a frame that leaves a viable prefix has the fields of its kind, and the sums and conditions that it needs
-live-cond : (i : ℕ) (t : Bool) (h : Shape) → Live (placed i (cond t h Bad)) → T t × Live (placed i h)
+live-cond : (i : ℕ) (t : Bool) (h : Shape) → Live (orderAt i (cond t h Bad)) → T t × Live (orderAt i h)
 live-cond i true h l = (tt, l)
 live-cond i false h l = absurd l
 
 module _ (i c k : ℕ) where
-  ready-by : (f : Effect) → Live (placed i (stepped f c k)) → SumsFor f k × CondsFor f c
+  ready-by : (f : Effect) → Live (orderAt i (stepped f c k)) → SumsFor f k × CondsFor f c
   ready-by (sumOf n) l = (leb→le n k (live-cond i (leb n k) _ l .0), tt)
   ready-by (condOf n) l =
       let t = live-cond i (leb n c && eqb k 0) _ l .0 in
@@ -39,10 +39,10 @@ module _ (i c k : ℕ) where
 -- what a frame finds
 pub record Found (x : Frame) (p : Prefix) : Type 0 where
   pub fields : T (fieldsOf (kindOf (x .kind)) x)
-  pub sums : Ready (kindOf (x .kind)) (sumsOf p)
+  pub sums : EnoughSums (kindOf (x .kind)) (sumsOf p)
   pub conds : ReadyC (kindOf (x .kind)) (condsOf p)
 
-found-next : (i : ℕ) (x : Frame) (p : Prefix) → Live (next i x p) → Found x p
+found-next : (i : ℕ) (x : Frame) (p : Prefix) → Live (orderNext i x p) → Found x p
 found-next i x (viable c k) l =
     let q = live-cond i (fieldsOf (kindOf (x .kind)) x) (stepBy (kindOf (x .kind)) c k) l in
     let r = ready-by i c k (effect (kindOf (x .kind))) (q .1) in
@@ -63,7 +63,7 @@ same-over : (p : Prefix) → Same p over
 same-over (viable c k) = tt
 same-over (stuck p) = tt
 
-same-cond : (i : ℕ) (t : Bool) (h : Shape) (z : Sizes) → (T t → Same (placed i h) z) → Same (placed i (cond t h Bad)) z
+same-cond : (i : ℕ) (t : Bool) (h : Shape) (z : Sizes) → (T t → Same (orderAt i h) z) → Same (orderAt i (cond t h Bad)) z
 same-cond i true h z f = f tt
 same-cond i false h z f = tt
 
@@ -77,7 +77,7 @@ same-top f c k (b ∷ []) h e = absurd (omega arith)
 same-top f c k (b ∷ (a ∷ ms)) h e = same-push (leb (f a b) magnitudeLimit) c (k - 2 + 1) (f a b) ms (omega arith)
 
 module _ (i : ℕ) (v : ℤ) (c k : ℕ) (ms : List ℕ) (h : length ms ≡ k) where
-  same-by : (o : Kind) → Same (placed i (stepBy o c k)) (sized o v ms)
+  same-by : (o : Kind) → Same (orderAt i (stepBy o c k)) (sizesAfter o v ms)
   same-by (operand s) =
       same-cond i (leb 0 k) _ _ (λ t. same-push (leb (operandSize s v) magnitudeLimit) c (k - 0 + 1) (operandSize s v) ms (omega arith))
   same-by (arithmetic o) = same-cond i (leb 2 k) _ (topped (grown o) ms) (λ t. same-top (grown o) c k ms (leb→le 2 k t) h)
@@ -87,11 +87,11 @@ module _ (i : ℕ) (v : ℤ) (c k : ℕ) (ms : List ℕ) (h : length ms ≡ k) w
   same-by (connective j) = same-cond i (leb 2 c && eqb k 0) _ (fits ms) (λ t. h ∙ eqb→eq k 0 (and-r (leb 2 c) (eqb k 0) t))
   same-by none = tt
 
-same-next : (i : ℕ) (x : Frame) (p : Prefix) (z : Sizes) → Same p z → Same (next i x p) (sizeNext x z)
+same-next : (i : ℕ) (x : Frame) (p : Prefix) (z : Sizes) → Same p z → Same (orderNext i x p) (sizeNext x z)
 same-next i x (stuck q) z h = tt
-same-next i x (viable c k) over h = same-over (placed i (frameStep x c k))
+same-next i x (viable c k) over h = same-over (orderAt i (frameStep x c k))
 same-next i x (viable c k) (fits ms) h =
-    same-cond i (fieldsOf (kindOf (x .kind)) x) (stepBy (kindOf (x .kind)) c k) (sized (kindOf (x .kind)) (x .value) ms)
+    same-cond i (fieldsOf (kindOf (x .kind)) x) (stepBy (kindOf (x .kind)) c k) (sizesAfter (kindOf (x .kind)) (x .value) ms)
     (λ t. same-by i (x .value) c k ms h (kindOf (x .kind)))
 
 same-at : (s : List ℕ) (i : ℕ) → Same (prefixAt s i) (sizeAt s i)
@@ -107,12 +107,12 @@ sizes-length s i ms l e = same-out (prefixAt s i) ms l (subst (Same (prefixAt s 
 
 -- ---- for the loop over the magnitudes
 pub size-ready : (s cells : List ℕ) (i k : ℕ) (x : Frame) → i < frameCount s → InOrder s → x ≡ frameAt s i → sizeAt s i ≡ fits (stackOf 0 cells k)
-    → (k ≤ i) × (Ready (kindOf (x .kind)) k × Bounded (stackOf 0 cells k))
+    → (k ≤ i) × (EnoughSums (kindOf (x .kind)) k × Bounded (stackOf 0 cells k))
 size-ready s cells i k x h f w e =
     let q : sumsOf (prefixAt s i) ≡ k = sym (sizes-length s i (stackOf 0 cells k) (live s i (omega arith) f) e) ∙ stack-length 0 cells k in (
       subst (λ (n : ℕ). n ≤ i) q (sums-le s i),
       (
-        rw w (subst (Ready (kindOf (frameAt s i .kind))) q (found s i h f .sums)),
+        rw w (subst (EnoughSums (kindOf (frameAt s i .kind))) q (found s i h f .sums)),
         subst BoundedIn e (sizes-in s i),
       ),
     )

@@ -14,9 +14,11 @@ use Rattle.rule.specs.declared.parts.Sign.the-variants.{Plus, Minus}
 use Rattle.rule.specs.declared.parts.Scale.{Scale}
 use Rattle.rule.specs.declared.parts.Scale.the-variants.{Once, Times}
 use Rattle.rule.specs.declared.parts.Shift.the-variants.{Unshifted, By}
+use Rattle.rule.specs.Token.{indexKind, barsKind, ampersandsKind, arrowKind, absKind}
+use Rattle.rule.specs.Class.{openBracket, openParen, star, bang, closeParen, openBrace, closeBrace, closeBracket}
 use Rattle.rule.specs.Grammar.{Word, mark, name, number, Rel, equal, unequal, less, at-most, more, at-least, relMark, signMark, wordOf}
-use Rattle.rule.specs.Frames.{Kind}
-use Rattle.rule.specs.Draft.{lit, index-var, ref, plain, alone, relationOf, signOf}
+use Rattle.rule.specs.Frames.{Arithmetic, Connective, Kind}
+use Rattle.rule.specs.Draft.{lit, index-var, ref, alone, relationOf, signOf}
 use Rattle.rule.specs.Machine.{Act, declare, uses, sized, enter, out, deeper, Sym, unit, ands, ors, arrow, factor, muls, adds, rel, want, name-of, names-of, ref-event, ref-index, ref-shift, ref-by, doing, prod, sum, conj, condition, start, Next, stuck, on, startFactor, step}
 
 abbrev pub isLeaf : ℕ → Bool
@@ -76,47 +78,47 @@ choose P k j {a} {b} f g = go (eqb k j) refl
 
 module _ (M : Type 0) (act : Act → M → M) where
   -- The stack s may spell the words ws, and their reading takes the memory m to m′.
-  pub data Gen : List Sym → M → List Word → M → Type 0 where
-    done : {m : M} → Gen [] m [] m
-    token : {k : ℕ} {s : List Sym} {m m′ : M} {ws : List Word} → Gen s m ws m′ → Gen (want k ∷ s) m (mark k ∷ ws) m′
-    does : {a : Act} {s : List Sym} {m m′ : M} {ws : List Word} → Gen s (act a m) ws m′ → Gen (doing a ∷ s) m ws m′
-    not : {d : ℕ} {s : List Sym} {m m′ : M} {ws : List Word} → Gen (unit (deeper d) ∷ doing (out (plain 0x31)) ∷ s) (act (enter (deeper d)) m) ws m′ → Gen (unit d ∷ s) m (mark 33 ∷ ws) m′
-    group : {d : ℕ} {s : List Sym} {m m′ : M} {ws : List Word} → Gen (condition (deeper d) (want 125 ∷ s)) (act (enter (deeper d)) m) ws m′ → Gen (unit d ∷ s) m (mark 123 ∷ ws) m′
-    relation : {d : ℕ} {s : List Sym} {m m′ : M} {ws : List Word} → Gen (sum d (rel d ∷ s)) m ws m′ → Gen (unit d ∷ s) m ws m′
-    compare : {d : ℕ} {s : List Sym} {m m′ : M} {ws : List Word} (c : Rel) → Gen (sum d (doing (out (alone (Kind.relation (relationOf c)))) ∷ s)) m ws m′ → Gen (rel d ∷ s) m (mark (relMark c) ∷ ws) m′
-    and-more : {d : ℕ} {s : List Sym} {m m′ : M} {ws : List Word} → Gen (unit d ∷ doing (out (plain 0x32)) ∷ ands d ∷ s) m ws m′ → Gen (ands d ∷ s) m (mark 132 ∷ ws) m′
-    and-none : {d : ℕ} {s : List Sym} {m m′ : M} {ws : List Word} → Gen s m ws m′ → Gen (ands d ∷ s) m ws m′
-    or-more : {d : ℕ} {s : List Sym} {m m′ : M} {ws : List Word} → Gen (conj d (doing (out (plain 0x33)) ∷ ors d ∷ s)) m ws m′ → Gen (ors d ∷ s) m (mark 131 ∷ ws) m′
-    or-none : {d : ℕ} {s : List Sym} {m m′ : M} {ws : List Word} → Gen s m ws m′ → Gen (ors d ∷ s) m ws m′
-    implies : {d : ℕ} {s : List Sym} {m m′ : M} {ws : List Word} → Gen (condition (deeper d) (doing (out (plain 0x34)) ∷ s)) (act (enter (deeper d)) m) ws m′ → Gen (arrow d ∷ s) m (mark 130 ∷ ws) m′
-    implies-none : {d : ℕ} {s : List Sym} {m m′ : M} {ws : List Word} → Gen s m ws m′ → Gen (arrow d ∷ s) m ws m′
-    add-more : {d : ℕ} {s : List Sym} {m m′ : M} {ws : List Word} (g : Sign) → Gen (prod d (doing (out (alone (Kind.arithmetic (signOf g)))) ∷ adds d ∷ s)) m ws m′ → Gen (adds d ∷ s) m (mark (signMark g) ∷ ws) m′
-    add-none : {d : ℕ} {s : List Sym} {m m′ : M} {ws : List Word} → Gen s m ws m′ → Gen (adds d ∷ s) m ws m′
-    mul-more : {d : ℕ} {s : List Sym} {m m′ : M} {ws : List Word} → Gen (factor d ∷ doing (out (plain 0x13)) ∷ muls d ∷ s) m ws m′ → Gen (muls d ∷ s) m (mark 42 ∷ ws) m′
-    mul-none : {d : ℕ} {s : List Sym} {m m′ : M} {ws : List Word} → Gen s m ws m′ → Gen (muls d ∷ s) m ws m′
-    literal : {d : ℕ} {s : List Sym} {m m′ : M} {ws : List Word} (p : Place) → Gen s (act (out (lit p)) (act (sized OfLiteral p) m)) ws m′ → Gen (factor d ∷ s) m (number p ∷ ws) m′
-    var : {d : ℕ} {s : List Sym} {m m′ : M} {ws : List Word} → Gen s (act (out index-var) m) ws m′ → Gen (factor d ∷ s) m (mark 5 ∷ ws) m′
-    parens : {d : ℕ} {s : List Sym} {m m′ : M} {ws : List Word} → Gen (sum (deeper d) (want 41 ∷ s)) (act (enter (deeper d)) m) ws m′ → Gen (factor d ∷ s) m (mark 40 ∷ ws) m′
-    absolute : {d : ℕ} {s : List Sym} {m m′ : M} {ws : List Word} → Gen (want 40 ∷ sum (deeper d) (want 41 ∷ doing (out (plain 0x14)) ∷ s)) (act (enter (deeper d)) m) ws m′ → Gen (factor d ∷ s) m (mark 6 ∷ ws) m′
-    reference : {d : ℕ} {s : List Sym} {m m′ : M} {ws : List Word} (p : Place) → Gen (want 40 ∷ ref-event p ∷ s) (act (uses Note p) m) ws m′ → Gen (factor d ∷ s) m (name p ∷ ws) m′
-    event : {n : Place} {s : List Sym} {m m′ : M} {ws : List Word} (p : Place) → Gen (want 91 ∷ ref-index n p ∷ want 93 ∷ want 41 ∷ s) (act (uses Event p) m) ws m′ → Gen (ref-event n ∷ s) m (name p ∷ ws) m′
-    scaled : {n e : Place} {s : List Sym} {m m′ : M} {ws : List Word} (p : Place) → Gen (want 42 ∷ want 5 ∷ ref-shift n e (Times p) ∷ s) (act (sized OfFactor p) m) ws m′ → Gen (ref-index n e ∷ s) m (number p ∷ ws) m′
-    unscaled : {n e : Place} {s : List Sym} {m m′ : M} {ws : List Word} → Gen (ref-shift n e Once ∷ s) m ws m′ → Gen (ref-index n e ∷ s) m (mark 5 ∷ ws) m′
-    shifted : {n e : Place} {f : Scale} {s : List Sym} {m m′ : M} {ws : List Word} (g : Sign) → Gen (ref-by n e f g ∷ s) m ws m′ → Gen (ref-shift n e f ∷ s) m (mark (signMark g) ∷ ws) m′
-    shift-none : {n e : Place} {f : Scale} {s : List Sym} {m m′ : M} {ws : List Word} → Gen s (act (out (ref n e f Unshifted)) m) ws m′ → Gen (ref-shift n e f ∷ s) m ws m′
-    by-number : {n e : Place} {f : Scale} {g : Sign} {s : List Sym} {m m′ : M} {ws : List Word} (p : Place) → Gen s (act (out (ref n e f (By g p))) (act (sized OfOffset p) m)) ws m′ → Gen (ref-by n e f g ∷ s) m (number p ∷ ws) m′
-    named : {r : Role} {s : List Sym} {m m′ : M} {ws : List Word} (p : Place) → Gen s (act (declare r p) m) ws m′ → Gen (name-of r ∷ s) m (name p ∷ ws) m′
-    name-more : {r : Role} {s : List Sym} {m m′ : M} {ws : List Word} (p : Place) → Gen (names-of r ∷ s) (act (declare r p) m) ws m′ → Gen (names-of r ∷ s) m (name p ∷ ws) m′
-    name-none : {r : Role} {s : List Sym} {m m′ : M} {ws : List Word} → Gen s m ws m′ → Gen (names-of r ∷ s) m ws m′
+  pub data Derives : List Sym → M → List Word → M → Type 0 where
+    done : {m : M} → Derives [] m [] m
+    token : {k : ℕ} {s : List Sym} {m m′ : M} {ws : List Word} → Derives s m ws m′ → Derives (want k ∷ s) m (mark k ∷ ws) m′
+    does : {a : Act} {s : List Sym} {m m′ : M} {ws : List Word} → Derives s (act a m) ws m′ → Derives (doing a ∷ s) m ws m′
+    not : {d : ℕ} {s : List Sym} {m m′ : M} {ws : List Word} → Derives (unit (deeper d) ∷ doing (out (alone Kind.negation)) ∷ s) (act (enter (deeper d)) m) ws m′ → Derives (unit d ∷ s) m (mark bang ∷ ws) m′
+    group : {d : ℕ} {s : List Sym} {m m′ : M} {ws : List Word} → Derives (condition (deeper d) (want closeBrace ∷ s)) (act (enter (deeper d)) m) ws m′ → Derives (unit d ∷ s) m (mark openBrace ∷ ws) m′
+    relation : {d : ℕ} {s : List Sym} {m m′ : M} {ws : List Word} → Derives (sum d (rel d ∷ s)) m ws m′ → Derives (unit d ∷ s) m ws m′
+    compare : {d : ℕ} {s : List Sym} {m m′ : M} {ws : List Word} (c : Rel) → Derives (sum d (doing (out (alone (Kind.relation (relationOf c)))) ∷ s)) m ws m′ → Derives (rel d ∷ s) m (mark (relMark c) ∷ ws) m′
+    and-more : {d : ℕ} {s : List Sym} {m m′ : M} {ws : List Word} → Derives (unit d ∷ doing (out (alone (Kind.connective Connective.and))) ∷ ands d ∷ s) m ws m′ → Derives (ands d ∷ s) m (mark ampersandsKind ∷ ws) m′
+    and-none : {d : ℕ} {s : List Sym} {m m′ : M} {ws : List Word} → Derives s m ws m′ → Derives (ands d ∷ s) m ws m′
+    or-more : {d : ℕ} {s : List Sym} {m m′ : M} {ws : List Word} → Derives (conj d (doing (out (alone (Kind.connective Connective.or))) ∷ ors d ∷ s)) m ws m′ → Derives (ors d ∷ s) m (mark barsKind ∷ ws) m′
+    or-none : {d : ℕ} {s : List Sym} {m m′ : M} {ws : List Word} → Derives s m ws m′ → Derives (ors d ∷ s) m ws m′
+    implies : {d : ℕ} {s : List Sym} {m m′ : M} {ws : List Word} → Derives (condition (deeper d) (doing (out (alone (Kind.connective Connective.implies))) ∷ s)) (act (enter (deeper d)) m) ws m′ → Derives (arrow d ∷ s) m (mark arrowKind ∷ ws) m′
+    implies-none : {d : ℕ} {s : List Sym} {m m′ : M} {ws : List Word} → Derives s m ws m′ → Derives (arrow d ∷ s) m ws m′
+    add-more : {d : ℕ} {s : List Sym} {m m′ : M} {ws : List Word} (g : Sign) → Derives (prod d (doing (out (alone (Kind.arithmetic (signOf g)))) ∷ adds d ∷ s)) m ws m′ → Derives (adds d ∷ s) m (mark (signMark g) ∷ ws) m′
+    add-none : {d : ℕ} {s : List Sym} {m m′ : M} {ws : List Word} → Derives s m ws m′ → Derives (adds d ∷ s) m ws m′
+    mul-more : {d : ℕ} {s : List Sym} {m m′ : M} {ws : List Word} → Derives (factor d ∷ doing (out (alone (Kind.arithmetic Arithmetic.multiply))) ∷ muls d ∷ s) m ws m′ → Derives (muls d ∷ s) m (mark star ∷ ws) m′
+    mul-none : {d : ℕ} {s : List Sym} {m m′ : M} {ws : List Word} → Derives s m ws m′ → Derives (muls d ∷ s) m ws m′
+    literal : {d : ℕ} {s : List Sym} {m m′ : M} {ws : List Word} (p : Place) → Derives s (act (out (lit p)) (act (sized OfLiteral p) m)) ws m′ → Derives (factor d ∷ s) m (number p ∷ ws) m′
+    var : {d : ℕ} {s : List Sym} {m m′ : M} {ws : List Word} → Derives s (act (out index-var) m) ws m′ → Derives (factor d ∷ s) m (mark indexKind ∷ ws) m′
+    parens : {d : ℕ} {s : List Sym} {m m′ : M} {ws : List Word} → Derives (sum (deeper d) (want closeParen ∷ s)) (act (enter (deeper d)) m) ws m′ → Derives (factor d ∷ s) m (mark openParen ∷ ws) m′
+    absolute : {d : ℕ} {s : List Sym} {m m′ : M} {ws : List Word} → Derives (want openParen ∷ sum (deeper d) (want closeParen ∷ doing (out (alone Kind.absolute)) ∷ s)) (act (enter (deeper d)) m) ws m′ → Derives (factor d ∷ s) m (mark absKind ∷ ws) m′
+    reference : {d : ℕ} {s : List Sym} {m m′ : M} {ws : List Word} (p : Place) → Derives (want openParen ∷ ref-event p ∷ s) (act (uses Note p) m) ws m′ → Derives (factor d ∷ s) m (name p ∷ ws) m′
+    event : {n : Place} {s : List Sym} {m m′ : M} {ws : List Word} (p : Place) → Derives (want openBracket ∷ ref-index n p ∷ want closeBracket ∷ want closeParen ∷ s) (act (uses Event p) m) ws m′ → Derives (ref-event n ∷ s) m (name p ∷ ws) m′
+    scaled : {n e : Place} {s : List Sym} {m m′ : M} {ws : List Word} (p : Place) → Derives (want star ∷ want indexKind ∷ ref-shift n e (Times p) ∷ s) (act (sized OfFactor p) m) ws m′ → Derives (ref-index n e ∷ s) m (number p ∷ ws) m′
+    unscaled : {n e : Place} {s : List Sym} {m m′ : M} {ws : List Word} → Derives (ref-shift n e Once ∷ s) m ws m′ → Derives (ref-index n e ∷ s) m (mark indexKind ∷ ws) m′
+    shifted : {n e : Place} {f : Scale} {s : List Sym} {m m′ : M} {ws : List Word} (g : Sign) → Derives (ref-by n e f g ∷ s) m ws m′ → Derives (ref-shift n e f ∷ s) m (mark (signMark g) ∷ ws) m′
+    shift-none : {n e : Place} {f : Scale} {s : List Sym} {m m′ : M} {ws : List Word} → Derives s (act (out (ref n e f Unshifted)) m) ws m′ → Derives (ref-shift n e f ∷ s) m ws m′
+    by-number : {n e : Place} {f : Scale} {g : Sign} {s : List Sym} {m m′ : M} {ws : List Word} (p : Place) → Derives s (act (out (ref n e f (By g p))) (act (sized OfOffset p) m)) ws m′ → Derives (ref-by n e f g ∷ s) m (number p ∷ ws) m′
+    named : {r : Role} {s : List Sym} {m m′ : M} {ws : List Word} (p : Place) → Derives s (act (declare r p) m) ws m′ → Derives (name-of r ∷ s) m (name p ∷ ws) m′
+    name-more : {r : Role} {s : List Sym} {m m′ : M} {ws : List Word} (p : Place) → Derives (names-of r ∷ s) (act (declare r p) m) ws m′ → Derives (names-of r ∷ s) m (name p ∷ ws) m′
+    name-none : {r : Role} {s : List Sym} {m m′ : M} {ws : List Word} → Derives s m ws m′ → Derives (names-of r ∷ s) m ws m′
 
   -- ---- each stack derives something
   nowhere : Place
   nowhere = record { start = 0; end = 0 }
 
   Some : List Sym → M → Type 0
-  Some s m = (ws : List Word) × (m′ : M) × Gen s m ws m′
+  Some s m = (ws : List Word) × (m′ : M) × Derives s m ws m′
 
-  pub some : (s : List Sym) (m : M) → (ws : List Word) × (m′ : M) × Gen s m ws m′
+  pub some : (s : List Sym) (m : M) → (ws : List Word) × (m′ : M) × Derives s m ws m′
   some [] m = ([], m, done)
   some (unit d ∷ s) m = let (ws, m′, g) = some s _ in (_, m′, relation (var (mul-none (add-none (compare equal (var (mul-none (add-none (does g)))))))))
   some (ands d ∷ s) m = let (ws, m′, g) = some s m in (_, m′, and-none g)
@@ -192,10 +194,10 @@ module _ (M : Type 0) (act : Act → M → M) where
   -- ---- soundness of a step: what follows it, the grammar allows; and the stack that it leads to is good again
   abbrev pub Fine : List Sym → M → ℕ → Place → Next M → Type 0
   Fine s m k p stuck = Unit
-  Fine s m k p (on s₁ m₁) = Good s → Good s₁ × ((ws : List Word) (m′ : M) → Gen s₁ m₁ ws m′ → Gen s m (wordOf k p ∷ ws) m′)
+  Fine s m k p (on s₁ m₁) = Good s → Good s₁ × ((ws : List Word) (m′ : M) → Derives s₁ m₁ ws m′ → Derives s m (wordOf k p ∷ ws) m′)
 
   -- from a stack below
-  pass : (s s₀ : List Sym) (m m₀ : M) (k : ℕ) (p : Place) (x : Next M) → (Good s → Good s₀) → ((ws : List Word) (m′ : M) → Gen s₀ m₀ ws m′ → Gen s m ws m′) → Fine s₀ m₀ k p x → Fine s m k p x
+  pass : (s s₀ : List Sym) (m m₀ : M) (k : ℕ) (p : Place) (x : Next M) → (Good s → Good s₀) → ((ws : List Word) (m′ : M) → Derives s₀ m₀ ws m′ → Derives s m ws m′) → Fine s₀ m₀ k p x → Fine s m k p x
   pass s s₀ m m₀ k p stuck f h i = tt
   pass s s₀ m m₀ k p (on s₁ m₁) f h i = λ g. let r = i (f g) in (r .0, λ ws m′ y. h _ m′ (r .1 ws m′ y))
 
@@ -204,8 +206,8 @@ module _ (M : Type 0) (act : Act → M → M) where
   fine-factor d s m k p =
       choose F k 2 (λ e g. (g, λ ws m′ h. rw e (literal p h)))
       (choose F k 5 (λ e g. (g, λ ws m′ h. rw e (var h)))
-      (choose F k 40 (λ e g. (good-sum (deeper d) (want 41 ∷ s) ((λ m p. refl), (λ m p. refl), (λ m p. refl)) (refl, g), λ ws m′ h. rw e (parens h)))
-      (choose F k 6 (λ e g. ((refl, good-sum (deeper d) (want 41 ∷ doing (out (plain 0x14)) ∷ s) ((λ m p. refl), (λ m p. refl), (λ m p. refl)) (refl, g)), λ ws m′ h. rw e (absolute h)))
+      (choose F k 40 (λ e g. (good-sum (deeper d) (want closeParen ∷ s) ((λ m p. refl), (λ m p. refl), (λ m p. refl)) (refl, g), λ ws m′ h. rw e (parens h)))
+      (choose F k 6 (λ e g. ((refl, good-sum (deeper d) (want closeParen ∷ doing (out (alone Kind.absolute)) ∷ s) ((λ m p. refl), (λ m p. refl), (λ m p. refl)) (refl, g)), λ ws m′ h. rw e (absolute h)))
       (choose F k 1 (λ e g. ((refl, g), λ ws m′ h. rw e (reference p h))) tt))))
     where
       F : Next M → Type 0
@@ -215,20 +217,20 @@ module _ (M : Type 0) (act : Act → M → M) where
   unfolding step
   fine [] m k p = tt
   fine (unit d ∷ s) m k p =
-      choose (Fine (unit d ∷ s) m k p) k 33 (λ e g. ((acted (out (plain 0x31)) s (g .0), g .1), λ ws m′ h. rw e (not h)))
-      (choose (Fine (unit d ∷ s) m k p) k 123 (λ e g. (good-cond (deeper d) (want 125 ∷ s) ((λ m p. refl), (λ m p. refl), (λ m p. refl)) (λ m p. refl) (λ m p. refl) (λ m p. refl) (refl, g .1), λ ws m′ h. rw e (group h)))
+      choose (Fine (unit d ∷ s) m k p) k 33 (λ e g. ((acted (out (alone Kind.negation)) s (g .0), g .1), λ ws m′ h. rw e (not h)))
+      (choose (Fine (unit d ∷ s) m k p) k 123 (λ e g. (good-cond (deeper d) (want closeBrace ∷ s) ((λ m p. refl), (λ m p. refl), (λ m p. refl)) (λ m p. refl) (λ m p. refl) (λ m p. refl) (refl, g .1), λ ws m′ h. rw e (group h)))
       (pass (unit d ∷ s) (sum d (rel d ∷ s)) m m k p (startFactor M act d m k p (muls d ∷ adds d ∷ rel d ∷ s)) (λ g. good-sum d (rel d ∷ s) ((λ m p. refl), (λ m p. refl), (λ m p. refl)) g) (λ ws m′ h. relation h) (fine-factor d (muls d ∷ adds d ∷ rel d ∷ s) m k p)))
   fine (ands d ∷ s) m k p =
-      choose (Fine (ands d ∷ s) m k p) k 132 (λ e g. ((acted (out (plain 0x32)) (ands d ∷ s) ((λ m p. g .0 .0 m p), (λ m p. g .0 .1 m p), (λ m p. g .0 .2 m p)), g), λ ws m′ h. rw e (and-more h)))
+      choose (Fine (ands d ∷ s) m k p) k 132 (λ e g. ((acted (out (alone (Kind.connective Connective.and))) (ands d ∷ s) ((λ m p. g .0 .0 m p), (λ m p. g .0 .1 m p), (λ m p. g .0 .2 m p)), g), λ ws m′ h. rw e (and-more h)))
       (pass (ands d ∷ s) s m m k p (step M act s m k p) (λ g. g .2) (λ ws m′ h. and-none h) (fine s m k p))
   fine (ors d ∷ s) m k p =
       choose (Fine (ors d ∷ s) m k p) k 131
-      (λ e g. let a : Arith (doing (out (plain 0x33)) ∷ ors d ∷ s) = ((λ m p. g .0 .0 _ p), (λ m p. g .0 .1 _ p), (λ m p. g .0 .2 _ p)) in
+      (λ e g. let a : Arith (doing (out (alone (Kind.connective Connective.or))) ∷ ors d ∷ s) = ((λ m p. g .0 .0 _ p), (λ m p. g .0 .1 _ p), (λ m p. g .0 .2 _ p)) in
       ((((λ m p. a .0 m p), (λ m p. a .1 m p), (λ m p. a .2 m p)), (a, (λ m p. g .1 _ p), g)), λ ws m′ h. rw e (or-more h)))
       (pass (ors d ∷ s) s m m k p (step M act s m k p) (λ g. g .3) (λ ws m′ h. or-none h) (fine s m k p))
   fine (arrow d ∷ s) m k p =
       choose (Fine (arrow d ∷ s) m k p) k 130
-      (λ e g. (good-cond (deeper d) (doing (out (plain 0x34)) ∷ s) ((λ m p. g .0 .0 _ p), (λ m p. g .0 .1 _ p), (λ m p. g .0 .2 _ p)) (λ m p. g .1 _ p) (λ m p. g .2 _ p) (λ m p. g .3 _ p) (g .4), λ ws m′ h. rw e (implies h)))
+      (λ e g. (good-cond (deeper d) (doing (out (alone (Kind.connective Connective.implies))) ∷ s) ((λ m p. g .0 .0 _ p), (λ m p. g .0 .1 _ p), (λ m p. g .0 .2 _ p)) (λ m p. g .1 _ p) (λ m p. g .2 _ p) (λ m p. g .3 _ p) (g .4), λ ws m′ h. rw e (implies h)))
       (pass (arrow d ∷ s) s m m k p (step M act s m k p) (λ g. g .4) (λ ws m′ h. implies-none h) (fine s m k p))
   fine (factor d ∷ s) m k p = fine-factor d s m k p
   fine (muls d ∷ s) m k p =
@@ -270,7 +272,7 @@ module _ (M : Type 0) (act : Act → M → M) where
   -- ---- completeness of a step: what the grammar allows, the machine takes
   abbrev pub Takes : Next M → List Word → M → Type 0
   Takes stuck ws m′ = ⊥
-  Takes (on s m) ws m′ = Gen s m ws m′
+  Takes (on s m) ws m′ = Derives s m ws m′
 
   abbrev taking : List Word → M → Next M → Type 0
   taking ws m′ x = Takes x ws m′
@@ -282,7 +284,7 @@ module _ (M : Type 0) (act : Act → M → M) where
   clear : (k j : ℕ) (s : List Sym) (m : M) (p : Place) → Clear j s → k ≡ j → step M act s m k p ≡ stuck
   clear k j s m p c e = rw e (c m p)
 
-  pub complete : {s : List Sym} {m m′ : M} {w : Word} {ws : List Word} → Gen s m (w ∷ ws) m′ → Good s → (k : ℕ) (p : Place) → wordOf k p ≡ w → Takes (step M act s m k p) ws m′
+  pub complete : {s : List Sym} {m m′ : M} {w : Word} {ws : List Word} → Derives s m (w ∷ ws) m′ → Good s → (k : ℕ) (p : Place) → wordOf k p ≡ w → Takes (step M act s m k p) ws m′
   unfolding step startFactor
   complete (token g) gd k p e = rw (matches k p e, eq-eqb _ _ refl) g
   complete (does g) gd k p e = complete g gd k p e

@@ -6,7 +6,7 @@ use Rattle.rule.specs.Frames.{Kind}
 use Rattle.rule.specs.Token.{nameKind, numberKind}
 use Rattle.rule.specs.Grammar.{relMark, rels, signMark, signs, byMark, place}
 use Rattle.rule.specs.Draft.{Draft, lit, index-var, ref, alone, relationOf, signOf}
-use Rattle.rule.specs.Machine.{Act, declare, uses, sized, enter, out, deeper, Sym, unit, ands, ors, arrow, factor, muls, adds, rel, want, name-of, names-of, ref-event, ref-index, ref-shift, ref-by, doing, prod, sum, Next, stuck, on, Answer, accepted, refused, resume, startFactor, step, finish, run}
+use Rattle.rule.specs.Machine.{Act, declare, uses, sized, enter, out, deeper, Sym, unit, ands, ors, arrow, factor, muls, adds, rel, want, name-of, names-of, ref-event, ref-index, ref-shift, ref-by, doing, prod, sum, Next, stuck, on, MachineAnswer, accepted, refused, resume, startFactor, step, finish, run}
 use Rattle.rule.specs.declared.Token.{Token}
 use Rattle.rule.specs.declared.parts.Place.{Place}
 use Rattle.rule.specs.declared.parts.Role.the-variants.{Event, Note}
@@ -54,9 +54,9 @@ Outs (ref-by e i f g ∷ s) = Outs s
 Outs (doing a ∷ s) = Is-out a × Outs s
 
 -- a choice by marks
-among : {A N : Type 0} (P : N → Type 0) (its : A → ℕ) (k : ℕ) (f : A → N) (z : N) (xs : List A) → ((x : A) → P (f x)) → P z → P (byMark its k f z xs)
-among P its k f z [] h q = q
-among P its k f z (x ∷ xs) h q = choose P k (its x) (λ e. h x) (among P its k f z xs h q)
+mark-keeps : {A N : Type 0} (P : N → Type 0) (its : A → ℕ) (k : ℕ) (f : A → N) (z : N) (xs : List A) → ((x : A) → P (f x)) → P z → P (byMark its k f z xs)
+mark-keeps P its k f z [] h q = q
+mark-keeps P its k f z (x ∷ xs) h q = choose P k (its x) (λ e. h x) (mark-keeps P its k f z xs h q)
 
 module _ (M : Type 0) (act : Act → M → M) (P : M → Type 0) where
   abbrev Ok : Next M → Type 0
@@ -85,20 +85,20 @@ module _ (M : Type 0) (act : Act → M → M) (P : M → Type 0) where
     step-keeps (factor d ∷ s) m o h = factor-keeps d s m o h
     step-keeps (muls d ∷ s) m o h = choose Ok k 42 (λ e. ((tt, o), h)) (step-keeps s m o h)
     step-keeps (adds d ∷ s) m o h =
-        among Ok signMark k (λ g. on (prod d (doing (out (alone (Kind.arithmetic (signOf g)))) ∷ adds d ∷ s)) m) (step M act s m k p) signs (λ g. ((tt, o), h)) (step-keeps s m o h)
-    step-keeps (rel d ∷ s) m o h = among Ok relMark k (λ c. on (sum d (doing (out (alone (Kind.relation (relationOf c)))) ∷ s)) m) stuck rels (λ c. ((tt, o), h)) tt
+        mark-keeps Ok signMark k (λ g. on (prod d (doing (out (alone (Kind.arithmetic (signOf g)))) ∷ adds d ∷ s)) m) (step M act s m k p) signs (λ g. ((tt, o), h)) (step-keeps s m o h)
+    step-keeps (rel d ∷ s) m o h = mark-keeps Ok relMark k (λ c. on (sum d (doing (out (alone (Kind.relation (relationOf c)))) ∷ s)) m) stuck rels (λ c. ((tt, o), h)) tt
     step-keeps (want x ∷ s) m o h = choose Ok k x (λ e. (o, h)) tt
     step-keeps (name-of r ∷ s) m o h = choose Ok k 1 (λ e. (o, keep (declare r p) (e, refl) m h)) tt
     step-keeps (names-of r ∷ s) m o h = choose Ok k 1 (λ e. (o, keep (declare r p) (e, refl) m h)) (step-keeps s m o h)
     step-keeps (ref-event e ∷ s) m o h = choose Ok k 1 (λ q. (o, keep (uses Event p) (q, refl) m h)) tt
     step-keeps (ref-index e i ∷ s) m o h = choose Ok k 2 (λ q. (o, keep (sized OfFactor p) (q, refl) m h)) (choose Ok k 5 (λ q. (o, h)) tt)
     step-keeps (ref-shift e i f ∷ s) m o h =
-        among Ok signMark k (λ g. on (ref-by e i f g ∷ s) m) (step M act s (act (out (ref e i f Unshifted)) m) k p) signs (λ g. (o, h)) (step-keeps s _ o (keep (out (ref e i f Unshifted)) tt m h))
+        mark-keeps Ok signMark k (λ g. on (ref-by e i f g ∷ s) m) (step M act s (act (out (ref e i f Unshifted)) m) k p) signs (λ g. (o, h)) (step-keeps s _ o (keep (out (ref e i f Unshifted)) tt m h))
     step-keeps (ref-by e i f g ∷ s) m o h = choose Ok k 2 (λ q. (o, keep (out (ref e i f (By g p))) tt _ (keep (sized OfOffset p) (q, refl) m h))) tt
     step-keeps (doing a ∷ s) m o h = step-keeps s _ (o .1) (keep a (out-at k p a (o .0)) m h)
 
   -- of an answer: its memory, or its place
-  abbrev pub Holds : (ℕ → Type 0) → Answer M → Type 0
+  abbrev pub Holds : (ℕ → Type 0) → MachineAnswer M → Type 0
   Holds Q (accepted m) = P m
   Holds Q (refused p) = Q p
 

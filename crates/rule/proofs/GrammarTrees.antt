@@ -10,6 +10,8 @@ use Rattle.rule.specs.declared.parts.Sign.{Sign}
 use Rattle.rule.specs.declared.parts.Scale.the-variants.{Once, Times}
 use Rattle.rule.specs.declared.parts.Shift.{Shift}
 use Rattle.rule.specs.declared.parts.Shift.the-variants.{Unshifted, By}
+use Rattle.rule.specs.Token.{indexKind, barsKind, ampersandsKind, arrowKind, absKind}
+use Rattle.rule.specs.Class.{openBracket, openParen, star, closeParen, bang, openBrace, closeBracket}
 use Rattle.rule.specs.Grammar.{Word, mark, name, number, Rel, Index, index, Cond, a-disj, Disj, a-conj, or, Conj, a-unit, and, CUnit, Sum, a-prod, add, Prod, a-factor, multiply, Factor, Rule, rule, yield, relMark, signMark, spellShift, spellIndex, spellCond, spellDisj, spellConj, spellUnit, spellSum, spellProd, spellFactor, spellNames}
 use Rattle.rule.specs.Frames.{Arithmetic, Connective, Kind}
 use Rattle.rule.specs.Draft.{ref, relationOf, signOf}
@@ -18,62 +20,62 @@ use Rattle.rule.specs.Items.{itemsCond, itemsDisj, itemsConj, itemsUnit,
 use Rattle.rule.specs.Machine.{Act, out, Sym, unit, ands, ors, arrow, factor, muls, adds, rel, want, name-of, names-of, ref-event, ref-index, ref-shift, ref-by, doing, prod, sum, conj, condition, start}
 use Rattle.rule.proofs.GrammarWalk.{readEach, readNumber, readItems, readNames, readRule, read-in, read-two, read-one-in, read-two-in}
 use Rattle.rule.specs.Grammar
-use Rattle.rule.proofs.GrammarDerivations.{Gen, done, token, does, not, group, relation, compare, and-more, and-none, or-more, or-none, implies, implies-none, add-more, add-none, mul-more, mul-none, literal, var, parens, absolute, reference, event, scaled, unscaled, shifted, shift-none, by-number, named, name-more, name-none}
+use Rattle.rule.proofs.GrammarDerivations.{Derives, done, token, does, not, group, relation, compare, and-more, and-none, or-more, or-none, implies, implies-none, add-more, add-none, mul-more, mul-none, literal, var, parens, absolute, reference, event, scaled, unscaled, shifted, shift-none, by-number, named, name-more, name-none}
 
 module _ (M : Type 0) (act : Act → M → M) where
   abbrev readIndex : Place → Place → Index → M → M
   readIndex n e (index f o) m = act (out (ref n e f o)) (readEach (readNumber M act) (scaleNumbers f ++ shiftNumbers o) m)
 
   -- ---- each tree has a derivation
-  genIndex : (x : Index) {n e : Place} {s : List Sym} {m m′ : M} {ws : List Word} → Gen M act s (readIndex n e x m) ws m′ → Gen M act (ref-index n e ∷ s) m (spellIndex x ws) m′
-  genIndex (index Once Unshifted) g = unscaled (shift-none g)
-  genIndex (index Once (By q p)) g = unscaled (shifted q (by-number p g))
-  genIndex (index (Times f) Unshifted) g = scaled f (token (token (shift-none g)))
-  genIndex (index (Times f) (By q p)) g = scaled f (token (token (shifted q (by-number p g))))
+  derivesIndex : (x : Index) {n e : Place} {s : List Sym} {m m′ : M} {ws : List Word} → Derives M act s (readIndex n e x m) ws m′ → Derives M act (ref-index n e ∷ s) m (spellIndex x ws) m′
+  derivesIndex (index Once Unshifted) g = unscaled (shift-none g)
+  derivesIndex (index Once (By q p)) g = unscaled (shifted q (by-number p g))
+  derivesIndex (index (Times f) Unshifted) g = scaled f (token (token (shift-none g)))
+  derivesIndex (index (Times f) (By q p)) g = scaled f (token (token (shifted q (by-number p g))))
 
   -- a derivation from the same memory
-  from : {s : List Sym} {m n m′ : M} {ws : List Word} → n ≡ m → Gen M act s n ws m′ → Gen M act s m ws m′
-  from {s} {m′ = m′} {ws} e g = subst (λ (z : M). Gen M act s z ws m′) e g
+  from : {s : List Sym} {m n m′ : M} {ws : List Word} → n ≡ m → Derives M act s n ws m′ → Derives M act s m ws m′
+  from {s} {m′ = m′} {ws} e g = subst (λ (z : M). Derives M act s z ws m′) e g
 
   mutual
-    pub genCond : (x : Cond) {d : ℕ} {s : List Sym} {m m′ : M} {ws : List Word} → Gen M act s (readItems M act d (itemsCond x) m) ws m′ → Gen M act (condition d s) m (spellCond x ws) m′
-    genCond (a-disj x) g = genDisj x (or-none (implies-none g))
-    genCond (Grammar.implies x y) {d} {m = m} g = genDisj x (or-none (implies (genCond y (does (from (read-two-in M act d (itemsDisj x) (itemsCond y) (Kind.connective Connective.implies) m) g)))))
+    pub derivesCond : (x : Cond) {d : ℕ} {s : List Sym} {m m′ : M} {ws : List Word} → Derives M act s (readItems M act d (itemsCond x) m) ws m′ → Derives M act (condition d s) m (spellCond x ws) m′
+    derivesCond (a-disj x) g = derivesDisj x (or-none (implies-none g))
+    derivesCond (Grammar.implies x y) {d} {m = m} g = derivesDisj x (or-none (implies (derivesCond y (does (from (read-two-in M act d (itemsDisj x) (itemsCond y) (Kind.connective Connective.implies) m) g)))))
 
-    genDisj : (x : Disj) {d : ℕ} {s : List Sym} {m m′ : M} {ws : List Word} → Gen M act (ors d ∷ s) (readItems M act d (itemsDisj x) m) ws m′ → Gen M act (conj d (ors d ∷ s)) m (spellDisj x ws) m′
-    genDisj (a-conj x) g = genConj x (and-none g)
-    genDisj (or x y) {d} {m = m} g = genDisj x (or-more (genConj y (and-none (does (from (read-two M act d (itemsDisj x) (itemsConj y) (Kind.connective Connective.or) m) g)))))
+    derivesDisj : (x : Disj) {d : ℕ} {s : List Sym} {m m′ : M} {ws : List Word} → Derives M act (ors d ∷ s) (readItems M act d (itemsDisj x) m) ws m′ → Derives M act (conj d (ors d ∷ s)) m (spellDisj x ws) m′
+    derivesDisj (a-conj x) g = derivesConj x (and-none g)
+    derivesDisj (or x y) {d} {m = m} g = derivesDisj x (or-more (derivesConj y (and-none (does (from (read-two M act d (itemsDisj x) (itemsConj y) (Kind.connective Connective.or) m) g)))))
 
-    genConj : (x : Conj) {d : ℕ} {s : List Sym} {m m′ : M} {ws : List Word} → Gen M act (ands d ∷ s) (readItems M act d (itemsConj x) m) ws m′ → Gen M act (conj d s) m (spellConj x ws) m′
-    genConj (a-unit x) g = genUnit x g
-    genConj (and x y) {d} {m = m} g = genConj x (and-more (genUnit y (does (from (read-two M act d (itemsConj x) (itemsUnit y) (Kind.connective Connective.and) m) g))))
+    derivesConj : (x : Conj) {d : ℕ} {s : List Sym} {m m′ : M} {ws : List Word} → Derives M act (ands d ∷ s) (readItems M act d (itemsConj x) m) ws m′ → Derives M act (conj d s) m (spellConj x ws) m′
+    derivesConj (a-unit x) g = derivesUnit x g
+    derivesConj (and x y) {d} {m = m} g = derivesConj x (and-more (derivesUnit y (does (from (read-two M act d (itemsConj x) (itemsUnit y) (Kind.connective Connective.and) m) g))))
 
-    genUnit : (x : CUnit) {d : ℕ} {s : List Sym} {m m′ : M} {ws : List Word} → Gen M act s (readItems M act d (itemsUnit x) m) ws m′ → Gen M act (unit d ∷ s) m (spellUnit x ws) m′
-    genUnit (Grammar.not x) {d} {m = m} g = not (genUnit x (does (from (read-one-in M act d (itemsUnit x) Kind.negation m) g)))
-    genUnit (Grammar.group x) {d} {m = m} g = group (genCond x (token (from (read-in M act d (itemsCond x) m) g)))
-    genUnit (Grammar.relation x c y) {d} {m = m} g = relation (genSum x (add-none (compare c (genSum y (add-none (does (from (read-two M act d (itemsSum x) (itemsSum y) (Kind.relation (relationOf c)) m) g)))))))
+    derivesUnit : (x : CUnit) {d : ℕ} {s : List Sym} {m m′ : M} {ws : List Word} → Derives M act s (readItems M act d (itemsUnit x) m) ws m′ → Derives M act (unit d ∷ s) m (spellUnit x ws) m′
+    derivesUnit (Grammar.not x) {d} {m = m} g = not (derivesUnit x (does (from (read-one-in M act d (itemsUnit x) Kind.negation m) g)))
+    derivesUnit (Grammar.group x) {d} {m = m} g = group (derivesCond x (token (from (read-in M act d (itemsCond x) m) g)))
+    derivesUnit (Grammar.relation x c y) {d} {m = m} g = relation (derivesSum x (add-none (compare c (derivesSum y (add-none (does (from (read-two M act d (itemsSum x) (itemsSum y) (Kind.relation (relationOf c)) m) g)))))))
 
-    genSum : (x : Sum) {d : ℕ} {s : List Sym} {m m′ : M} {ws : List Word} → Gen M act (adds d ∷ s) (readItems M act d (itemsSum x) m) ws m′ → Gen M act (sum d s) m (spellSum x ws) m′
-    genSum (a-prod x) g = genProd x (mul-none g)
-    genSum (add x q y) {d} {m = m} g = genSum x (add-more q (genProd y (mul-none (does (from (read-two M act d (itemsSum x) (itemsProd y) (Kind.arithmetic (signOf q)) m) g)))))
+    derivesSum : (x : Sum) {d : ℕ} {s : List Sym} {m m′ : M} {ws : List Word} → Derives M act (adds d ∷ s) (readItems M act d (itemsSum x) m) ws m′ → Derives M act (sum d s) m (spellSum x ws) m′
+    derivesSum (a-prod x) g = derivesProd x (mul-none g)
+    derivesSum (add x q y) {d} {m = m} g = derivesSum x (add-more q (derivesProd y (mul-none (does (from (read-two M act d (itemsSum x) (itemsProd y) (Kind.arithmetic (signOf q)) m) g)))))
 
-    genProd : (x : Prod) {d : ℕ} {s : List Sym} {m m′ : M} {ws : List Word} → Gen M act (muls d ∷ s) (readItems M act d (itemsProd x) m) ws m′ → Gen M act (prod d s) m (spellProd x ws) m′
-    genProd (a-factor x) g = genFactor x g
-    genProd (multiply x y) {d} {m = m} g = genProd x (mul-more (genFactor y (does (from (read-two M act d (itemsProd x) (itemsFactor y) (Kind.arithmetic Arithmetic.multiply) m) g))))
+    derivesProd : (x : Prod) {d : ℕ} {s : List Sym} {m m′ : M} {ws : List Word} → Derives M act (muls d ∷ s) (readItems M act d (itemsProd x) m) ws m′ → Derives M act (prod d s) m (spellProd x ws) m′
+    derivesProd (a-factor x) g = derivesFactor x g
+    derivesProd (multiply x y) {d} {m = m} g = derivesProd x (mul-more (derivesFactor y (does (from (read-two M act d (itemsProd x) (itemsFactor y) (Kind.arithmetic Arithmetic.multiply) m) g))))
 
-    genFactor : (x : Factor) {d : ℕ} {s : List Sym} {m m′ : M} {ws : List Word} → Gen M act s (readItems M act d (itemsFactor x) m) ws m′ → Gen M act (factor d ∷ s) m (spellFactor x ws) m′
-    genFactor (Grammar.literal p) g = literal p g
-    genFactor Grammar.var g = var g
-    genFactor (Grammar.parens x) {d} {m = m} g = parens (genSum x (add-none (token (from (read-in M act d (itemsSum x) m) g))))
-    genFactor (Grammar.absolute x) {d} {m = m} g = absolute (token (genSum x (add-none (token (does (from (read-one-in M act d (itemsSum x) Kind.absolute m) g))))))
-    genFactor (Grammar.reference n e (index f o)) g = reference n (token (event e (token (genIndex (index f o) (token (token g))))))
+    derivesFactor : (x : Factor) {d : ℕ} {s : List Sym} {m m′ : M} {ws : List Word} → Derives M act s (readItems M act d (itemsFactor x) m) ws m′ → Derives M act (factor d ∷ s) m (spellFactor x ws) m′
+    derivesFactor (Grammar.literal p) g = literal p g
+    derivesFactor Grammar.var g = var g
+    derivesFactor (Grammar.parens x) {d} {m = m} g = parens (derivesSum x (add-none (token (from (read-in M act d (itemsSum x) m) g))))
+    derivesFactor (Grammar.absolute x) {d} {m = m} g = absolute (token (derivesSum x (add-none (token (does (from (read-one-in M act d (itemsSum x) Kind.absolute m) g))))))
+    derivesFactor (Grammar.reference n e (index f o)) g = reference n (token (event e (token (derivesIndex (index f o) (token (token g))))))
 
-  genNames : (r : Role) (ps : List Place) {s : List Sym} {m m′ : M} {ws : List Word} → Gen M act s (readNames M act r ps m) ws m′ → Gen M act (names-of r ∷ s) m (spellNames ps ws) m′
-  genNames r [] g = name-none g
-  genNames r (p ∷ ps) g = name-more p (genNames r ps g)
+  derivesNames : (r : Role) (ps : List Place) {s : List Sym} {m m′ : M} {ws : List Word} → Derives M act s (readNames M act r ps m) ws m′ → Derives M act (names-of r ∷ s) m (spellNames ps ws) m′
+  derivesNames r [] g = name-none g
+  derivesNames r (p ∷ ps) g = name-more p (derivesNames r ps g)
 
-  pub genRule : (x : Rule) {m : M} → Gen M act start m (yield x) (readRule M act x m)
-  genRule (rule e es n ns c) = token (named e (genNames Event es (token (token (named n (genNames Note ns (token (genCond c done))))))))
+  pub derivesRule : (x : Rule) {m : M} → Derives M act start m (yield x) (readRule M act x m)
+  derivesRule (rule e es n ns c) = token (named e (derivesNames Event es (token (token (named n (derivesNames Note ns (token (derivesCond c done))))))))
 
 -- ---- a repeat read to the right, grouped to the left
 abbrev conj-of : Conj → List CUnit → Conj
@@ -110,19 +112,19 @@ whole-sum f fs qs = sum-of (a-prod (whole-prod f fs)) qs
 
 abbrev spellUnits : List CUnit → List Word → List Word
 spellUnits [] r = r
-spellUnits (u ∷ us) r = mark 132 ∷ spellUnit u (spellUnits us r)
+spellUnits (u ∷ us) r = mark ampersandsKind ∷ spellUnit u (spellUnits us r)
 
 abbrev spellConjs : List Conj → List Word → List Word
 spellConjs [] r = r
-spellConjs (u ∷ us) r = mark 131 ∷ spellConj u (spellConjs us r)
+spellConjs (u ∷ us) r = mark barsKind ∷ spellConj u (spellConjs us r)
 
 abbrev spellThen : Option Cond → List Word → List Word
 spellThen none r = r
-spellThen (some y) r = mark 130 ∷ spellCond y r
+spellThen (some y) r = mark arrowKind ∷ spellCond y r
 
 abbrev spellFactors : List Factor → List Word → List Word
 spellFactors [] r = r
-spellFactors (u ∷ us) r = mark 42 ∷ spellFactor u (spellFactors us r)
+spellFactors (u ∷ us) r = mark star ∷ spellFactor u (spellFactors us r)
 
 abbrev spellAddends : List (Sign × Prod) → List Word → List Word
 spellAddends [] r = r
@@ -189,7 +191,7 @@ spellSym (rel d) t r = mark (relMark (t .0)) ∷ spellSum (t .1) r
 spellSym (want k) t r = mark k ∷ r
 spellSym (name-of x) t r = name t ∷ r
 spellSym (names-of x) t r = spellNames t r
-spellSym (ref-event n) t r = name (t .0) ∷ mark 91 ∷ spellIndex (t .1) (mark 93 ∷ mark 41 ∷ r)
+spellSym (ref-event n) t r = name (t .0) ∷ mark openBracket ∷ spellIndex (t .1) (mark closeBracket ∷ mark closeParen ∷ r)
 spellSym (ref-index n e) t r = spellIndex t r
 spellSym (ref-shift n e f) t r = spellShift t r
 spellSym (ref-by n e f g) t r = number t ∷ r
@@ -209,32 +211,32 @@ lift : {s s₁ : List Sym} {ws : List Word} → Made s ws → (W : List Word →
 lift q W F a = record { trees = F (q .trees); spelled = ap W (q .spelled) ∙ a (q .trees) }
 
 module _ (M : Type 0) (act : Act → M → M) where
-  made : {s : List Sym} {m m′ : M} {ws : List Word} → Gen M act s m ws m′ → Made s ws
+  made : {s : List Sym} {m m′ : M} {ws : List Word} → Derives M act s m ws m′ → Made s ws
   made done = record { trees = tt; spelled = refl }
   made (token {k} g) = lift (made g) (λ r. mark k ∷ r) (λ f. (tt, f)) (λ f. refl)
   made (does g) = lift (made g) (λ r. r) (λ f. (tt, f)) (λ f. refl)
-  made (not g) = lift (made g) (λ r. mark 33 ∷ r) (λ f. (Grammar.not (f .0), f .1 .1)) (λ f. refl)
-  made (group g) = lift (made g) (λ r. mark 123 ∷ r) (λ f. (Grammar.group (whole-cond (f .0) (f .1 .0) (f .1 .1 .0) (f .1 .1 .1 .0)), f .1 .1 .1 .1 .1)) (λ f. rw (spell-whole-cond (f .0) (f .1 .0) (f .1 .1 .0) (f .1 .1 .1 .0) _))
+  made (not g) = lift (made g) (λ r. mark bang ∷ r) (λ f. (Grammar.not (f .0), f .1 .1)) (λ f. refl)
+  made (group g) = lift (made g) (λ r. mark openBrace ∷ r) (λ f. (Grammar.group (whole-cond (f .0) (f .1 .0) (f .1 .1 .0) (f .1 .1 .1 .0)), f .1 .1 .1 .1 .1)) (λ f. rw (spell-whole-cond (f .0) (f .1 .0) (f .1 .1 .0) (f .1 .1 .1 .0) _))
   made (relation g) = lift (made g) (λ r. r) (λ f. (Grammar.relation (whole-sum (f .0) (f .1 .0) (f .1 .1 .0)) (f .1 .1 .1 .0 .0) (f .1 .1 .1 .0 .1), f .1 .1 .1 .1)) (λ f. rw (spell-whole-sum (f .0) (f .1 .0) (f .1 .1 .0) _))
   made (compare c g) = lift (made g) (λ r. mark (relMark c) ∷ r) (λ f. ((c, whole-sum (f .0) (f .1 .0) (f .1 .1 .0)), f .1 .1 .1 .1)) (λ f. rw (spell-whole-sum (f .0) (f .1 .0) (f .1 .1 .0) _))
-  made (and-more g) = lift (made g) (λ r. mark 132 ∷ r) (λ f. (f .0 ∷ f .1 .1 .0, f .1 .1 .1)) (λ f. refl)
+  made (and-more g) = lift (made g) (λ r. mark ampersandsKind ∷ r) (λ f. (f .0 ∷ f .1 .1 .0, f .1 .1 .1)) (λ f. refl)
   made (and-none g) = lift (made g) (λ r. r) (λ f. ([], f)) (λ f. refl)
-  made (or-more g) = lift (made g) (λ r. mark 131 ∷ r) (λ f. (whole-conj (f .0) (f .1 .0) ∷ f .1 .1 .1 .0, f .1 .1 .1 .1)) (λ f. rw (spell-conj-of (a-unit (f .0)) (f .1 .0) _))
+  made (or-more g) = lift (made g) (λ r. mark barsKind ∷ r) (λ f. (whole-conj (f .0) (f .1 .0) ∷ f .1 .1 .1 .0, f .1 .1 .1 .1)) (λ f. rw (spell-conj-of (a-unit (f .0)) (f .1 .0) _))
   made (or-none g) = lift (made g) (λ r. r) (λ f. ([], f)) (λ f. refl)
-  made (implies g) = lift (made g) (λ r. mark 130 ∷ r) (λ f. (some (whole-cond (f .0) (f .1 .0) (f .1 .1 .0) (f .1 .1 .1 .0)), f .1 .1 .1 .1 .1)) (λ f. rw (spell-whole-cond (f .0) (f .1 .0) (f .1 .1 .0) (f .1 .1 .1 .0) _))
+  made (implies g) = lift (made g) (λ r. mark arrowKind ∷ r) (λ f. (some (whole-cond (f .0) (f .1 .0) (f .1 .1 .0) (f .1 .1 .1 .0)), f .1 .1 .1 .1 .1)) (λ f. rw (spell-whole-cond (f .0) (f .1 .0) (f .1 .1 .0) (f .1 .1 .1 .0) _))
   made (implies-none g) = lift (made g) (λ r. r) (λ f. (none, f)) (λ f. refl)
   made (add-more q g) = lift (made g) (λ r. mark (signMark q) ∷ r) (λ f. ((q, whole-prod (f .0) (f .1 .0)) ∷ f .1 .1 .1 .0, f .1 .1 .1 .1)) (λ f. rw (spell-prod-of (a-factor (f .0)) (f .1 .0) _))
   made (add-none g) = lift (made g) (λ r. r) (λ f. ([], f)) (λ f. refl)
-  made (mul-more g) = lift (made g) (λ r. mark 42 ∷ r) (λ f. (f .0 ∷ f .1 .1 .0, f .1 .1 .1)) (λ f. refl)
+  made (mul-more g) = lift (made g) (λ r. mark star ∷ r) (λ f. (f .0 ∷ f .1 .1 .0, f .1 .1 .1)) (λ f. refl)
   made (mul-none g) = lift (made g) (λ r. r) (λ f. ([], f)) (λ f. refl)
   made (literal p g) = lift (made g) (λ r. number p ∷ r) (λ f. (Grammar.literal p, f)) (λ f. refl)
-  made (var g) = lift (made g) (λ r. mark 5 ∷ r) (λ f. (Grammar.var, f)) (λ f. refl)
-  made (parens g) = lift (made g) (λ r. mark 40 ∷ r) (λ f. (Grammar.parens (whole-sum (f .0) (f .1 .0) (f .1 .1 .0)), f .1 .1 .1 .1)) (λ f. rw (spell-whole-sum (f .0) (f .1 .0) (f .1 .1 .0) _))
-  made (absolute g) = lift (made g) (λ r. mark 6 ∷ r) (λ f. (Grammar.absolute (whole-sum (f .1 .0) (f .1 .1 .0) (f .1 .1 .1 .0)), f .1 .1 .1 .1 .1 .1)) (λ f. rw (spell-whole-sum (f .1 .0) (f .1 .1 .0) (f .1 .1 .1 .0) _))
+  made (var g) = lift (made g) (λ r. mark indexKind ∷ r) (λ f. (Grammar.var, f)) (λ f. refl)
+  made (parens g) = lift (made g) (λ r. mark openParen ∷ r) (λ f. (Grammar.parens (whole-sum (f .0) (f .1 .0) (f .1 .1 .0)), f .1 .1 .1 .1)) (λ f. rw (spell-whole-sum (f .0) (f .1 .0) (f .1 .1 .0) _))
+  made (absolute g) = lift (made g) (λ r. mark absKind ∷ r) (λ f. (Grammar.absolute (whole-sum (f .1 .0) (f .1 .1 .0) (f .1 .1 .1 .0)), f .1 .1 .1 .1 .1 .1)) (λ f. rw (spell-whole-sum (f .1 .0) (f .1 .1 .0) (f .1 .1 .1 .0) _))
   made (reference p g) = lift (made g) (λ r. name p ∷ r) (λ f. (Grammar.reference p (f .1 .0 .0) (f .1 .0 .1), f .1 .1)) (λ f. refl)
   made (event p g) = lift (made g) (λ r. name p ∷ r) (λ f. ((p, f .1 .0), f .1 .1 .1 .1)) (λ f. refl)
   made (scaled p g) = lift (made g) (λ r. number p ∷ r) (λ f. (index (Times p) (f .1 .1 .0), f .1 .1 .1)) (λ f. refl)
-  made (unscaled g) = lift (made g) (λ r. mark 5 ∷ r) (λ f. (index Once (f .0), f .1)) (λ f. refl)
+  made (unscaled g) = lift (made g) (λ r. mark indexKind ∷ r) (λ f. (index Once (f .0), f .1)) (λ f. refl)
   made (shifted q g) = lift (made g) (λ r. mark (signMark q) ∷ r) (λ f. (By q (f .0), f .1)) (λ f. refl)
   made (shift-none g) = lift (made g) (λ r. r) (λ f. (Unshifted, f)) (λ f. refl)
   made (by-number p g) = lift (made g) (λ r. number p ∷ r) (λ f. (p, f)) (λ f. refl)
@@ -243,7 +245,7 @@ module _ (M : Type 0) (act : Act → M → M) where
   made (name-none g) = lift (made g) (λ r. r) (λ f. ([], f)) (λ f. refl)
 
   -- a derivation of a whole rule comes from a tree
-  pub ruled : {m m′ : M} {ws : List Word} → Gen M act start m ws m′ → (x : Rule) × (yield x ≡ ws)
+  pub ruled : {m m′ : M} {ws : List Word} → Derives M act start m ws m′ → (x : Rule) × (yield x ≡ ws)
   ruled g = go (made g)
     where
       go : {ws : List Word} → Made start ws → (x : Rule) × (yield x ≡ ws)

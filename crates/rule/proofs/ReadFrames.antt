@@ -11,7 +11,7 @@ use Rattle.rule.specs.Grammar.{Rule}
 use Rattle.rule.specs.Tree.{postfix, bytesOf}
 use Rattle.rule.specs.Measure.{frames, depth}
 use Rattle.rule.proofs.ReaderRefusals.{Outcome, read-as, telling, outcome}
-use Rattle.rule.specs.Memory.{Mem, fresh, told, codeAt, valueAt, acts}
+use Rattle.rule.specs.Memory.{Mem, fresh, memoryAnswer, codeAt, valueAt, acts}
 use Rattle.rule.specs.Check.{checkedOf}
 use Rattle.rule.specs.Opening.{refused}
 use Rattle.rule.specs.Reading.{afterCheck, concluded, readOf}
@@ -30,7 +30,7 @@ use Rattle.rule.proofs.FrameTrees.{meaning-count, few-frames, coded-nam
 use Rattle.rule.proofs.ReadChecks.{check-accepted}
 
 -- the registers that refuse nothing tell the number of frames
-told-count : (m : Mem) → told m .0 ≡ 0 → told m .1 ≡ m .count
+told-count : (m : Mem) → memoryAnswer m .0 ≡ 0 → memoryAnswer m .1 ≡ m .count
 told-count m = go (eqb (m .name) 0) (eqb (m .number) 0) (m .deep) (ltb 64 (m .count))
   where
     tell : Bool → Bool → Bool → Bool → ℕ × ℕ
@@ -43,9 +43,9 @@ told-count m = go (eqb (m .name) 0) (eqb (m .number) 0) (m .deep) (ltb 64 (m .co
     go true true false true e = absurd (omega arith)
     go true true false false e = refl
 
-concluded-frames : (b : List ℕ) (m : Mem) (n : ℕ) (s : List ℕ) → told m ≡ (0, n) → m .bytes ≡ s → (concluded b m ≡ afterCheck b m (checkedOf (take (n * 8) s))) × (m .count ≡ n)
+concluded-frames : (b : List ℕ) (m : Mem) (n : ℕ) (s : List ℕ) → memoryAnswer m ≡ (0, n) → m .bytes ≡ s → (concluded b m ≡ afterCheck b m (checkedOf (take (n * 8) s))) × (m .count ≡ n)
 concluded-frames b m n s e f =
-    let z : told m .0 ≡ 0 = ap (λ (q : ℕ × ℕ). q .0) e in
+    let z : memoryAnswer m .0 ≡ 0 = ap (λ (q : ℕ × ℕ). q .0) e in
     let c : m .count ≡ n = sym (told-count m z) ∙ ap (λ (q : ℕ × ℕ). q .1) e in
     (subst (λ (q : ℕ × ℕ). cond (eqb (q .0) 0) (afterCheck b m (checkedOf (take (m .count * 8) (m .bytes)))) (refusedAs (q .0) (q .1), b) ≡ afterCheck b m (checkedOf (take (n * 8) s))) (sym e) (rw (c, f)), c)
 
@@ -61,7 +61,7 @@ module _ (text b : List ℕ) (fit : length b ≡ 512) where
     judged-well : outcome (codeAt text) (valueAt text) x ≡ read-as (frames x)
     judged-well = rw (coded-names text x w, coded-numbers text x w, le-ltb 16 (depth x) (w .shallow), le-ltb 64 (length (frames x)) (few-frames text x w))
 
-    told-tree : told after ≡ (0, length (frames x))
+    told-tree : memoryAnswer after ≡ (0, length (frames x))
     unfolding acts
     told-tree = told-right (codeAt text) (valueAt text) (replicate 512 0) x ∙ ap (λ (q : Outcome). telling q) judged-well
 

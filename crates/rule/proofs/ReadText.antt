@@ -9,9 +9,9 @@ use lib.ListN.{length, take, replicate}
 use borrow.Author.Tests.{ne-eqb}
 use Rattle.rule.specs.Token.{tokens}
 use Rattle.rule.specs.Grammar.{Rule, yield, words, Wrong-at}
-use Rattle.rule.specs.Machine.{Answer, accepted, refused}
+use Rattle.rule.specs.Machine.{MachineAnswer, accepted, refused}
 use Rattle.rule.proofs.ReaderRefusals.{Outcome, refused-by, telling, outcome}
-use Rattle.rule.specs.Memory.{Mem, fresh, told, codeAt, valueAt, acts}
+use Rattle.rule.specs.Memory.{Mem, fresh, memoryAnswer, codeAt, valueAt, acts}
 use Rattle.rule.specs.Check.{checkedOf}
 use Rattle.rule.specs.Reading.{judged, afterCheck, concluded, afterGrammar, readOf}
 use Rattle.rule.specs.Answers.{refusedAs}
@@ -35,13 +35,13 @@ opens-check b m Accepted e = e
 opens-check b m (Refused r) e = tt
 
 opens-concluded : (b : List ℕ) (m : Mem) → Opens (concluded b m)
-opens-concluded b m = go (eqb (told m .0) 0)
+opens-concluded b m = go (eqb (memoryAnswer m .0) 0)
   where
-    go : (q : Bool) → Opens (cond q (afterCheck b m (checkedOf (take (m .count * 8) (m .bytes)))) (refusedAs (told m .0) (told m .1), b))
+    go : (q : Bool) → Opens (cond q (afterCheck b m (checkedOf (take (m .count * 8) (m .bytes)))) (refusedAs (memoryAnswer m .0) (memoryAnswer m .1), b))
     go true = opens-check b m (checkedOf (take (m .count * 8) (m .bytes))) refl
     go false = tt
 
-opens-grammar : (b : List ℕ) (a : Answer Mem) → Opens (afterGrammar b a)
+opens-grammar : (b : List ℕ) (a : MachineAnswer Mem) → Opens (afterGrammar b a)
 opens-grammar b (accepted m) = opens-concluded b m
 opens-grammar b (refused p) = tt
 
@@ -68,13 +68,13 @@ keeps-check b m Accepted = tt
 keeps-check b m (Refused r) = refl
 
 keeps-concluded : (b : List ℕ) (m : Mem) → Keeps b (concluded b m)
-keeps-concluded b m = go (eqb (told m .0) 0)
+keeps-concluded b m = go (eqb (memoryAnswer m .0) 0)
   where
-    go : (q : Bool) → Keeps b (cond q (afterCheck b m (checkedOf (take (m .count * 8) (m .bytes)))) (refusedAs (told m .0) (told m .1), b))
+    go : (q : Bool) → Keeps b (cond q (afterCheck b m (checkedOf (take (m .count * 8) (m .bytes)))) (refusedAs (memoryAnswer m .0) (memoryAnswer m .1), b))
     go true = keeps-check b m (checkedOf (take (m .count * 8) (m .bytes)))
     go false = refl
 
-keeps-grammar : (b : List ℕ) (a : Answer Mem) → Keeps b (afterGrammar b a)
+keeps-grammar : (b : List ℕ) (a : MachineAnswer Mem) → Keeps b (afterGrammar b a)
 keeps-grammar b (accepted m) = keeps-concluded b m
 keeps-grammar b (refused p) = refl
 
@@ -103,11 +103,11 @@ module _ (text b : List ℕ) (fit : length b ≡ 512) (some : length text ≡ 0 
   unfolding judged
   in-grammar x e = three text b (accepted (readRule Mem (acts text) x (fresh (replicate 512 0)))) fit some short (taken Mem (acts text) (length text) (fresh (replicate 512 0)) x (tokens text) e)
 
-  told-tree : (x : Rule) → told (readRule Mem (acts text) x (fresh (replicate 512 0))) ≡ telling (outcome (codeAt text) (valueAt text) x)
+  told-tree : (x : Rule) → memoryAnswer (readRule Mem (acts text) x (fresh (replicate 512 0))) ≡ telling (outcome (codeAt text) (valueAt text) x)
   unfolding acts
   told-tree x = told-right (codeAt text) (valueAt text) (replicate 512 0) x
 
-  concluded-refused : (m : Mem) (k p : ℕ) → told m ≡ (k, p) → (k ≡ 0 → ⊥) → concluded b m ≡ (refusedAs k p, b)
+  concluded-refused : (m : Mem) (k p : ℕ) → memoryAnswer m ≡ (k, p) → (k ≡ 0 → ⊥) → concluded b m ≡ (refusedAs k p, b)
   concluded-refused m k p e ne = subst (λ (q : ℕ × ℕ). cond (eqb (q .0) 0) (afterCheck b m (checkedOf (take (m .count * 8) (m .bytes)))) (refusedAs (q .0) (q .1), b) ≡ (refusedAs k p, b)) (sym e) (rw (ne-eqb k 0 ne))
 
   -- refusals 4, 5 and 6 of a tree, with their places
@@ -119,6 +119,6 @@ module _ (text b : List ℕ) (fit : length b ≡ 512) (some : length text ≡ 0 
   unfolding judged
   either = go (judged text) refl
     where
-      go : (a : Answer Mem) → judged text ≡ a → ((x : Rule) × (yield x ≡ words (tokens text))) ⊎ ((p : ℕ) × Wrong-at (length text) (tokens text) p)
+      go : (a : MachineAnswer Mem) → judged text ≡ a → ((x : Rule) × (yield x ≡ words (tokens text))) ⊎ ((p : ℕ) × Wrong-at (length text) (tokens text) p)
       go (accepted m) e = let (x, f, r) = sound Mem (acts text) (length text) (fresh (replicate 512 0)) (tokens text) m e in inl (x, f)
       go (refused p) e = inr (p, refused-at Mem (acts text) (length text) (fresh (replicate 512 0)) (tokens text) p .0 e)

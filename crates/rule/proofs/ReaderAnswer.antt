@@ -6,19 +6,19 @@ use Prim.Native.Nat.{ℕ}
 use Rattle.rule.specs.declared.Token.{Token}
 use Rattle.rule.specs.declared.parts.Place.{Place}
 use Rattle.rule.specs.Grammar.{Rule, yield, words, Wrong-at}
-use Rattle.rule.specs.Machine.{start, Answer, accepted, refused, run}
+use Rattle.rule.specs.Machine.{start, MachineAnswer, accepted, refused, run}
 use Rattle.rule.proofs.ReaderRefusals.{telling, outcome}
-use Rattle.rule.specs.Memory.{Mem, fresh, remember, told}
+use Rattle.rule.specs.Memory.{Mem, fresh, remember, memoryAnswer}
 use Rattle.rule.proofs.GrammarRules.{taken, sound, refused-at}
 use Rattle.rule.proofs.ReaderRegisters.{told-right}
 
 -- the answer as two numbers: refusals 3 to 6 with their places, or 0 and the number of frames
-abbrev pub answered : Answer Mem → ℕ × ℕ
+abbrev pub answered : MachineAnswer Mem → ℕ × ℕ
 answered (refused p) = (3, p)
-answered (accepted m) = told m
+answered (accepted m) = memoryAnswer m
 
 module _ (code value : Place → ℕ) (n : ℕ) (b₀ : List ℕ) (ts : List Token) where
-  abbrev pub judged : Answer Mem
+  abbrev pub judged : MachineAnswer Mem
   judged = run Mem (remember code value) n start (fresh b₀) ts
 
   -- tokens in the grammar are answered as their tree is judged
@@ -33,6 +33,6 @@ module _ (code value : Place → ℕ) (n : ℕ) (b₀ : List ℕ) (ts : List Tok
   pub either : ((x : Rule) × (yield x ≡ words ts)) ⊎ ((p : ℕ) × Wrong-at n ts p)
   either = go judged refl
     where
-      go : (a : Answer Mem) → judged ≡ a → ((x : Rule) × (yield x ≡ words ts)) ⊎ ((p : ℕ) × Wrong-at n ts p)
+      go : (a : MachineAnswer Mem) → judged ≡ a → ((x : Rule) × (yield x ≡ words ts)) ⊎ ((p : ℕ) × Wrong-at n ts p)
       go (accepted m) e = let (x, f, r) = sound Mem (remember code value) n (fresh b₀) ts m e in inl (x, f)
       go (refused p) e = inr (p, refused-at Mem (remember code value) n (fresh b₀) ts p .0 e)

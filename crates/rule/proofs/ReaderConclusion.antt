@@ -6,7 +6,7 @@ use Prim.Native.Nat.{ℕ, _-_, _*_, _≤_, _<_, zero-le}
 use borrow.Author.Tests.{ne-eqb, lt-ltb, le-ltb}
 use lib.ListN.{length, take, replicate}
 use Rattle.rule.specs.Token.{tokens}
-use Rattle.rule.specs.Machine.{start, Answer}
+use Rattle.rule.specs.Machine.{start, MachineAnswer}
 use Rattle.rule.specs.Memory.{Mem, fresh, listed, mem}
 use Rattle.rule.specs.ReadsPart.{runFrom}
 use Rattle.rule.specs.Check.{checkedOf}
@@ -52,7 +52,7 @@ module _ (text b : List ℕ) where
   unfolding readOf
   two-many e h l = rw (e, ne-eqb (length text) 0 h, lt-ltb 1024 (length text) l)
 
-  pub three : (a : Answer Mem) → length b ≡ 512 → (length text ≡ 0 → ⊥) → length text ≤ 1024 → judged text ≡ a → readOf text b ≡ afterGrammar b a
+  pub three : (a : MachineAnswer Mem) → length b ≡ 512 → (length text ≡ 0 → ⊥) → length text ≤ 1024 → judged text ≡ a → readOf text b ≡ afterGrammar b a
   unfolding readOf
   three a e h l q = rw (e, ne-eqb (length text) 0 h, le-ltb 1024 (length text) l, q)
 

@@ -9,7 +9,7 @@ use lib.ListN.{length, set, length-set}
 use Rattle.rule.specs.Token.{tokenAt, Rising}
 use Rattle.rule.specs.Grammar.{place}
 use Rattle.rule.specs.Measure.{sized-by}
-use Rattle.rule.specs.Machine.{Act, declare, uses, sized, enter, out, Sym, Answer, accepted, refused, step, finish, run}
+use Rattle.rule.specs.Machine.{Act, declare, uses, sized, enter, out, Sym, MachineAnswer, accepted, refused, step, finish, run}
 use Rattle.rule.specs.Memory.{Mem, table, first, blame, enlist, put, misnamed, codeAt, valueAt, acts, isDeclared, bad-number}
 use Rattle.rule.specs.ReadsPart.{runFrom}
 use Rattle.rule.specs.declared.Token.{Token}
@@ -107,7 +107,7 @@ module _ (text : List ℕ) (n : ℕ) where
   own : n ≤ n
   own = omega arith
 
-  abbrev pub OkA : Answer Mem → Type 0
+  abbrev pub OkA : MachineAnswer Mem → Type 0
   OkA a = Holds Mem (acts text) (Kept n) (λ p. p ≤ n) a
 
   -- an answer of the machine to tokens of a text of n bytes has its places within it, and a buffer of the same length

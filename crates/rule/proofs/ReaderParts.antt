@@ -11,7 +11,7 @@ use Rattle.rule.specs.Token.{tokenAt, tokensFrom}
 use Rattle.rule.specs.Grammar.{place}
 use Rattle.rule.specs.Machine.{Act, Sym, doing, stuck, on, refused, step, finish, run}
 use Rattle.rule.specs.Memory.{Mem, acts, mem}
-use Rattle.rule.specs.ReadsPart.{runFrom, onward, StaysWithin, ReadsPart, Inside}
+use Rattle.rule.specs.ReadsPart.{runFrom, readOn, StaysWithin, ReadsPart, Inside}
 use Rattle.rule.specs.declared.Token.{Token}
 use Rattle.rule.specs.declared.memory.Registers.{Registers}
 use Rattle.rule.specs.declared.memory.Step.{Step}
@@ -49,22 +49,22 @@ module _ {text : List ℕ} where
   -- one part and then another
   pub then : {f g : Part} {at lo lo′ lo″ a : ℕ} {m : Mem} {n : Registers} {r : Step} {tb b tb′ b′ : List ℕ}
       → ReadsPart f text at lo m (Go a n) tb b → ReadsPart g text a lo′ (mem n tb b) r tb′ b′ → lo″ ≤ lo′ → ReadsPart (λ s. f (g s)) text at lo″ m r tb′ b′
-  unfolding onward
+  unfolding readOn
   then {g = g} {lo′ = lo′} {lo″ = lo″} {r = r} x y h = record { runs = λ s. x .runs (g s) ∙ y .runs s; within = lower (length text) lo″ lo′ r h (y .within) }
 
   -- the first part stopped
   pub stop : {f : Part} (g : Part) {at lo p : ℕ} (lo″ : ℕ) {m : Mem} {tb b tb′ b′ : List ℕ} → ReadsPart f text at lo m (No p) tb b → ReadsPart (λ s. f (g s)) text at lo″ m (No p) tb′ b′
-  unfolding onward
+  unfolding readOn
   stop g lo″ x = record { runs = λ s. x .runs (g s); within = tt }
 
   -- a part, then an act
   pub then-does : {f : Part} {at lo c : ℕ} {m : Mem} {n n′ : Registers} {tb b tb′ b′ : List ℕ} (a : Act) → ReadsPart f text at lo m (Go c n) tb b → mem n′ tb′ b′ ≡ acts text a (mem n tb b) → ReadsPart (λ s. f (doing a ∷ s)) text at lo m (Go c n′) tb′ b′
-  unfolding onward runFrom
+  unfolding readOn runFrom
   then-does {c = c} {n = n} {tb = tb} {b = b} a x e = record { runs = λ s. rw e (x .runs (doing a ∷ s) ∙ run-doing text a s (mem n tb b) (length text) (tokensFrom text c)); within = x .within }
 
   -- nothing
   pub idle : {at lo : ℕ} {m : Mem} {n : Registers} {tb b : List ℕ} → lo ≤ at → at ≤ length text → mem n tb b ≡ m → ReadsPart (λ s. s) text at lo m (Go at n) tb b
-  unfolding onward
+  unfolding readOn
   idle l h e = record { runs = λ s. rw e; within = omega arith }
 
   -- the answer as it was found
@@ -87,7 +87,7 @@ module _ {text : List ℕ} where
 
     -- no step, and no end
     pub fail : {f : Part} {lo : ℕ} {tb b : List ℕ} → ((s : List Sym) → step Mem (acts text) (f s) m (t .kind) (place t) ≡ stuck) → ((s : List Sym) → finish Mem (acts text) (length text) (f s) m ≡ refused (length text)) → ReadsPart f text at lo m (No (t .start)) tb b
-    unfolding run runFrom onward
+    unfolding run runFrom readOn
     fail {f} x y = record { runs = λ s. refuse s (eqb (tokenAt text at .kind) 0) refl; within = tt }
       where
         refuse : (s : List Sym) (q : Bool) → eqb (tokenAt text at .kind) 0 ≡ q → run Mem (acts text) (length text) (f s) m (tokensFrom text at) ≡ refused (t .start)

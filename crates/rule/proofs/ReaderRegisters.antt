@@ -24,7 +24,7 @@ use Rattle.rule.proofs.FrameLimits.{some-not-none, codes-append}
 use Rattle.rule.proofs.ReaderRefusals.{refused-by, read-as, telling, after-number, after-name, outcome, codes, bad-name, spot, first-name, first-number}
 use Rattle.rule.specs.Spelling.{room}
 use Rattle.rule.specs.Name.{longName}
-use Rattle.rule.specs.Memory.{Mem, fresh, table, enlist, first, blame, misnamed, remember, told, isDeclared, bad-number}
+use Rattle.rule.specs.Memory.{Mem, fresh, table, enlist, first, blame, misnamed, remember, memoryAnswer, isDeclared, bad-number}
 use Rattle.rule.proofs.GrammarMeasures.{note-frame, note-name, note-number, note-depth, frames-read, names-read, numbers-read, depth-read}
 
 abbrev pub Body : Act → Type 0
@@ -274,5 +274,5 @@ module _ (code value : Place → ℕ) where
       pair a b = (a, b)
 
   -- the registers say what the tree says: refusals 4 to 6, in their order, and the number of frames.
-  pub told-right : (b₀ : List ℕ) (x : Rule) → told (readRule Mem (remember code value) x (fresh b₀)) ≡ telling (outcome code value x)
+  pub told-right : (b₀ : List ℕ) (x : Rule) → memoryAnswer (readRule Mem (remember code value) x (fresh b₀)) ≡ telling (outcome code value x)
   told-right b₀ x = after-four x (first-name code value [] (names x)) _ _ _ _ (names-listed b₀ x .first-is) (number-read b₀ x) (deep-read b₀ x) (count-read b₀ x)

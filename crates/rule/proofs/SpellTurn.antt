@@ -5,13 +5,14 @@ use mathlib.Core.Bool.{Bool, true, false, cond}
 use mathlib.Core.List.{List, [], _∷_}
 use Prim.Native.Nat.{ℕ}
 use lib.Dec.{eqb}
-use Rattle.rule.specs.Token.{absKind}
+use Rattle.rule.specs.Token.{absKind, barsKind, eventsKind, ampersandsKind, notesKind, arrowKind}
 use Rattle.rule.specs.declared.Token.{Token}
 use Rattle.rule.specs.declared.parts.Place.{Place}
 use Rattle.rule.specs.declared.parts.Sign.{Sign}
 use Rattle.rule.specs.declared.parts.Sign.the-variants.{Plus, Minus}
 use Rattle.rule.specs.declared.parts.Scale.the-variants.{Once, Times}
 use Rattle.rule.specs.declared.parts.Shift.the-variants.{Unshifted, By}
+use Rattle.rule.specs.Class.{semicolon, star}
 use Rattle.rule.specs.Grammar.{bang, openBrace, openParen, Word, mark, name, number, Rel, equal, unequal, less, at-most, more, at-least, relMark, signMark, spellCond, spellDisj, spellConj, spellUnit, spellSum, spellProd, spellFactor, spellNames, yield, place, wordOf, words, index, Cond, a-disj, implies, Disj, a-conj, or, Conj, a-unit, and, CUnit, not, group, relation, Sum, a-prod, add, Prod, a-factor, multiply, Factor, literal, var, parens, absolute, reference, Rule, rule}
 
 -- ---- the turned tree
@@ -85,19 +86,19 @@ turned-sign Minus r = refl
 mutual
   turned-cond : (x : Cond) (r : List Word) → turned false (spellCond x r) ≡ spellCond (turnCond x) (turned false r)
   turned-cond (a-disj x) r = turned-disj x r
-  turned-cond (implies x y) r = turned-disj x _ ∙ ap (λ (l : List Word). spellDisj (turnDisj x) (mark 130 ∷ l)) (turned-cond y r)
+  turned-cond (implies x y) r = turned-disj x _ ∙ ap (λ (l : List Word). spellDisj (turnDisj x) (mark arrowKind ∷ l)) (turned-cond y r)
 
   turned-disj : (x : Disj) (r : List Word) → turned false (spellDisj x r) ≡ spellDisj (turnDisj x) (turned false r)
   turned-disj (a-conj x) r = turned-conj x r
-  turned-disj (or x y) r = turned-disj x _ ∙ ap (λ (l : List Word). spellDisj (turnDisj x) (mark 131 ∷ l)) (turned-conj y r)
+  turned-disj (or x y) r = turned-disj x _ ∙ ap (λ (l : List Word). spellDisj (turnDisj x) (mark barsKind ∷ l)) (turned-conj y r)
 
   turned-conj : (x : Conj) (r : List Word) → turned false (spellConj x r) ≡ spellConj (turnConj x) (turned false r)
   turned-conj (a-unit x) r = turned-unit x r
-  turned-conj (and x y) r = turned-conj x _ ∙ ap (λ (l : List Word). spellConj (turnConj x) (mark 132 ∷ l)) (turned-unit y r)
+  turned-conj (and x y) r = turned-conj x _ ∙ ap (λ (l : List Word). spellConj (turnConj x) (mark ampersandsKind ∷ l)) (turned-unit y r)
 
   turned-unit : (x : CUnit) (r : List Word) → turned false (spellUnit x r) ≡ spellUnit (turnUnit x) (turned false r)
-  turned-unit (not x) r = ap (λ (l : List Word). mark 33 ∷ l) (turned-unit x r)
-  turned-unit (group x) r = ap (λ (l : List Word). mark 33 ∷ mark 123 ∷ l) (turned-cond x _)
+  turned-unit (not x) r = ap (λ (l : List Word). mark bang ∷ l) (turned-unit x r)
+  turned-unit (group x) r = ap (λ (l : List Word). mark bang ∷ mark openBrace ∷ l) (turned-cond x _)
   turned-unit (relation x c y) r = turned-sum x _ ∙ ap (spellSum (turnSum x)) (turned-rel c (spellSum y r) ∙ ap (λ (l : List Word). mark (relMark c) ∷ l) (turned-sum y r))
 
   turned-sum : (x : Sum) (r : List Word) → turned false (spellSum x r) ≡ spellSum (turnSum x) (turned false r)
@@ -106,13 +107,13 @@ mutual
 
   turned-prod : (x : Prod) (r : List Word) → turned false (spellProd x r) ≡ spellProd (turnProd x) (turned false r)
   turned-prod (a-factor x) r = turned-factor x r
-  turned-prod (multiply x y) r = turned-prod x _ ∙ ap (λ (l : List Word). spellProd (turnProd x) (mark 42 ∷ l)) (turned-factor y r)
+  turned-prod (multiply x y) r = turned-prod x _ ∙ ap (λ (l : List Word). spellProd (turnProd x) (mark star ∷ l)) (turned-factor y r)
 
   turned-factor : (x : Factor) (r : List Word) → turned false (spellFactor x r) ≡ spellFactor (turnFactor x) (turned false r)
   turned-factor (literal p) r = refl
   turned-factor var r = refl
-  turned-factor (parens x) r = ap (λ (l : List Word). mark 6 ∷ mark 40 ∷ l) (turned-sum x _)
-  turned-factor (absolute x) r = ap (λ (l : List Word). mark 6 ∷ mark 40 ∷ l) (turned-sum x _)
+  turned-factor (parens x) r = ap (λ (l : List Word). mark absKind ∷ mark openParen ∷ l) (turned-sum x _)
+  turned-factor (absolute x) r = ap (λ (l : List Word). mark absKind ∷ mark openParen ∷ l) (turned-sum x _)
   turned-factor (reference n e (index Once Unshifted)) r = refl
   turned-factor (reference n e (index Once (By Plus p))) r = refl
   turned-factor (reference n e (index Once (By Minus p))) r = refl
@@ -120,14 +121,14 @@ mutual
   turned-factor (reference n e (index (Times f) (By Plus p))) r = refl
   turned-factor (reference n e (index (Times f) (By Minus p))) r = refl
 
-turned-names : (ps : List Place) (r : List Word) → turned true (spellNames ps (mark 59 ∷ r)) ≡ spellNames ps (mark 59 ∷ turned false r)
+turned-names : (ps : List Place) (r : List Word) → turned true (spellNames ps (mark semicolon ∷ r)) ≡ spellNames ps (mark semicolon ∷ turned false r)
 turned-names [] r = refl
 turned-names (p ∷ ps) r = ap (λ (l : List Word). name p ∷ l) (turned-names ps r)
 
 turned-rule : (x : Rule) → turned false (yield x) ≡ yield (turn x)
 turned-rule (rule e es n ns c) =
-    ap (λ (l : List Word). mark 3 ∷ name e ∷ l)
-    (turned-names es _ ∙ ap (λ (l : List Word). spellNames es (mark 59 ∷ mark 4 ∷ name n ∷ l)) (turned-names ns _ ∙ ap (λ (l : List Word). spellNames ns (mark 59 ∷ l)) (turned-cond c [])))
+    ap (λ (l : List Word). mark eventsKind ∷ name e ∷ l)
+    (turned-names es _ ∙ ap (λ (l : List Word). spellNames es (mark semicolon ∷ mark notesKind ∷ name n ∷ l)) (turned-names ns _ ∙ ap (λ (l : List Word). spellNames ns (mark semicolon ∷ l)) (turned-cond c [])))
 
 -- ---- the turned tokens
 abbrev pub putToken : ℕ → List Token → List Token

@@ -2,7 +2,7 @@
 use mathlib.Core.Path.{_≡_, refl}
 use mathlib.Core.List.{[], _∷_}
 use Rattle.rule.specs.Class.{classOf, span}
-use Rattle.rule.specs.Token.{same, wordKind, markOf, markWidth, tokenKind, widthOf, tokenHere, tokenAt, tokensIn, tokensFrom, tokens}
+use Rattle.rule.specs.Token.{same, wordKind, longestMark, markWidth, tokenKind, widthOf, tokenHere, tokenAt, tokensIn, tokensFrom, tokens}
 use Rattle.rule.specs.Name.{code, longName, nameCode}
 use Rattle.rule.specs.Number.{most, numberValue}
 use Rattle.rule.specs.Spelling.{decimalFrom, decimal}
@@ -10,32 +10,32 @@ use Rattle.rule.proofs.TokenNext.{tok}
 
 -- a rule's condition: a reference, a mark of two bytes, a number
 rule-tokens : tokens (116 ∷ 40 ∷ 111 ∷ 117 ∷ 116 ∷ 91 ∷ 105 ∷ 93 ∷ 41 ∷ 32 ∷ 60 ∷ 61 ∷ 32 ∷ 50 ∷ 53 ∷ []) ≡ tok 1 0 1 ∷ tok 40 1 2 ∷ tok 1 2 5 ∷ tok 91 5 6 ∷ tok 5 6 7 ∷ tok 93 7 8 ∷ tok 41 8 9 ∷ tok 134 10 12 ∷ tok 2 13 15 ∷ []
-unfolding classOf span same wordKind markOf markWidth tokenKind widthOf tokenHere tokenAt tokensIn tokensFrom
+unfolding classOf span same wordKind longestMark markWidth tokenKind widthOf tokenHere tokenAt tokensIn tokensFrom
 rule-tokens = refl
 
 -- the reserved words, and a name that begins with one
 reserved-tokens : tokens (101 ∷ 118 ∷ 101 ∷ 110 ∷ 116 ∷ 115 ∷ 32 ∷ 110 ∷ 111 ∷ 116 ∷ 101 ∷ 115 ∷ 32 ∷ 105 ∷ 32 ∷ 97 ∷ 98 ∷ 115 ∷ 32 ∷ 105 ∷ 105 ∷ []) ≡ tok 3 0 6 ∷ tok 4 7 12 ∷ tok 5 13 14 ∷ tok 6 15 18 ∷ tok 1 19 21 ∷ []
-unfolding classOf span same wordKind markOf markWidth tokenKind widthOf tokenHere tokenAt tokensIn tokensFrom
+unfolding classOf span same wordKind longestMark markWidth tokenKind widthOf tokenHere tokenAt tokensIn tokensFrom
 reserved-tokens = refl
 
 -- the longest match: ->, then > alone; <=, then =
 marks-longest : tokens (45 ∷ 62 ∷ 62 ∷ 60 ∷ 61 ∷ 61 ∷ 33 ∷ 61 ∷ 61 ∷ 62 ∷ 61 ∷ []) ≡ tok 130 0 2 ∷ tok 62 2 3 ∷ tok 134 3 5 ∷ tok 61 5 6 ∷ tok 133 6 8 ∷ tok 61 8 9 ∷ tok 135 9 11 ∷ []
-unfolding classOf span same wordKind markOf markWidth tokenKind widthOf tokenHere tokenAt tokensIn tokensFrom
+unfolding classOf span same wordKind longestMark markWidth tokenKind widthOf tokenHere tokenAt tokensIn tokensFrom
 marks-longest = refl
 
 -- a mark byte alone and a foreign byte are tokens that no rule has
 marks-of-one : tokens (124 ∷ 97 ∷ 38 ∷ 124 ∷ 124 ∷ 32 ∷ 65 ∷ []) ≡ tok 255 0 1 ∷ tok 1 1 2 ∷ tok 255 2 3 ∷ tok 131 3 5 ∷ tok 255 6 7 ∷ []
-unfolding classOf span same wordKind markOf markWidth tokenKind widthOf tokenHere tokenAt tokensIn tokensFrom
+unfolding classOf span same wordKind longestMark markWidth tokenKind widthOf tokenHere tokenAt tokensIn tokensFrom
 marks-of-one = refl
 
 -- blanks only
 blank-text : tokens (32 ∷ 10 ∷ 32 ∷ []) ≡ []
-unfolding classOf span same wordKind markOf markWidth tokenKind widthOf tokenHere tokenAt tokensIn tokensFrom
+unfolding classOf span same wordKind longestMark markWidth tokenKind widthOf tokenHere tokenAt tokensIn tokensFrom
 blank-text = refl
 
 -- nothing
 empty-text : tokens ([]) ≡ []
-unfolding classOf span same wordKind markOf markWidth tokenKind widthOf tokenHere tokenAt tokensIn tokensFrom
+unfolding classOf span same wordKind longestMark markWidth tokenKind widthOf tokenHere tokenAt tokensIn tokensFrom
 empty-text = refl
 
 -- a name of 12 letters has its own number, and one of 13 letters that of the long ones

@@ -10,7 +10,7 @@ use lib.Dec.{eqb}
 use lib.ListN.{length, take, drop, getD, length-drop}
 use lib.Seq.{getD-drop}
 use Rattle.rule.specs.Class.{letter, digit, blank, mark, classOf, span}
-use Rattle.rule.specs.Token.{endKind, nameKind, eventsKind, notesKind, indexKind, absKind, eventsWord, notesWord, indexWord, absWord, same, wordKind, markOf, markWidth, tokenKind, widthOf, past, tokenHere, tokenAt, tokensIn, tokensFrom, IsWord, Rising}
+use Rattle.rule.specs.Token.{endKind, nameKind, eventsKind, notesKind, indexKind, absKind, eventsWord, notesWord, indexWord, absWord, same, wordKind, longestMark, markWidth, tokenKind, widthOf, past, tokenHere, tokenAt, tokensIn, tokensFrom, IsWord, Rising}
 use Rattle.rule.specs.declared.Token.{Token}
 use Rattle.rule.proofs.TokenSpans.{span-le, span-class}
 use Rattle.rule.proofs.TokenMarks.{mark-high, width-some, width-alone}
@@ -31,7 +31,7 @@ kind-some : (b : ℕ) (bs : List ℕ) → tokenKind b bs ≡ endKind → ⊥
 unfolding tokenKind
 kind-some b bs = go (eqb (classOf b) letter) (eqb (classOf b) digit) (eqb (classOf b) mark)
   where
-    go : (t u v : Bool) → cond t (wordKind (b ∷ take (span letter bs) bs)) (cond u 2 (cond v (markOf b (getD bs 0 0)) 255)) ≡ 0 → ⊥
+    go : (t u v : Bool) → cond t (wordKind (b ∷ take (span letter bs) bs)) (cond u 2 (cond v (longestMark b (getD bs 0 0)) 255)) ≡ 0 → ⊥
     go true u v q = omega (arith, word-is (b ∷ take (span letter bs) bs) .0)
     go false true v q = omega arith
     go false false true q = omega (arith, mark-high b (getD bs 0 0))
@@ -42,15 +42,15 @@ width-le : (b : ℕ) (bs : List ℕ) → (1 ≤ widthOf b bs) × (widthOf b bs �
 unfolding widthOf
 width-le b bs = go (eqb (classOf b) letter) (eqb (classOf b) digit) (eqb (classOf b) mark)
   where
-    within : (l : List ℕ) → markWidth (markOf b (getD l 0 0)) ≤ suc (length l)
+    within : (l : List ℕ) → markWidth (longestMark b (getD l 0 0)) ≤ suc (length l)
     within [] = omega (arith, width-alone b)
-    within (x ∷ l) = omega (arith, width-some (markOf b x))
+    within (x ∷ l) = omega (arith, width-some (longestMark b x))
 
-    go : (t u v : Bool) → (1 ≤ cond t (1 + span letter bs) (cond u (1 + span digit bs) (cond v (markWidth (markOf b (getD bs 0 0))) 1)))
-        × (cond t (1 + span letter bs) (cond u (1 + span digit bs) (cond v (markWidth (markOf b (getD bs 0 0))) 1)) ≤ suc (length bs))
+    go : (t u v : Bool) → (1 ≤ cond t (1 + span letter bs) (cond u (1 + span digit bs) (cond v (markWidth (longestMark b (getD bs 0 0))) 1)))
+        × (cond t (1 + span letter bs) (cond u (1 + span digit bs) (cond v (markWidth (longestMark b (getD bs 0 0))) 1)) ≤ suc (length bs))
     go true u v = (omega arith, omega (arith, span-le letter bs))
     go false true v = (omega arith, omega (arith, span-le digit bs))
-    go false false true = (width-some (markOf b (getD bs 0 0)) .0, within bs)
+    go false false true = (width-some (longestMark b (getD bs 0 0)) .0, within bs)
     go false false false = (omega arith, omega arith)
 
 -- ---- what stands at s

@@ -1,4 +1,4 @@
--- Laws of `markOf`: a byte of class mark in no mark of two bytes is a mark of one byte, or no rule has it. Assumes nothing.
+-- Laws of `longestMark`: a byte of class mark in no mark of two bytes is a mark of one byte, or no rule has it. Assumes nothing.
 use mathlib.Core.Path.{_≡_, refl, sym, subst, _∙_}
 use mathlib.Core.Bool.{Bool, true, false, _||_, _&&_, not, cond}
 use mathlib.Core.List.{List, [], _∷_}
@@ -9,7 +9,7 @@ use lib.Dec.{T, leb, ltb, eqb, ltb→lt}
 use Rattle.numbers.proofs.Bools.{and-l, and-r}
 use Rattle.numbers.proofs.Ranges.{tested}
 use Rattle.rule.specs.Class.{mark, among, oneByteMarks, classOf}
-use Rattle.rule.specs.Token.{arrowKind, barsKind, ampersandsKind, unequalKind, atMostKind, atLeastKind, foreignKind, oneByteMark, twoByteMark, markOf, markWidth}
+use Rattle.rule.specs.Token.{arrowKind, barsKind, ampersandsKind, unequalKind, atMostKind, atLeastKind, foreignKind, oneByteMark, twoByteMark, longestMark, markWidth}
 
 abbrev agree : Bool → Bool → Bool
 agree true y = y
@@ -39,15 +39,15 @@ one-byte b h p q = agree-eq (among oneByteMarks b) (eqb (classOf b) mark) (other
 
 module _ (b n : ℕ) (byte : b < 256) (k : ℕ) (is : k ≡ classOf b)
     (n45 : b ≡ 45 → ⊥) (n124 : b ≡ 124 → ⊥) (n38 : b ≡ 38 → ⊥) (n33 : b ≡ 33 → ⊥) (n60 : b ≡ 60 → ⊥) (n62 : b ≡ 62 → ⊥) where
-  alone : markOf b n ≡ oneByteMark b
-  unfolding markOf
+  alone : longestMark b n ≡ oneByteMark b
+  unfolding longestMark
   alone = simp (ne-eqb b 45 n45, ne-eqb b 124 n124, ne-eqb b 38 n38, ne-eqb b 33 n33, ne-eqb b 60 n60, ne-eqb b 62 n62)
 
   -- a byte that begins no mark of two
-  pub mark-alone : k ≡ mark → b ≡ markOf b n
+  pub mark-alone : k ≡ mark → b ≡ longestMark b n
   mark-alone e = rw (alone, one-byte b byte n124 n38, eq-eqb (classOf b) mark (sym is ∙ e))
 
-  pub mark-none : (k ≡ mark → ⊥) → foreignKind ≡ markOf b n
+  pub mark-none : (k ≡ mark → ⊥) → foreignKind ≡ longestMark b n
   mark-none ne = rw (alone, one-byte b byte n124 n38, ne-eqb (classOf b) mark (λ e. ne (is ∙ e)))
 
 -- a mark has one byte or two
@@ -86,8 +86,8 @@ and-false : (t : Bool) → (t && false) ≡ false
 and-false true = refl
 and-false false = refl
 
-pub width-alone : (b : ℕ) → markWidth (markOf b 0) ≡ 1
-unfolding markOf markWidth
+pub width-alone : (b : ℕ) → markWidth (longestMark b 0) ≡ 1
+unfolding longestMark markWidth
 width-alone b = simp and-false (go (among oneByteMarks b) refl)
   where
     go : (t : Bool) → among oneByteMarks b ≡ t → _≡_ {A = ℕ} (cond (leb 130 (cond t b 255) && leb (cond t b 255) 135) 2 1) 1
@@ -110,8 +110,8 @@ two-high b n ne = go (eqb b 45 && eqb n 62) (eqb b 124 && eqb n 124) (eqb b 38 &
     go false false false false false false ne = absurd (ne refl)
 
 -- a mark's kind is neither that of the end nor a word's or a number's
-pub mark-high : (b n : ℕ) → 6 < markOf b n
-unfolding markOf
+pub mark-high : (b n : ℕ) → 6 < longestMark b n
+unfolding longestMark
 mark-high b n = go (eqb (twoByteMark b n) 0) refl (among oneByteMarks b) refl
   where
     go : (t : Bool) → eqb (twoByteMark b n) 0 ≡ t → (u : Bool) → among oneByteMarks b ≡ u → 6 < cond t (cond u b 255) (twoByteMark b n)

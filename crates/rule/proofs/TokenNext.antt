@@ -9,7 +9,7 @@ use borrow.Author.Tests.{eq-eqb, ne-eqb}
 use lib.ListN.{length, take, drop, getD, drop-of-length-le}
 use lib.Seq.{drop-cons, getD-drop}
 use Rattle.rule.specs.Class.{letter, digit, mark, classOf, span}
-use Rattle.rule.specs.Token.{endKind, numberKind, foreignKind, wordKind, markOf, markWidth, tokenKind, widthOf, past, tokenHere, tokenAt}
+use Rattle.rule.specs.Token.{endKind, numberKind, foreignKind, wordKind, longestMark, markWidth, tokenKind, widthOf, past, tokenHere, tokenAt}
 use Rattle.rule.specs.declared.Token.{Token}
 
 abbrev pub tok : ℕ → ℕ → ℕ → Token
@@ -44,7 +44,7 @@ module _ (text : List ℕ) (at s : ℕ) (here : s ≡ past text at) where
           let q : e ≡ s + (1 + span digit (drop (s + 1) text)) = omega arith in
           rw (q, ← some, ne-eqb (classOf b) letter (λ p. n1 (cls ∙ p)), eq-eqb (classOf b) digit (sym cls ∙ two))
 
-      pub mark-here : (m n e : ℕ) → (k ≡ letter → ⊥) → (k ≡ digit → ⊥) → k ≡ mark → n ≡ getD text (s + 1) 0 → m ≡ markOf b n → e ≡ markWidth m → tok m s (s + e) ≡ tokenAt text at
+      pub mark-here : (m n e : ℕ) → (k ≡ letter → ⊥) → (k ≡ digit → ⊥) → k ≡ mark → n ≡ getD text (s + 1) 0 → m ≡ longestMark b n → e ≡ markWidth m → tok m s (s + e) ≡ tokenAt text at
       unfolding tokenKind widthOf
       mark-here m n e n1 n2 four at-n at-m at-e =
           rw (at-e, at-m, at-n, ← some, ne-eqb (classOf b) letter (λ p. n1 (cls ∙ p)), ne-eqb (classOf b) digit (λ p. n2 (cls ∙ p)), eq-eqb (classOf b) mark (sym cls ∙ four), getD-drop, add-zero)

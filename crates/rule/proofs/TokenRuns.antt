@@ -11,7 +11,7 @@ use lib.ListN.{length, take, drop, getD, length-drop}
 use lib.Seq.{getD-drop}
 use Rattle.numbers.specs.Range.{between}
 use Rattle.rule.specs.Class.{letter, digit, blank, mark, foreign, isMarkByte, classOf, span, OfClass, Letters}
-use Rattle.rule.specs.Token.{numberKind, wordKind, markOf, tokenKind, widthOf, past, tokenHere, tokenAt, spelling, IsWord}
+use Rattle.rule.specs.Token.{numberKind, wordKind, longestMark, tokenKind, widthOf, past, tokenHere, tokenAt, spelling, IsWord}
 use Rattle.rule.proofs.TokenSpans.{span-stops}
 use Rattle.rule.proofs.TokenMarks.{mark-high}
 use Rattle.rule.proofs.TokenLists.{word-is, here}
@@ -29,7 +29,7 @@ word-class : (b : ℕ) (bs : List ℕ) → IsWord (tokenKind b bs) → classOf b
 unfolding tokenKind
 word-class b bs = go (eqb (classOf b) letter) refl (eqb (classOf b) digit) (eqb (classOf b) mark)
   where
-    go : (t : Bool) → eqb (classOf b) letter ≡ t → (u v : Bool) → IsWord (cond t (wordKind (b ∷ take (span letter bs) bs)) (cond u numberKind (cond v (markOf b (getD bs 0 0)) 255))) → classOf b ≡ letter
+    go : (t : Bool) → eqb (classOf b) letter ≡ t → (u v : Bool) → IsWord (cond t (wordKind (b ∷ take (span letter bs) bs)) (cond u numberKind (cond v (longestMark b (getD bs 0 0)) 255))) → classOf b ≡ letter
     go true e u v w = eqb-true _ _ e
     go false e true v w = absurd (w .2 refl)
     go false e false true w = absurd (omega (arith, mark-high b (getD bs 0 0), w .1))
@@ -39,7 +39,7 @@ number-class : (b : ℕ) (bs : List ℕ) → tokenKind b bs ≡ numberKind → c
 unfolding tokenKind
 number-class b bs = go (eqb (classOf b) letter) (eqb (classOf b) digit) refl (eqb (classOf b) mark)
   where
-    go : (t u : Bool) → eqb (classOf b) digit ≡ u → (v : Bool) → cond t (wordKind (b ∷ take (span letter bs) bs)) (cond u numberKind (cond v (markOf b (getD bs 0 0)) 255)) ≡ numberKind → classOf b ≡ digit
+    go : (t u : Bool) → eqb (classOf b) digit ≡ u → (v : Bool) → cond t (wordKind (b ∷ take (span letter bs) bs)) (cond u numberKind (cond v (longestMark b (getD bs 0 0)) 255)) ≡ numberKind → classOf b ≡ digit
     go true u e v q = absurd (word-is (b ∷ take (span letter bs) bs) .2 q)
     go false true e v q = eqb-true _ _ e
     go false false e true q = absurd (omega (arith, mark-high b (getD bs 0 0)))

@@ -60,18 +60,18 @@ same-eq (x ∷ xs) (y ∷ ys) e = go (eqb x y) refl (λ q. same-eq xs ys q) e
 abbrev kind : Bool → Bool → Bool → Bool → ℕ
 kind a b c d = cond a eventsKind (cond b notesKind (cond c indexKind (cond d absKind nameKind)))
 
-told : (a b c d : Bool) → (kind a b c d ≡ eventsKind → a ≡ true) × (kind a b c d ≡ notesKind → b ≡ true) × (kind a b c d ≡ indexKind → c ≡ true) × (kind a b c d ≡ absKind → d ≡ true)
-told true b c d = (λ e. refl, λ e. absurd (omega arith), λ e. absurd (omega arith), λ e. absurd (omega arith))
-told false true c d = (λ e. absurd (omega arith), λ e. refl, λ e. absurd (omega arith), λ e. absurd (omega arith))
-told false false true d = (λ e. absurd (omega arith), λ e. absurd (omega arith), λ e. refl, λ e. absurd (omega arith))
-told false false false true = (λ e. absurd (omega arith), λ e. absurd (omega arith), λ e. absurd (omega arith), λ e. refl)
-told false false false false = (λ e. absurd (omega arith), λ e. absurd (omega arith), λ e. absurd (omega arith), λ e. absurd (omega arith))
+kind-tells : (a b c d : Bool) → (kind a b c d ≡ eventsKind → a ≡ true) × (kind a b c d ≡ notesKind → b ≡ true) × (kind a b c d ≡ indexKind → c ≡ true) × (kind a b c d ≡ absKind → d ≡ true)
+kind-tells true b c d = (λ e. refl, λ e. absurd (omega arith), λ e. absurd (omega arith), λ e. absurd (omega arith))
+kind-tells false true c d = (λ e. absurd (omega arith), λ e. refl, λ e. absurd (omega arith), λ e. absurd (omega arith))
+kind-tells false false true d = (λ e. absurd (omega arith), λ e. absurd (omega arith), λ e. refl, λ e. absurd (omega arith))
+kind-tells false false false true = (λ e. absurd (omega arith), λ e. absurd (omega arith), λ e. absurd (omega arith), λ e. refl)
+kind-tells false false false false = (λ e. absurd (omega arith), λ e. absurd (omega arith), λ e. absurd (omega arith), λ e. absurd (omega arith))
 
 -- each has its own kind, and no other word has it
 pub reserved : (w : List ℕ) → ((wordKind w ≡ eventsKind) ↔ (w ≡ eventsWord)) × ((wordKind w ≡ notesKind) ↔ (w ≡ notesWord)) × ((wordKind w ≡ indexKind) ↔ (w ≡ indexWord)) × ((wordKind w ≡ absKind) ↔ (w ≡ absWord))
 unfolding wordKind same
 reserved w =
-    let t = told (same w eventsWord) (same w notesWord) (same w indexWord) (same w absWord) in (
+    let t = kind-tells (same w eventsWord) (same w notesWord) (same w indexWord) (same w absWord) in (
       (λ e. same-eq w eventsWord (t .0 e), λ e. rw e),
       (λ e. same-eq w notesWord (t .1 e), λ e. rw e),
       (λ e. same-eq w indexWord (t .2 e), λ e. rw e),

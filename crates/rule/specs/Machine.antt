@@ -71,12 +71,12 @@ pub data Next (M : Type 0) : Type 0 where
   on : List Sym → M → Next M
 
 -- the memory after a text of the grammar, or the place of refusal 3
-pub data Answer (M : Type 0) : Type 0 where
-  accepted : M → Answer M
-  refused : ℕ → Answer M
+pub data MachineAnswer (M : Type 0) : Type 0 where
+  accepted : M → MachineAnswer M
+  refused : ℕ → MachineAnswer M
 
 -- on after a token at p
-abbrev pub resume : {M : Type 0} → Next M → ℕ → (List Sym → M → Answer M) → Answer M
+abbrev pub resume : {M : Type 0} → Next M → ℕ → (List Sym → M → MachineAnswer M) → MachineAnswer M
 resume stuck p k = refused p
 resume (on s m) p k = k s m
 
@@ -126,7 +126,7 @@ module _ (M : Type 0) (act : Act → M → M) where
   step (doing a ∷ s) m k p = step s (act a m) k p
 
   -- the text ends, at n
-  unfoldable pub finish : ℕ → List Sym → M → Answer M
+  unfoldable pub finish : ℕ → List Sym → M → MachineAnswer M
   finish n [] m = accepted m
   finish n (unit d ∷ s) m = refused n
   finish n (ands d ∷ s) m = finish n s m
@@ -146,6 +146,6 @@ module _ (M : Type 0) (act : Act → M → M) where
   finish n (doing a ∷ s) m = finish n s (act a m)
 
   -- the answer to the tokens, from a stack; the text has n bytes
-  unfoldable pub run : ℕ → List Sym → M → List Token → Answer M
+  unfoldable pub run : ℕ → List Sym → M → List Token → MachineAnswer M
   run n s m [] = finish n s m
   run n s m (t ∷ ts) = resume (step s m (t .kind) (place t)) (t .start) (λ s′ m′. run n s′ m′ ts)

@@ -115,8 +115,8 @@ put b k f =
     b
 
 -- a frame is counted, up to 65, and put
-abbrev pub written : Fields → Mem → Mem
-written f m =
+abbrev pub withFrame : Fields → Mem → Mem
+withFrame f m =
     record {
       count = cond (ltb (m .count) frameLimit) (m .count + 1) (suc frameLimit);
       deep = m .deep;
@@ -186,11 +186,11 @@ module _ (code value : Place → ℕ) where
         notes = m .notes;
         bytes = m .bytes;
       }
-  remember (out f) m = written (fields (m .events) (m .notes) f) m
+  remember (out f) m = withFrame (fields (m .events) (m .notes) f) m
 
 -- the answer that the registers give, as two numbers: refusals 4 to 6 with the place, or 0 and the number of frames
-abbrev pub told : Mem → ℕ × ℕ
-told m =
+abbrev pub memoryAnswer : Mem → ℕ × ℕ
+memoryAnswer m =
     cond (eqb (m .name) 0)
     (cond (eqb (m .number) 0)
     (cond (m .deep) (6, 0) (cond (ltb frameLimit (m .count)) (6, 0) (0, m .count)))

@@ -39,19 +39,19 @@ pub data Prefix : Type 0 where
   stuck : ℕ → Prefix
 
 -- what the frame at i leaves
-abbrev pub placed : ℕ → Shape → Prefix
-placed i (Good c k) = viable c k
-placed i Bad = stuck i
+abbrev pub orderAt : ℕ → Shape → Prefix
+orderAt i (Good c k) = viable c k
+orderAt i Bad = stuck i
 
 -- one frame more; once no rule begins, none does
-abbrev pub next : ℕ → Frame → Prefix → Prefix
-next i x (viable c k) = placed i (frameStep x c k)
-next i x (stuck p) = stuck p
+abbrev pub orderNext : ℕ → Frame → Prefix → Prefix
+orderNext i x (viable c k) = orderAt i (frameStep x c k)
+orderNext i x (stuck p) = stuck p
 
 -- after the first i frames
 abbrev pub prefixAt : List ℕ → ℕ → Prefix
 prefixAt s zero = viable 0 0
-prefixAt s (suc i) = next i (frameAt s i) (prefixAt s i)
+prefixAt s (suc i) = orderNext i (frameAt s i) (prefixAt s i)
 
 -- a rule with so many references, or the place: "their count if only the end is wrong"
 abbrev pub ended : ℕ → ℕ → Prefix → Ordered

@@ -8,9 +8,9 @@ use lib.ListN.{length, take, replicate}
 use Rattle.rule.specs.Limits.{frameBytes, bufferBytes}
 use Rattle.rule.specs.ReadLimits.{textLimit}
 use Rattle.rule.specs.Token.{tokens}
-use Rattle.rule.specs.Machine.{start, Answer, accepted, refused, run}
+use Rattle.rule.specs.Machine.{start, MachineAnswer, accepted, refused, run}
 use Rattle.rule.specs.Answers.{refusedAs}
-use Rattle.rule.specs.Memory.{Mem, fresh, told, acts, mem}
+use Rattle.rule.specs.Memory.{Mem, fresh, memoryAnswer, acts, mem}
 use Rattle.rule.specs.Check.{checkedOf}
 use Rattle.rule.specs.declared.Checked.{Checked}
 use Rattle.rule.specs.declared.Checked.the-variants.{Accepted, Refused}
@@ -21,7 +21,7 @@ use Rattle.rule.specs.declared.memory.Step.{Step}
 use Rattle.rule.specs.declared.memory.Step.the-variants.{Go, No}
 
 -- the machine's answer to the whole text, with all bytes zero at first
-unfoldable pub judged : List ℕ → Answer Mem
+unfoldable pub judged : List ℕ → MachineAnswer Mem
 judged text = run Mem (acts text) (length text) start (fresh (replicate bufferBytes 0)) (tokens text)
 
 -- 7 and 8, which opening checks too: of the frames that were put
@@ -32,11 +32,11 @@ afterCheck b m (Refused r) = (reading.Refused r, b)
 -- 4 to 6, then 7 and 8; a refusal "changes nothing", else the buffer holds the frames, and zero after the last
 abbrev pub concluded : List ℕ → Mem → Reading × List ℕ
 concluded b m =
-    cond (eqb (told m .0) 0) (afterCheck b m (checkedOf (take (m .count * frameBytes) (m .bytes))))
-    (refusedAs (told m .0) (told m .1), b)
+    cond (eqb (memoryAnswer m .0) 0) (afterCheck b m (checkedOf (take (m .count * frameBytes) (m .bytes))))
+    (refusedAs (memoryAnswer m .0) (memoryAnswer m .1), b)
 
 -- 3, then the rest
-abbrev pub afterGrammar : List ℕ → Answer Mem → Reading × List ℕ
+abbrev pub afterGrammar : List ℕ → MachineAnswer Mem → Reading × List ℕ
 afterGrammar b (refused p) = (refusedAs 3 p, b)
 afterGrammar b (accepted m) = concluded b m
 
@@ -55,6 +55,6 @@ abbrev pub unread : Registers
 unread = record { count = 0; deep = false; number = 0; name = 0; events = 0; notes = 0 }
 
 -- what the reader of a whole text answered, with the names tb and the buffer b
-abbrev pub answerOf : Step → List ℕ → List ℕ → Answer Mem
-answerOf (Go a t) tb b = accepted (mem t tb b)
-answerOf (No p) tb b = refused p
+abbrev pub readerAnswer : Step → List ℕ → List ℕ → MachineAnswer Mem
+readerAnswer (Go a t) tb b = accepted (mem t tb b)
+readerAnswer (No p) tb b = refused p

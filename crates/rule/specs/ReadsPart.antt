@@ -7,7 +7,7 @@ use Rattle.rule.specs.Frames.{Kind, kindByte}
 use Rattle.rule.specs.Token.{tokensFrom}
 use Rattle.rule.specs.Grammar.{relMark, rels, signMark, signs, byMark}
 use Rattle.rule.specs.Draft.{relationOf, signOf}
-use Rattle.rule.specs.Machine.{Sym, Answer, refused, run}
+use Rattle.rule.specs.Machine.{Sym, MachineAnswer, refused, run}
 use Rattle.rule.specs.Memory.{Mem, acts, mem}
 use Rattle.rule.specs.declared.parts.Place.{Place}
 use Rattle.rule.specs.declared.parts.Scale.{Scale}
@@ -18,13 +18,13 @@ use Rattle.rule.specs.declared.memory.Step.{Step}
 use Rattle.rule.specs.declared.memory.Step.the-variants.{Go, No}
 
 -- the machine's answer from the stack s, at the place `at` of the text
-unfoldable pub runFrom : List ℕ → List Sym → Mem → ℕ → Answer Mem
+unfoldable pub runFrom : List ℕ → List Sym → Mem → ℕ → MachineAnswer Mem
 runFrom text s m at = run Mem (acts text) (length text) s m (tokensFrom text at)
 
 -- the machine's answer from the stack s, after a reader that answered r and left the names tb and the buffer b
-unfoldable pub onward : List ℕ → List Sym → Step → List ℕ → List ℕ → Answer Mem
-onward text s (Go a t) tb b = runFrom text s (mem t tb b) a
-onward text s (No p) tb b = refused p
+unfoldable pub readOn : List ℕ → List Sym → Step → List ℕ → List ℕ → MachineAnswer Mem
+readOn text s (Go a t) tb b = runFrom text s (mem t tb b) a
+readOn text s (No p) tb b = refused p
 
 -- a reader that goes on does so from lo at least, within n
 abbrev pub StaysWithin : ℕ → ℕ → Step → Type 0
@@ -33,7 +33,7 @@ StaysWithin lo n (No p) = Unit
 
 -- from `at`, with the memory m, a reader of the part `top` answered r and left tb and b
 pub record ReadsPart (top : List Sym → List Sym) (text : List ℕ) (at lo : ℕ) (m : Mem) (r : Step) (tb b : List ℕ) : Type 0 where
-  pub runs : (s : List Sym) → runFrom text (top s) m at ≡ onward text s r tb b
+  pub runs : (s : List Sym) → runFrom text (top s) m at ≡ readOn text s r tb b
   pub within : StaysWithin lo (length text) r
 
 -- a place of a token: it has a byte at least, and lies within the text

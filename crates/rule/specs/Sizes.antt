@@ -32,18 +32,18 @@ abbrev pub operandSize : Source → ℤ → ℕ
 operandSize s v = magnitude (leaf s (frame 0 0 0 0 v))
 
 -- a frame of a kind more; a relation takes the two sums that are there
-abbrev pub sized : Kind → ℤ → List ℕ → Sizes
-sized (operand s) v ms = pushed (operandSize s v) ms
-sized (arithmetic o) v ms = topped (grown o) ms
-sized absolute v ms = fits ms
-sized (relation r) v ms = fits []
-sized negation v ms = fits ms
-sized (connective j) v ms = fits ms
-sized none v ms = fits ms
+abbrev pub sizesAfter : Kind → ℤ → List ℕ → Sizes
+sizesAfter (operand s) v ms = pushed (operandSize s v) ms
+sizesAfter (arithmetic o) v ms = topped (grown o) ms
+sizesAfter absolute v ms = fits ms
+sizesAfter (relation r) v ms = fits []
+sizesAfter negation v ms = fits ms
+sizesAfter (connective j) v ms = fits ms
+sizesAfter none v ms = fits ms
 
 -- a frame more; once over, always over
 abbrev pub sizeNext : Frame → Sizes → Sizes
-sizeNext x (fits ms) = sized (kindOf (x .kind)) (x .value) ms
+sizeNext x (fits ms) = sizesAfter (kindOf (x .kind)) (x .value) ms
 sizeNext x over = over
 
 -- after the first i frames

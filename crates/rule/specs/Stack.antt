@@ -42,8 +42,8 @@ CondsFor relates c = Unit {0}
 CondsFor noRule c = Unit {0}
 
 -- by its kind
-abbrev pub Ready : Kind → ℕ → Type 0
-Ready o = SumsFor (effect o)
+abbrev pub EnoughSums : Kind → ℕ → Type 0
+EnoughSums o = SumsFor (effect o)
 
 -- and of conditions
 abbrev pub ReadyC : Kind → ℕ → Type 0

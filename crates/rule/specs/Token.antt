@@ -105,8 +105,8 @@ abbrev pub oneByteMark : ℕ → ℕ
 oneByteMark b = cond (among oneByteMarks b) b foreignKind
 
 -- "marks take the longest match": the mark that begins with the byte b, with n after it
-unfoldable pub markOf : ℕ → ℕ → ℕ
-markOf b n = cond (eqb (twoByteMark b n) 0) (oneByteMark b) (twoByteMark b n)
+unfoldable pub longestMark : ℕ → ℕ → ℕ
+longestMark b n = cond (eqb (twoByteMark b n) 0) (oneByteMark b) (twoByteMark b n)
 
 -- the bytes of a mark of that kind
 unfoldable pub markWidth : ℕ → ℕ
@@ -118,14 +118,14 @@ unfoldable pub tokenKind : ℕ → List ℕ → ℕ
 tokenKind b bs =
     cond (eqb (classOf b) letter) (wordKind (b ∷ take (span letter bs) bs))
     (cond (eqb (classOf b) digit) numberKind
-    (cond (eqb (classOf b) mark) (markOf b (getD bs 0 0)) foreignKind))
+    (cond (eqb (classOf b) mark) (longestMark b (getD bs 0 0)) foreignKind))
 
 -- and how many bytes it has
 unfoldable pub widthOf : ℕ → List ℕ → ℕ
 widthOf b bs =
     cond (eqb (classOf b) letter) (1 + span letter bs)
     (cond (eqb (classOf b) digit) (1 + span digit bs)
-    (cond (eqb (classOf b) mark) (markWidth (markOf b (getD bs 0 0))) 1))
+    (cond (eqb (classOf b) mark) (markWidth (longestMark b (getD bs 0 0))) 1))
 
 -- what stands at the place s, where the list is what is left of the text: the end or a token
 unfoldable pub tokenHere : ℕ → List ℕ → Token

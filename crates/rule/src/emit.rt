@@ -19,12 +19,12 @@ ghost use Prim.Native.Nat.{ℕ};
 ghost use lib.ListN.{length};
 ghost use Rattle.rule.specs.Draft.{lit, index-var, ref, plain};
 ghost use Rattle.rule.specs.Machine.{out, sized};
-ghost use Rattle.rule.specs.Memory.{codeAt, valueAt, factorOf, offsetOf, negated, written, acts, mem};
+ghost use Rattle.rule.specs.Memory.{codeAt, valueAt, factorOf, offsetOf, negated, withFrame, acts, mem};
 ghost use Rattle.rule.specs.ReadsPart.{Inside, InsideScale, InsideShift};
 
 // Puts a frame at its place, if there is room, and counts it.
 fn emit(buf: &mut [u8; 512], m: Registers, f: Fields) -> Registers
-    ensures { λ r. ⌜ ((tb : List ℕ) → mem r tb (now (buf .exit)) ≡ written f (mem m tb (now (buf .entry)))) ⌝ }
+    ensures { λ r. ⌜ ((tb : List ℕ) → mem r tb (now (buf .exit)) ≡ withFrame f (mem m tb (now (buf .entry)))) ⌝ }
 {
     let n = m.count;
     if n < limits::FRAME_LIMIT {

@@ -23,7 +23,7 @@ ghost use Rattle.rule.specs.Told.{readTold};
 ghost use Rattle.rule.specs.Machine.{start};
 ghost use Rattle.rule.specs.Memory.{mem};
 ghost use Rattle.rule.specs.ReadsPart.{runFrom};
-ghost use Rattle.rule.specs.Reading.{concluded, readOf, unread, answerOf};
+ghost use Rattle.rule.specs.Reading.{concluded, readOf, unread, readerAnswer};
 ghost use Rattle.rule.specs.Answers.{refusedAs};
 
 fn refuse(number: u8, place: u32) -> Reading
@@ -47,7 +47,7 @@ fn copy(from: &[u8], to: &mut [u8])
 // The end of the text, after the last part.
 fn ended(text: &[u8], at: usize, m: Registers) -> Step
     requires { ⌜ at ≤ length (now text) ⌝ }
-    ensures { λ r. ⌜ ((tb b : List ℕ) → runFrom (now (text .entry)) [] (mem m tb b) at ≡ answerOf r tb b) ⌝ }
+    ensures { λ r. ⌜ ((tb b : List ℕ) → runFrom (now (text .entry)) [] (mem m tb b) at ≡ readerAnswer r tb b) ⌝ }
 {
     let t = token_at(text, at);
     if t.kind != END_KIND {
@@ -60,7 +60,7 @@ fn ended(text: &[u8], at: usize, m: Registers) -> Step
 fn whole(text: &[u8], names: &mut [u64; 12], buf: &mut [u8; 512]) -> Step
     requires { ⌜ length (now names) ≡ 12 ⌝ }
     ensures { λ r. ⌜ runFrom (now (text .entry)) start (mem unread (now (names .entry)) (now (buf .entry))) 0
-        ≡ answerOf r (now (names .exit)) (now (buf .exit)) ⌝ }
+        ≡ readerAnswer r (now (names .exit)) (now (buf .exit)) ⌝ }
 {
     let m = Registers {
         count: 0,

@@ -9,8 +9,8 @@ ghost use lib.ListN.{length};
 ghost use Rattle.rule.specs.Limits.{frameBytes, frameLimit};
 ghost use Rattle.rule.specs.Frames.{kindOf};
 ghost use Rattle.rule.specs.Order.{InOrder};
-ghost use Rattle.rule.specs.Sizes.{pushed, topped, sized, sizesFit};
-ghost use Rattle.rule.specs.Stack.{stackOf, loaded, capped, Ready, Bounded};
+ghost use Rattle.rule.specs.Sizes.{pushed, topped, sizesAfter, sizesFit};
+ghost use Rattle.rule.specs.Stack.{stackOf, loaded, capped, EnoughSums, Bounded};
 
 // How many magnitudes the array holds, or that one is over the limit.
 pub enum Size {
@@ -80,9 +80,9 @@ fn product_top(cells: &mut [u64; 64], k: usize) -> Size
 // One frame more. Called by sizes_fit, on frames that are a rule.
 fn size_step(kind: u8, value: i32, cells: &mut [u64; 64], k: usize) -> Size
     requires { ⌜ (length (now cells) ≡ frameLimit) × ((k < frameLimit)
-        × (Ready (kindOf kind) k × Bounded (stackOf 0 (now cells) k))) ⌝ }
+        × (EnoughSums (kindOf kind) k × Bounded (stackOf 0 (now cells) k))) ⌝ }
     ensures kept { λ r. ⌜ length (now (cells .exit)) ≡ frameLimit ⌝ }
-    ensures { λ r. ⌜ loaded (now (cells .exit)) r ≡ sized (kindOf kind) value (stackOf 0 (now (cells .entry)) k) ⌝ }
+    ensures { λ r. ⌜ loaded (now (cells .exit)) r ≡ sizesAfter (kindOf kind) value (stackOf 0 (now (cells .entry)) k) ⌝ }
 {
     match kind {
         kinds::LITERAL_BYTE => push(cells, k, own(value)),

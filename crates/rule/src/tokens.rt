@@ -9,7 +9,7 @@ ghost use mathlib.Core.Path.{_≡_};
 ghost use Prim.Native.Nat.{_+_, _≤_};
 ghost use lib.ListN.{length, drop, getD};
 ghost use Rattle.rule.specs.Class.{span};
-ghost use Rattle.rule.specs.Token.{same, wordKind, markOf, markWidth, tokenAt};
+ghost use Rattle.rule.specs.Token.{same, wordKind, longestMark, markWidth, tokenAt};
 
 // Kinds of tokens; a mark of one byte has that byte for its kind.
 pub const END_KIND: u8 = 0;
@@ -100,7 +100,7 @@ fn word_kind(word: &[u8]) -> u8
 
 // The kind of the mark that begins with `b`, with `n` after it: the longest match.
 fn mark_of(b: u8, n: u8) -> u8
-    ensures { λ r. ⌜ r ≡ markOf b n ⌝ }
+    ensures { λ r. ⌜ r ≡ longestMark b n ⌝ }
 {
     match b {
         b'-' => if n == b'>' { ARROW_KIND } else { b },

@@ -9,7 +9,7 @@ use lib.ListN.{length}
 use Rattle.numbers.proofs.Bools.{and-l, and-r}
 use Rattle.rule.specs.Frames.{Relation, Kind, operand, absolute, negation, none, kindOf, frameAt, fieldsOf}
 use Rattle.rule.specs.Tree.{Sum, arithmetic, abs, Cond, connective}
-use Rattle.rule.specs.Order.{stepBy, Prefix, viable, stuck, placed, next, prefixAt}
+use Rattle.rule.specs.Order.{stepBy, Prefix, viable, stuck, orderAt, orderNext, prefixAt}
 use Rattle.rule.specs.Build.{Trees, trees, top1, top2, related, builtBy, built, treesAt}
 use Rattle.rule.specs.declared.Frame.{Frame}
 use Rattle.rule.specs.declared.order.Shape.{Shape}
@@ -19,7 +19,7 @@ abbrev pub AsMany : Prefix → Trees → Type 0
 AsMany (stuck p) z = Unit {0}
 AsMany (viable c k) (trees cs ss) = (length cs ≡ c) × (length ss ≡ k)
 
-many-cond : (i : ℕ) (t : Bool) (h : Shape) (z : Trees) → (T t → AsMany (placed i h) z) → AsMany (placed i (cond t h Bad)) z
+many-cond : (i : ℕ) (t : Bool) (h : Shape) (z : Trees) → (T t → AsMany (orderAt i h) z) → AsMany (orderAt i (cond t h Bad)) z
 many-cond i true h z f = f tt
 many-cond i false h z f = tt
 
@@ -40,7 +40,7 @@ many-related i r c cs (b ∷ (a ∷ [])) h g = (omega arith, refl)
 many-related i r c cs (b ∷ (a ∷ (d ∷ ss))) h g = absurd (omega arith)
 
 module _ (i c k : ℕ) (x : Frame) (cs : List Cond) (ss : List Sum) (h : length cs ≡ c) (g : length ss ≡ k) where
-  many-by : (o : Kind) → AsMany (placed i (stepBy o c k)) (builtBy o x cs ss)
+  many-by : (o : Kind) → AsMany (orderAt i (stepBy o c k)) (builtBy o x cs ss)
   many-by (operand s) = many-cond i (leb 0 k) _ _ (λ t. (h, omega arith))
   many-by (Kind.arithmetic o) = many-cond i (leb 2 k) _ _ (λ t. (h, length-two (arithmetic o) ss k (leb→le 2 k t) g))
   many-by absolute = many-cond i (leb 1 k) _ _ (λ t. (h, length-one abs ss k (leb→le 1 k t) g))
@@ -53,7 +53,7 @@ module _ (i c k : ℕ) (x : Frame) (cs : List Cond) (ss : List Sum) (h : length 
       (λ t. (length-two (connective j) cs c (leb→le 2 c (and-l (leb 2 c) (eqb k 0) t)) h, g ∙ eqb→eq k 0 (and-r (leb 2 c) (eqb k 0) t)))
   many-by none = tt
 
-many-next : (i : ℕ) (x : Frame) (p : Prefix) (z : Trees) → AsMany p z → AsMany (next i x p) (built x z)
+many-next : (i : ℕ) (x : Frame) (p : Prefix) (z : Trees) → AsMany p z → AsMany (orderNext i x p) (built x z)
 many-next i x (stuck q) z h = tt
 many-next i x (viable c k) (trees cs ss) h =
     many-cond i (fieldsOf (kindOf (x .kind)) x) (stepBy (kindOf (x .kind)) c k) (builtBy (kindOf (x .kind)) x cs ss)

@@ -14,15 +14,15 @@ use Rattle.rule.specs.Tree.{Reference, Sum, literal, instance, reference, arith
 use Rattle.rule.specs.References.{referenceByte, referenceOf}
 use Rattle.rule.specs.Order.{Prefix, viable, stuck, prefixAt, InOrder}
 use Rattle.rule.specs.Build.{Trees, trees, top1, top2, leaf, builtBy, built, treesAt, firstC, treeOf}
-use Rattle.rule.specs.Stack.{Ready}
+use Rattle.rule.specs.Stack.{EnoughSums}
 use Rattle.rule.specs.declared.Frame.{Frame}
 use Rattle.rule.proofs.Laws.{byte-kind, Live, sumsOf, live, one-left, found, literal-value}
 use Rattle.verdict.specs.Found.{Found, present, pending, void, Given, isPresent, isPending, isMissing, someOf}
-use Rattle.verdict.specs.Kleene.{notK, joined, truth}
+use Rattle.verdict.specs.Kleene.{notK, connected, truth}
 use Rattle.verdict.specs.Value.{computed, sizeOf, noteOf, holds, valueS, value}
 use Rattle.verdict.specs.Settled.{judgedBy, judgement}
 use Rattle.verdict.specs.Marks.{presentMark, pendingMark, Tells, TellAll}
-use Rattle.verdict.specs.Pass.{Pass, related, operandBy, passBy, passAt, firstT, judgementOf}
+use Rattle.verdict.specs.Pass.{Pass, relationTruth, operandBy, passBy, passAt, firstT, judgementOf}
 use Rattle.verdict.specs.declared.Truth.{Truth}
 use Rattle.verdict.specs.declared.Truth.the-variants.{Unknown}
 use Rattle.verdict.proofs.Own.{or-left, or-right}
@@ -119,16 +119,16 @@ module _ (g : Given) where
   abbrev HoldsIn : Trees → Pass → Type 0
   HoldsIn (trees cs ss) p = Holds cs ss p
 
-  related-away : (r : Relation) (vs : List ℤ) → related r true vs ≡ Unknown
+  related-away : (r : Relation) (vs : List ℤ) → relationTruth r true vs ≡ Unknown
   related-away r [] = refl
   related-away r (y ∷ []) = refl
   related-away r (y ∷ (x ∷ vs)) = refl
 
   related-by : (r : Relation) (a b : Sum) (m : Bool) (vs : List ℤ) → m ≡ someOf isMissing (g .found) (referencesS a ++ referencesS b)
-      → (m ≡ false → vs ≡ valueS g b ∷ (valueS g a ∷ [])) → related r m vs ≡ value g (relation r a b)
+      → (m ≡ false → vs ≡ valueS g b ∷ (valueS g a ∷ [])) → relationTruth r m vs ≡ value g (relation r a b)
   related-by r a b true vs e h = related-away r vs ∙ ap (λ (t : Bool). cond t Unknown (truth (holds r (valueS g a) (valueS g b)))) e
   related-by r a b false vs e h =
-      ap (related r false) (h refl) ∙ ap (λ (t : Bool). cond t Unknown (truth (holds r (valueS g a) (valueS g b)))) e
+      ap (relationTruth r false) (h refl) ∙ ap (λ (t : Bool). cond t Unknown (truth (holds r (valueS g a) (valueS g b)))) e
 
   module _ (x : Frame) (mark : ℕ) (note : ℤ) (cs : List Cond) (p : Pass) where
     holds-operand : (s : Source) (ss : List Sum) → T (fieldsOf (Kind.operand s) x) → (s ≡ Source.reference → Tells (g .found (referenceOf x)) mark note)
@@ -177,7 +177,7 @@ module _ (g : Given) where
             ∙ ap (λ (t : Bool). (t || someC is (g .found) cs) || false) (sym (some-append is (g .found) (referencesS a) (referencesS b)))
     holds-relation r (b ∷ (a ∷ (d ∷ ss))) n h = absurd (omega arith)
 
-    holds-by : (o : Kind) (ss : List Sum) → T (fieldsOf o x) → (o ≡ Kind.operand Source.reference → Tells (g .found (referenceOf x)) mark note) → Ready o (length ss)
+    holds-by : (o : Kind) (ss : List Sum) → T (fieldsOf o x) → (o ≡ Kind.operand Source.reference → Tells (g .found (referenceOf x)) mark note) → EnoughSums o (length ss)
         → Holds cs ss p → HoldsIn (builtBy o x cs ss) (passBy o (x .value) (g .instance) mark note p)
     holds-by (Kind.operand s) ss f t n h = holds-operand s ss f (λ e. t (ap Kind.operand e)) h
     holds-by (Kind.arithmetic o) ss f t n h =
@@ -209,7 +209,7 @@ module _ (g : Given) where
         record {
           missing = h .missing;
           sums = h .sums;
-          conds = ap (top2 (joined j)) (h .conds) ∙ map-two (value g) (connective j) (joined j) (λ a b. refl) cs;
+          conds = ap (top2 (connected j)) (h .conds) ∙ map-two (value g) (connective j) (connected j) (λ a b. refl) cs;
           pending = h .pending ∙ ap (λ (t : Bool). t || someS isPending (g .found) ss) (some-connective isPending (g .found) j cs);
           present = h .present ∙ ap (λ (t : Bool). t || someS isPresent (g .found) ss) (some-connective isPresent (g .found) j cs);
         }
@@ -248,7 +248,7 @@ module _ (s : List ℕ) (g : Given) (marks : List ℕ) (notes : List ℤ) (f : I
       let n : sumsOf (prefixAt s k) ≡ length ss = sums-of (prefixAt s k) cs ss (live s k (omega arith) f) (subst (AsMany (prefixAt s k)) e (as-many s k)) in
       subst (λ (z : Trees). HoldsIn g (built x z) (passAt s (g .instance) marks notes (suc k))) (sym e)
       (holds-by g x (getD marks k 0) (getD notes k (pos 0)) cs (passAt s (g .instance) marks notes k) (kindOf (x .kind)) ss (q .fields)
-      (λ o. told k l (byte-of (x .kind) o)) (subst (Ready (kindOf (x .kind))) n (q .sums)) h)
+      (λ o. told k l (byte-of (x .kind) o)) (subst (EnoughSums (kindOf (x .kind))) n (q .sums)) h)
 
   holds-at : (k : ℕ) → k ≤ frameCount s → HoldsIn g (treesAt s k) (passAt s (g .instance) marks notes k)
   holds-at zero l = record { missing = refl; sums = λ e. refl; conds = refl; pending = refl; present = refl }

@@ -6,7 +6,7 @@ use mathlib.Core.List.{List, [], _∷_, _++_, List·Memᴰ, List·Memᴰ·head, 
 use Rattle.rule.specs.Tree.{Reference, Sum, literal, instance, reference, arithmetic, abs, Cond, relation, connective, referencesS, references}
 use Rattle.numbers.proofs.Bools.{true-false}
 use Rattle.verdict.specs.Found.{Found, Given, isMissing, isPending, isPresent, someOf}
-use Rattle.verdict.specs.Kleene.{notK, joined, truth}
+use Rattle.verdict.specs.Kleene.{notK, connected, truth}
 use Rattle.verdict.specs.Value.{computed, sizeOf, noteOf, holds, valueS, value}
 use Rattle.verdict.specs.Settled.{settledBy, verdictOf, verdict, settled, judgement}
 use Rattle.verdict.specs.Later.{withFound}
@@ -44,7 +44,7 @@ module _ (g : Given) (found : Reference → Found) where
       (ap₂ (holds r) (sum-own a (same-left (g .found) found (referencesS a) (referencesS b) h)) (sum-own b (same-right (g .found) found (referencesS a) (referencesS b) h)))
   value-own (Cond.not p) h = ap notK (value-own p h)
   value-own (connective j p q) h =
-      ap₂ (joined j) (value-own p (same-left (g .found) found (references p) (references q) h)) (value-own q (same-right (g .found) found (references p) (references q) h))
+      ap₂ (connected j) (value-own p (same-left (g .found) found (references p) (references q) h)) (value-own q (same-right (g .found) found (references p) (references q) h))
 
   pub settled-own : (t : Cond) → SameOn (references t) (g .found) found → settled g t ≡ settled (withFound g found) t
   settled-own t h =

@@ -2,7 +2,7 @@
 use mathlib.Core.Path.{_≡_, refl, ap, _∙_}
 use mathlib.Core.Logic.{inl, inr}
 use Rattle.rule.specs.Frames.{Connective, and, or, implies}
-use Rattle.verdict.specs.Kleene.{notK, andK, orK, joined}
+use Rattle.verdict.specs.Kleene.{notK, andK, orK, connected}
 use Rattle.verdict.specs.Later.{Sharpens}
 use Rattle.verdict.specs.declared.Truth.{Truth}
 use Rattle.verdict.specs.declared.Truth.the-variants.{True, False, Unknown}
@@ -63,7 +63,7 @@ module _ (t : Truth → Truth → Truth) (unknown-left : (a b : Truth) → Sharp
   table-sharpens a a′ b b′ p q =
       sharpens-trans (t a b) (t a′ b) (t a′ b′) (left-sharpens a a′ b p) (rw (comm a′ b, comm a′ b′) (left-sharpens b b′ a′ q))
 
-pub joined-sharpens : (j : Connective) (a a′ b b′ : Truth) → Sharpens a a′ → Sharpens b b′ → Sharpens (joined j a b) (joined j a′ b′)
+pub joined-sharpens : (j : Connective) (a a′ b b′ : Truth) → Sharpens a a′ → Sharpens b b′ → Sharpens (connected j a b) (connected j a′ b′)
 joined-sharpens and a a′ b b′ p q = table-sharpens andK and-unknown and-comm a a′ b b′ p q
 joined-sharpens or a a′ b b′ p q = table-sharpens orK or-unknown or-comm a a′ b b′ p q
 joined-sharpens implies a a′ b b′ p q = table-sharpens orK or-unknown or-comm (notK a) (notK a′) b b′ (not-sharpens a a′ p) q

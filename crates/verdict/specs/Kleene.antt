@@ -35,10 +35,10 @@ orK Unknown False = Unknown
 orK Unknown Unknown = Unknown
 
 -- "p implies q is (not p) or q"
-abbrev pub joined : Connective → Truth → Truth → Truth
-joined and p q = andK p q
-joined or p q = orK p q
-joined implies p q = orK (notK p) q
+abbrev pub connected : Connective → Truth → Truth → Truth
+connected and p q = andK p q
+connected or p q = orK p q
+connected implies p q = orK (notK p) q
 
 -- "else true or false": the truth value of a test
 abbrev pub truth : Bool → Truth

@@ -9,7 +9,7 @@ use lib.ListN.{getD}
 use Rattle.rule.specs.Frames.{Source, literal, instance, reference, Relation, kindOf, frameAt, frameCount}
 use Rattle.rule.specs.Frames.{Kind, operand, arithmetic, absolute, relation, negation, connective, none}
 use Rattle.rule.specs.Build.{top1, top2}
-use Rattle.verdict.specs.Kleene.{notK, joined, truth}
+use Rattle.verdict.specs.Kleene.{notK, connected, truth}
 use Rattle.verdict.specs.Value.{computed, sizeOf, holds}
 use Rattle.verdict.specs.Settled.{judgedBy}
 use Rattle.verdict.specs.Marks.{presentMark, pendingMark}
@@ -50,10 +50,10 @@ withReference p mark note =
     }
 
 -- "A relation is unknown if it names a void or pending reference, else true or false": of the two sums that are there
-abbrev pub related : Relation → Bool → List ℤ → Truth
-related r missing [] = Unknown
-related r missing (y ∷ []) = Unknown
-related r missing (y ∷ (x ∷ vs)) = cond missing Unknown (truth (holds r x y))
+abbrev pub relationTruth : Relation → Bool → List ℤ → Truth
+relationTruth r missing [] = Unknown
+relationTruth r missing (y ∷ []) = Unknown
+relationTruth r missing (y ∷ (x ∷ vs)) = cond missing Unknown (truth (holds r x y))
 
 -- with one of "21 to 26 the relations", which takes the sums; the next one begins with no reference
 abbrev pub withRelation : Pass → Relation → Pass
@@ -61,7 +61,7 @@ withRelation p r =
     record {
       sums = [];
       missing = false;
-      conds = related r (p .missing) (p .sums) ∷ p .conds;
+      conds = relationTruth r (p .missing) (p .sums) ∷ p .conds;
       pending = p .pending;
       present = p .present;
     }
@@ -79,7 +79,7 @@ passBy (arithmetic o) v i mark note p = withSums p (top2 (computed o) (p .sums))
 passBy absolute v i mark note p = withSums p (top1 sizeOf (p .sums))
 passBy (relation r) v i mark note p = withRelation p r
 passBy negation v i mark note p = withConds p (top1 notK (p .conds))
-passBy (connective j) v i mark note p = withConds p (top2 (joined j) (p .conds))
+passBy (connective j) v i mark note p = withConds p (top2 (connected j) (p .conds))
 passBy none v i mark note p = p
 
 -- "the rule's value": of a rule one condition is left

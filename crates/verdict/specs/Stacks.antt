@@ -9,7 +9,7 @@ use lib.IntN.{ℤ, pos, natAbs}
 use lib.ListN.{length}
 use Rattle.rule.specs.Limits.{frameLimit, magnitudeLimit}
 use Rattle.rule.specs.Frames.{Kind}
-use Rattle.rule.specs.Stack.{stackOf, Ready, ReadyC}
+use Rattle.rule.specs.Stack.{stackOf, EnoughSums, ReadyC}
 use Rattle.verdict.specs.Pass.{Pass}
 use Rattle.verdict.specs.declared.Truth.{Truth}
 use Rattle.verdict.specs.declared.Truth.the-variants.{True, False, Unknown}
@@ -45,6 +45,6 @@ pub record Begun (o : Kind) (sums : List ℤ) (conds : List ℕ) (t : Top) (next
   pub long-c : length conds ≡ frameLimit
   pub room : t .sums < frameLimit
   pub room-c : t .conds < frameLimit
-  pub ready : Ready o (t .sums)
+  pub ready : EnoughSums o (t .sums)
   pub ready-c : ReadyC o (t .conds)
   pub small : Small (next .sums)

@@ -7,7 +7,7 @@ use lib.Signed.{ltZ, leZ}
 use Rattle.rule.specs.Frames.{Arithmetic, add, subtract, multiply, Relation, equal, unequal, less, atMost, more, atLeast}
 use Rattle.rule.specs.Tree.{Sum, literal, instance, reference, arithmetic, abs, Cond, relation, connective, referencesS}
 use Rattle.verdict.specs.Found.{Found, present, pending, void, Given, isMissing, someOf}
-use Rattle.verdict.specs.Kleene.{notK, joined, truth}
+use Rattle.verdict.specs.Kleene.{notK, connected, truth}
 use Rattle.verdict.specs.declared.Truth.{Truth}
 use Rattle.verdict.specs.declared.Truth.the-variants.{Unknown}
 
@@ -60,4 +60,4 @@ module _ (g : Given) where
   value (relation r a b) =
       cond (someOf isMissing (g .found) (referencesS a ++ referencesS b)) Unknown (truth (holds r (valueS a) (valueS b)))
   value (Cond.not p) = notK (value p)
-  value (connective j p q) = joined j (value p) (value q)
+  value (connective j p q) = connected j (value p) (value q)

@@ -4,7 +4,7 @@ use rule::kinds;
 ghost use mathlib.Core.Path.{_≡_};
 ghost use mathlib.Core.Bool.{cond};
 ghost use Rattle.rule.specs.Frames.{connectiveAt};
-ghost use Rattle.verdict.specs.Kleene.{notK, andK, orK, joined, truth};
+ghost use Rattle.verdict.specs.Kleene.{notK, andK, orK, connected, truth};
 ghost use Rattle.verdict.specs.Stacks.{truthOf};
 
 // Not.
@@ -50,7 +50,7 @@ fn either(p: Truth, q: Truth) -> Truth
 
 // And, or, or else implies, by the kind byte. Called by stacks::join_conds.
 pub fn connect(kind: u8, p: Truth, q: Truth) -> Truth
-    ensures { λ r. ⌜ r ≡ joined (connectiveAt kind) p q ⌝ }
+    ensures { λ r. ⌜ r ≡ connected (connectiveAt kind) p q ⌝ }
 {
     match kind {
         kinds::AND_BYTE => both(p, q),

@@ -11,7 +11,7 @@ ghost use Rattle.rule.specs.Limits.{frameLimit};
 ghost use Rattle.rule.specs.Frames.{arithmeticAt, relationAt, connectiveAt};
 ghost use Rattle.rule.specs.Build.{top1, top2};
 ghost use Rattle.rule.specs.Stack.{stackOf};
-ghost use Rattle.verdict.specs.Kleene.{notK, joined};
+ghost use Rattle.verdict.specs.Kleene.{notK, connected};
 ghost use Rattle.verdict.specs.Value.{computed, sizeOf, holds};
 ghost use Rattle.verdict.specs.Stacks.{truthsOf, Small};
 
@@ -88,7 +88,7 @@ pub fn not_cond(conds: &mut [u8; 64], c: usize) -> usize
 pub fn join_conds(kind: u8, conds: &mut [u8; 64], c: usize) -> usize
     requires { ⌜ (length (now conds) ≡ frameLimit) × ((c < frameLimit) × (2 ≤ c)) ⌝ }
     ensures kept { λ r. ⌜ length (now (conds .exit)) ≡ frameLimit ⌝ }
-    ensures { λ r. ⌜ truthsOf (now (conds .exit)) r ≡ top2 (joined (connectiveAt kind)) (truthsOf (now (conds .entry)) c) ⌝ }
+    ensures { λ r. ⌜ truthsOf (now (conds .exit)) r ≡ top2 (connected (connectiveAt kind)) (truthsOf (now (conds .entry)) c) ⌝ }
 {
     let p = kleene::decoded(conds[c - 2]);
     let q = kleene::decoded(conds[c - 1]);

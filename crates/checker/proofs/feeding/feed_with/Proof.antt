@@ -2,7 +2,7 @@
 use mathlib.Core.Path.{_≡_, refl, sym, ap, _∙_}
 use Prim.Native.Nat.{ℕ}
 use borrow.Author.Needs.{needs}
-use Rattle.log.specs.Line.{LineAnswer, told, lineOf}
+use Rattle.log.specs.Line.{LineAnswer, lineTold, lineOf}
 use Rattle.log.specs.Line as log
 use Rattle.checker.specs.Parts.{stateOf}
 use Rattle.checker.specs.Feed.{turned}
@@ -27,13 +27,13 @@ feed-event-requires : tie.Need-feed-event-requires
 feed-event-requires c κs = c .before .before .before .before .before .before .before .pre
 
 returns : tie.Need-returns
-unfolding told
+unfolding lineTold
 returns c =
     let p = c .before .before .before .before .before .before .before in
     let a = p .args in
     let s : State = stateOf (a .frames .now) (a .fields) in
     let n : ℕ = c .before .before .read .given .0 .0 in
-    let q : lineOf (a .line .now) ≡ log.refused 15 n = sym (c .before .before .before .before .read-line .ensures) ∙ ap told (c .before .before .read .given .1) in
+    let q : lineOf (a .line .now) ≡ log.refused 15 n = sym (c .before .before .before .before .read-line .ensures) ∙ ap lineTold (c .before .before .read .given .1) in
     let d = fed-by s (a .window .now) (a .line .now) (p .pre .0 .let-in) (log.refused 15 n) q in
     refused-as (a .frames .now) (a .fields) (a .window .now) (c .refuse .result) (turned 15 n) 15 n (c .refuse .ensures) refl ∙ sym d
 
@@ -41,7 +41,7 @@ same-length : tie.Need-same-length
 same-length c = search needs
 
 returns-2 : tie.Need-returns-2
-unfolding told
+unfolding lineTold
 returns-2 c =
     let p = c .before .before .before .before .before .before .before .before .before in
     let a = p .args in
@@ -49,7 +49,7 @@ returns-2 c =
     let r = c .before .before .before .before .read2 .given in
     let n = r .0 .1 .0 in
     let t : LineAnswer = log.line (r .0 .0) (n .0) (n .1) (n .2) (n .3) in
-    let q : lineOf (a .line .now) ≡ t = sym (c .before .before .before .before .before .before .read-line .ensures) ∙ ap told (r .1) in
+    let q : lineOf (a .line .now) ≡ t = sym (c .before .before .before .before .before .before .read-line .ensures) ∙ ap lineTold (r .1) in
     c .before .feed-event .ensures ∙ sym (fed-by s (a .window .now) (a .line .now) (p .pre .0 .let-in) t q)
 
 pub feed-with-spec : {M : Type 1} → statement M

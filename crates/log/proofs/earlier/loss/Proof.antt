@@ -1,7 +1,7 @@
 -- `log::earlier::loss` meets its contract. Assumes nothing.
 use mathlib.Core.Path.{_∙_}
 use borrow.Author.Needs.{needs}
-use Rattle.log.specs.Line.{told}
+use Rattle.log.specs.Line.{lineTold}
 use Rattle.log.specs.Earlier.{lowerTold}
 use Rattle.log.proofs.Losses.{answer-of-bad, answer-of-event}
 use Rattle.log.proofs.earlier.loss.Statement.{statement}
@@ -17,11 +17,11 @@ loss-of-requires : tie.Need-loss-of-requires
 loss-of-requires c κs = search needs
 
 returns : tie.Need-returns
-unfolding told lowerTold
+unfolding lineTold lowerTold
 returns c = answer-of-bad (c .before .read .given .1)
 
 returns-2 : tie.Need-returns-2
-unfolding told lowerTold
+unfolding lineTold lowerTold
 returns-2 c = c .loss-of .ensures ∙ answer-of-event (c .before .before .read2 .given .1)
 
 pub loss-spec : {M : Type 1} → statement M

@@ -3,7 +3,7 @@ use mathlib.Core.Path.{sym, ap, _∙_}
 use native.Mathlib.Omega.{arith}
 use mir.Syntax.{w32}
 use mir.Facts.{toZ-ofZ}
-use Rattle.log.specs.Line.{told, refused}
+use Rattle.log.specs.Line.{lineTold, refused}
 use Rattle.log.proofs.Lines.{line-of-other, line-of-notes, line-of-bad-pair, line-of-bad-note}
 use borrow.Author.Needs.{needs, sfits-of}
 use Rattle.log.proofs.line.read_line.Statement.{statement}
@@ -13,7 +13,7 @@ bad-place-requires : tie.Need-bad-place-requires
 bad-place-requires c κs = search needs
 
 returns : tie.Need-returns
-unfolding told
+unfolding lineTold
 returns c =
     ap (refused 15) (c .bad-place .ensures) ∙ sym (line-of-other (c .before .before .before .args .bytes .now) (λ h k. omega arith))
 
@@ -30,7 +30,7 @@ bad-place-requires-2 : tie.Need-bad-place-requires-2
 bad-place-requires-2 c κs = search needs
 
 returns-2 : tie.Need-returns-2
-unfolding told
+unfolding lineTold
 returns-2 c =
     let args = c .before .before .before .before .before .before .args in
     ap (refused 15) (c .bad-place2 .ensures)
@@ -50,7 +50,7 @@ bad-place-requires-3 : tie.Need-bad-place-requires-3
 bad-place-requires-3 c κs = search needs
 
 returns-3 : tie.Need-returns-3
-unfolding told
+unfolding lineTold
 returns-3 c =
     let args = c .before .before .before .before .before .before .before .before .before .before .args in
     ap (refused 15) (c .bad-place3 .ensures)
@@ -71,7 +71,7 @@ bad-place-requires-4 : tie.Need-bad-place-requires-4
 bad-place-requires-4 c κs = search needs
 
 returns-4 : tie.Need-returns-4
-unfolding told
+unfolding lineTold
 returns-4 c =
     let args = c .before .before .before .before .before .before .before .before .before .before .before .before .before .before .args in
     ap (refused 15) (c .bad-place4 .ensures)
@@ -92,7 +92,7 @@ bad-place-requires-5 : tie.Need-bad-place-requires-5
 bad-place-requires-5 c κs = search needs
 
 returns-5 : tie.Need-returns-5
-unfolding told
+unfolding lineTold
 returns-5 c =
     let args = c .before .before .before .before .before .before .before .before .before .before .before .before .before .before .before .before .before .before .args in
     ap (refused 15) (c .bad-place5 .ensures)
@@ -113,7 +113,7 @@ bad-place-requires-6 : tie.Need-bad-place-requires-6
 bad-place-requires-6 c κs = search needs
 
 returns-6 : tie.Need-returns-6
-unfolding told
+unfolding lineTold
 returns-6 c =
     let args = c .before .before .before .before .before .before .before .before .before .before .before .before .before .before .before .before .before .before .before .before .before .before .args in
     ap (refused 15) (c .bad-place6 .ensures)
@@ -122,7 +122,7 @@ returns-6 c =
     (sym (c .before .before .before .note-at4 .ensures) ∙ c .before .enum-told5 .given .1))
 
 returns-7 : tie.Need-returns-7
-unfolding told
+unfolding lineTold
 returns-7 c =
     let third = c .before .before .before .before in
     let second = third .before .before .before .before in

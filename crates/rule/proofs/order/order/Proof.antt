@@ -5,7 +5,7 @@ use native.Mathlib.Omega.{arith}
 use borrow.Author.Needs.{needs}
 use Rattle.rule.specs.Frames.{frameCount}
 use Rattle.rule.specs.References.{referencesTo, oneMore, referenceCount}
-use Rattle.rule.specs.Order.{prefixAt, viable, stuck, placed, ended, orderOf}
+use Rattle.rule.specs.Order.{prefixAt, viable, stuck, orderAt, ended, orderOf}
 use Rattle.rule.specs.declared.Frame.{Frame}
 use Rattle.rule.proofs.FrameOrder.{prefix-next, counts, stuck-at, count-next, count-le}
 use Rattle.rule.proofs.order.order.Statement.{statement}
@@ -42,7 +42,7 @@ returns c =
     let s = c .before .before .before .before .before .before .before .args .frames .now in
     let x = c .before .before .before .frame-at in
     let g = c .before .before .frame-step in
-    let bad : prefixAt s (l .i + 1) ≡ stuck (l .i) = prefix-next s (l .i) (l .c) (l .k) (l .inv .1 .0) (x .result) (x .ensures) (g .result) (g .ensures) ∙ ap (placed (l .i)) (c .enum-told .given .1) in
+    let bad : prefixAt s (l .i + 1) ≡ stuck (l .i) = prefix-next s (l .i) (l .c) (l .k) (l .inv .1 .0) (x .result) (x .ensures) (g .result) (g .ensures) ∙ ap (orderAt (l .i)) (c .enum-told .given .1) in
     sym (ap (ended (frameCount s) (referenceCount s)) (stuck-at s (l .i + 1) (frameCount s) (l .i) (omega arith) bad))
 
 counted-requires : tie.Need-counted-requires Inv-loop μ-loop
@@ -65,7 +65,7 @@ loop-again c =
     let g = c .before .before .before .before .frame-step in (
       omega arith,
       (
-        prefix-next s (l .i) (l .c) (l .k) (l .inv .1 .0) (x .result) (x .ensures) (g .result) (g .ensures) ∙ ap (placed (l .i)) (c .before .before .next .given .1),
+        prefix-next s (l .i) (l .c) (l .k) (l .inv .1 .0) (x .result) (x .ensures) (g .result) (g .ensures) ∙ ap (orderAt (l .i)) (c .before .before .next .given .1),
         count-next s (l .i) (l .m) (l .inv .1 .1) (x .result .kind) (ap (λ (y : Frame). y .kind) (x .ensures)) (c .counted .result) (c .counted .ensures),
       ),
     )

@@ -6,7 +6,7 @@ use Rattle.rule.specs.Token.{notesKind}
 use Rattle.rule.specs.Class.{semicolon}
 use Rattle.rule.specs.Machine.{want}
 use Rattle.rule.specs.Machine as machine
-use Rattle.rule.specs.ReadsPart.{onward}
+use Rattle.rule.specs.ReadsPart.{readOn}
 use Rattle.rule.specs.declared.parts.Role.the-variants.{Note}
 use Rattle.rule.proofs.ReaderParts.{then, stop, as-is}
 use borrow.Author.Needs.{needs}
@@ -44,19 +44,19 @@ ended-requires : tie.Need-ended-requires
 ended-requires c κs = let g = as-is (c .before .before .before .condition .ensures) (c .before .e .given .1) in let y = g .within in y .1
 
 returns : tie.Need-returns
-unfolding onward
+unfolding readOn
 returns c = stop (λ s. want notesKind ∷ machine.name-of Note ∷ machine.names-of Note ∷ want semicolon ∷ machine.condition 0 s) 0 {tb′ = []} {b′ = []} (as-is (c .before .before .before .declarations .ensures .0 (now (c .before .before .before .before .before .before .args .buf))) (c .before .q .given .1)) .runs []
 
 returns-2 : tie.Need-returns-2
-unfolding onward
+unfolding readOn
 returns-2 c = let d = as-is (c .before .before .before .before .before .before .before .before .declarations .ensures .0 (now (c .before .before .before .before .before .before .before .before .before .before .before .args .buf))) (c .before .before .before .before .before .before .a .given .1) in let w = d .within in then {lo″ = 0} d (stop (λ s. machine.condition 0 s) 0 {tb′ = []} {b′ = []} (as-is (c .before .before .before .declarations2 .ensures .0 (now (c .before .before .before .before .before .before .before .before .before .before .before .args .buf))) (c .before .q2 .given .1))) (omega arith) .runs []
 
 returns-3 : tie.Need-returns-3
-unfolding onward
+unfolding readOn
 returns-3 c = let d = as-is (c .before .before .before .before .before .before .before .before .before .before .before .before .before .before .declarations .ensures .0 (now (c .before .before .before .before .before .before .before .before .before .before .before .before .before .before .before .before .before .args .buf))) (c .before .before .before .before .before .before .before .before .before .before .before .before .a .given .1) in let w = d .within in let f = as-is (c .before .before .before .before .before .before .before .before .before .declarations2 .ensures .0 (now (c .before .before .before .before .before .before .before .before .before .before .before .before .before .before .before .before .before .args .buf))) (c .before .before .before .before .before .before .before .z .given .1) in let x = f .within in then {lo″ = 0} d (then {lo″ = 0} f (as-is (c .before .before .before .condition .ensures) (c .before .q3 .given .1)) (omega arith)) (omega arith) .runs []
 
 returns-4 : tie.Need-returns-4
-unfolding onward
+unfolding readOn
 returns-4 c = let d = as-is (c .before .before .before .before .before .before .before .before .before .before .before .before .before .before .before .declarations .ensures .0 (now (c .before .before .before .before .before .before .before .before .before .before .before .before .before .before .before .before .before .before .args .buf))) (c .before .before .before .before .before .before .before .before .before .before .before .before .before .a .given .1) in let w = d .within in let f = as-is (c .before .before .before .before .before .before .before .before .before .before .declarations2 .ensures .0 (now (c .before .before .before .before .before .before .before .before .before .before .before .before .before .before .before .before .before .before .args .buf))) (c .before .before .before .before .before .before .before .before .z .given .1) in let x = f .within in let g = as-is (c .before .before .before .before .condition .ensures) (c .before .before .e .given .1) in let y = g .within in then {lo″ = 0} d (then {lo″ = 0} f g (omega arith)) (omega arith) .runs [] ∙ c .ended .ensures _ _
 
 pub whole-spec : {M : Type 1} → statement M

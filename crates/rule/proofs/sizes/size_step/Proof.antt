@@ -7,8 +7,8 @@ use borrow.Author.Needs.{needs}
 use mir.Syntax.{w32}
 use mir.ValLaws.{toZ-ofZ}
 use Rattle.rule.specs.Frames.{literal, instance, reference, multiply, Kind, operand, arithmetic, kindOf}
-use Rattle.rule.specs.Sizes.{pushed, topped, sized}
-use Rattle.rule.specs.Stack.{stackOf, Ready}
+use Rattle.rule.specs.Sizes.{pushed, topped, sizesAfter}
+use Rattle.rule.specs.Stack.{stackOf, EnoughSums}
 use Rattle.rule.proofs.FrameKinds.{kind-at, sum-range, relation-at, keeping-low, keeping-14, keeping-27}
 use Rattle.rule.proofs.FrameMagnitudes.{sized-keeping}
 use Rattle.rule.proofs.sizes.size_step.Statement.{statement}
@@ -29,13 +29,13 @@ push-requires-3 c κs = search needs
 product-top-requires : tie.Need-product-top-requires
 product-top-requires c κs =
     let p = c .before .before .pre in
-    (p .0, (p .1 .0, subst (λ (o : Kind). Ready o (c .before .before .args .k)) (kind-at (arithmetic multiply) (c .before .before .args .kind) (c .before .match .keys4)) (p .1 .1 .0)))
+    (p .0, (p .1 .0, subst (λ (o : Kind). EnoughSums o (c .before .before .args .k)) (kind-at (arithmetic multiply) (c .before .before .args .kind) (c .before .match .keys4)) (p .1 .1 .0)))
 
 sum-top-requires : tie.Need-sum-top-requires
 sum-top-requires c κs =
     let p = c .before .before .before .before .pre in
     let a = c .before .before .before .before .args in
-    (p .0, (p .1 .0, (sum-range (λ o. Ready o (a .k) → 2 ≤ a .k) (a .kind) (omega arith) (omega arith) (λ h. h) (λ h. h) (p .1 .1 .0), p .1 .1 .1)))
+    (p .0, (p .1 .0, (sum-range (λ o. EnoughSums o (a .k) → 2 ≤ a .k) (a .kind) (omega arith) (omega arith) (λ h. h) (λ h. h) (p .1 .1 .0), p .1 .1 .1)))
 
 returns : tie.Need-returns
 returns c =
@@ -65,7 +65,7 @@ returns-5 : tie.Need-returns-5
 returns-5 c =
     let a = c .before .before .before .before .before .args in
     let ms = stackOf 0 (a .cells .now) (a .k) in
-    (c .sum-top .ensures .0, c .sum-top .ensures .1 ∙ sum-range (λ o. topped _+_ ms ≡ sized o (a .value) ms) (a .kind) (omega arith) (omega arith) refl refl)
+    (c .sum-top .ensures .0, c .sum-top .ensures .1 ∙ sum-range (λ o. topped _+_ ms ≡ sizesAfter o (a .value) ms) (a .kind) (omega arith) (omega arith) refl refl)
 
 returns-6 : tie.Need-returns-6
 returns-6 c =

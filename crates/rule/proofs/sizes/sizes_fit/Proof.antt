@@ -8,7 +8,7 @@ use borrow.Author.Needs.{sfits-of, needs}
 use mir.Syntax.{w32}
 use mir.ValLaws.{toZ-ofZ}
 use Rattle.rule.specs.Frames.{kindOf, frameCount}
-use Rattle.rule.specs.Sizes.{sized, sizeAt, fits, over, isFits, sizesFit}
+use Rattle.rule.specs.Sizes.{sizesAfter, sizeAt, fits, over, isFits, sizesFit}
 use Rattle.rule.specs.Stack.{stackOf, loaded}
 use Rattle.rule.proofs.FrameMagnitudes.{over-at, size-again}
 use Rattle.rule.proofs.FrameStacks.{size-ready}
@@ -47,7 +47,7 @@ returns c =
     let s = c .before .before .before .before .before .before .before .before .before .args .frames .now in
     let x = c .before .before .before .before .before .frame-at in
     let g = c .before .before .size-step in
-    let v : loaded (g .last .1 .1 .0) (g .result) ≡ sized (kindOf (x .result .kind)) (x .result .value) (stackOf 0 (l .cells) (l .k)) = g .ensures .1 ∙ ap (λ (z : ℤ). sized (kindOf (x .result .kind)) z (stackOf 0 (l .cells) (l .k))) (toZ-ofZ w32 (x .result .value) (sfits-of (c .before .before .before .struct-told .given .1 .1 .1 .1 .0 .1))) in
+    let v : loaded (g .last .1 .1 .0) (g .result) ≡ sizesAfter (kindOf (x .result .kind)) (x .result .value) (stackOf 0 (l .cells) (l .k)) = g .ensures .1 ∙ ap (λ (z : ℤ). sizesAfter (kindOf (x .result .kind)) z (stackOf 0 (l .cells) (l .k))) (toZ-ofZ w32 (x .result .value) (sfits-of (c .before .before .before .struct-told .given .1 .1 .1 .1 .0 .1))) in
     let e : sizeAt s (l .i + 1) ≡ over = size-again s (l .cells) (g .last .1 .1 .0) (l .i) (l .k) (x .result) (g .result) (l .inv .1 .1) (x .ensures) v ∙ ap (loaded (g .last .1 .1 .0)) (c .enum-told .given .1) in
     sym (ap isFits (over-at s (l .i + 1) (frameCount s) (omega arith) e))
 
@@ -63,7 +63,7 @@ loop-again c =
     let s = c .before .before .before .before .before .before .before .before .before .before .args .frames .now in
     let x = c .before .before .before .before .before .before .frame-at in
     let g = c .before .before .before .size-step in
-    let v : loaded (g .last .1 .1 .0) (g .result) ≡ sized (kindOf (x .result .kind)) (x .result .value) (stackOf 0 (l .cells) (l .k)) = g .ensures .1 ∙ ap (λ (z : ℤ). sized (kindOf (x .result .kind)) z (stackOf 0 (l .cells) (l .k))) (toZ-ofZ w32 (x .result .value) (sfits-of (c .before .before .before .before .struct-told .given .1 .1 .1 .1 .0 .1))) in
+    let v : loaded (g .last .1 .1 .0) (g .result) ≡ sizesAfter (kindOf (x .result .kind)) (x .result .value) (stackOf 0 (l .cells) (l .k)) = g .ensures .1 ∙ ap (λ (z : ℤ). sizesAfter (kindOf (x .result .kind)) z (stackOf 0 (l .cells) (l .k))) (toZ-ofZ w32 (x .result .value) (sfits-of (c .before .before .before .before .struct-told .given .1 .1 .1 .1 .0 .1))) in
     (omega arith, (g .ensures .0, size-again s (l .cells) (g .last .1 .1 .0) (l .i) (l .k) (x .result) (g .result) (l .inv .1 .1) (x .ensures) v ∙ ap (loaded (g .last .1 .1 .0)) (c .before .size .given .1)))
 
 returns-2 : tie.Need-returns-2 Inv-loop μ-loop

@@ -8,7 +8,7 @@ use lib.IntN.{pos}
 use Rattle.rule.specs.Frames.{relationAt}
 use Rattle.rule.specs.Stack.{stackOf}
 use Rattle.verdict.specs.Kleene.{truth}
-use Rattle.verdict.specs.Pass.{withConds, related, withRelation}
+use Rattle.verdict.specs.Pass.{withConds, relationTruth, withRelation}
 use Rattle.verdict.specs.Stacks.{passOf}
 use Rattle.verdict.specs.declared.Truth.{Truth}
 use Rattle.verdict.specs.declared.Truth.the-variants.{Unknown}
@@ -35,7 +35,7 @@ returns c =
     let t = c .before .before .of-relation in
     let e = c .put-cond .ensures .1
     ∙ ap (λ (x : Truth). x ∷ p .conds) (t .ensures ∙ ap (λ (h : Bool). cond (a .top .missing) Unknown (truth h)) (rel .ensures .1))
-    ∙ ap (λ (k : ℕ). related ρ (a .top .missing) (stackOf (pos 0) v k) ∷ p .conds) (sym (s .pre .1 .1)) in
+    ∙ ap (λ (k : ℕ). relationTruth ρ (a .top .missing) (stackOf (pos 0) v k) ∷ p .conds) (sym (s .pre .1 .1)) in
     ((rel .ensures .0, c .put-cond .ensures .0), ap (withConds (withRelation p ρ)) e)
 
 pub put-relation-spec : {M : Type 1} → statement M

@@ -8,7 +8,7 @@ use lib.ListN.{getD, length-set}
 use Rattle.rule.specs.Frames.{connectiveAt}
 use Rattle.rule.specs.Build.{top2}
 use Rattle.rule.proofs.Laws.{stack-two, stack-fold}
-use Rattle.verdict.specs.Kleene.{joined}
+use Rattle.verdict.specs.Kleene.{connected}
 use Rattle.verdict.specs.Stacks.{truthOf, truthsOf}
 use Rattle.verdict.specs.declared.Truth.{Truth}
 use Rattle.verdict.proofs.stacks.join_conds.Statement.{statement}
@@ -52,7 +52,7 @@ returns c =
     let st = c .before .before .before .before .before .before in
     let s = st .args .conds .now in
     let k = st .args .c in
-    let f = joined (connectiveAt (st .args .kind)) in
+    let f = connected (connectiveAt (st .args .kind)) in
     let x = truthOf (getD s (k - 2) 0) in
     let y = truthOf (getD s (k - 1) 0) in
     let e : truthOf (c .code .result) ≡ f x y =
