@@ -27,31 +27,30 @@ turn-requires c κs =
     let i = c .before .before .before .before .before .loop .inv in
     record { ready = i .0; full = i .1 .0; held = i .1 .1 .0; space = i .1 .1 .1 .0; room = i .1 .1 .1 .1 .0 }
 
-sub-turns : tie.Need-sub-turns Inv-loop μ-loop
-sub-turns c = search needs
-
-loop-less : tie.Need-loop-less Inv-loop μ-loop
-loop-less c = search needs
-
 loop-again : tie.Need-loop-again Inv-loop μ-loop
 loop-again c =
-    let k = c .before .before .before .before .before .turn .kept .1 .1 in
-    let i = c .before .before .before .before .before .before .before .before .before .before .before .loop .inv .1 .1 .1 in
-    (c .before .before .before .before .before .turn .ensures .0, (c .before .before .before .before .before .turn .ensures .1 .0, (c .before .before .before .before .before .turn .ensures .1 .1, (k .0 ∙ i .0, (k .1 .1 .0 ∙ i .1 .0, (k .0 ∙ i .1 .1 .0, (k .1 .0 ∙ i .1 .1 .1 .0, k .1 .1 .0 ∙ i .1 .1 .1 .1)))))))
+    let at-turn = c .before .before .before .before .before in
+    let at-loop = at-turn .before .before .before .before .before .before in
+    let k = at-turn .turn .kept .1 .1 in
+    let i = at-loop .loop .inv .1 .1 .1 in
+    (at-turn .turn .ensures .0, (at-turn .turn .ensures .1 .0, (at-turn .turn .ensures .1 .1, (k .0 ∙ i .0, (k .1 .1 .0 ∙ i .1 .0, (k .0 ∙ i .1 .1 .0, (k .1 .0 ∙ i .1 .1 .1 .0, k .1 .1 .0 ∙ i .1 .1 .1 .1)))))))
 
 last-requires : tie.Need-last-requires Inv-loop μ-loop
 last-requires c κs =
     let i = c .before .before .before .before .loop .inv in
     record { ready = i .0; full = i .1 .0; held = i .1 .1 .0; space = i .1 .1 .1 .0; room = i .1 .1 .1 .1 .0 }
 
-same-length : tie.Need-same-length Inv-loop μ-loop
-same-length c = search needs
-
 same-length-2 : tie.Need-same-length-2 Inv-loop μ-loop
-same-length-2 c = c .before .before .before .last .kept .1 .1 .1 .0 ∙ c .before .before .before .before .before .before .before .before .loop .inv .1 .1 .1 .1 .1 .1 .0
+same-length-2 c =
+    let at-last = c .before .before .before in
+    let at-loop = at-last .before .before .before .before .before in
+    at-last .last .kept .1 .1 .1 .0 ∙ at-loop .loop .inv .1 .1 .1 .1 .1 .1 .0
 
 same-length-3 : tie.Need-same-length-3 Inv-loop μ-loop
-same-length-3 c = c .before .before .before .last .kept .1 .1 .1 .1 .0 ∙ c .before .before .before .before .before .before .before .before .loop .inv .1 .1 .1 .1 .1 .1 .1
+same-length-3 c =
+    let at-last = c .before .before .before in
+    let at-loop = at-last .before .before .before .before .before in
+    at-last .last .kept .1 .1 .1 .1 .0 ∙ at-loop .loop .inv .1 .1 .1 .1 .1 .1 .1
 
 returns : tie.Need-returns Inv-loop μ-loop
 returns c = c .before .before .before .last .ensures .0
@@ -64,11 +63,11 @@ all-spec =
     μ-loop
     loop-holds
     turn-requires
-    sub-turns
-    loop-less
+    (λ c. search needs)
+    (λ c. search needs)
     loop-again
     last-requires
-    same-length
+    (λ c. search needs)
     same-length-2
     same-length-3
     returns)

@@ -15,23 +15,13 @@ one-line-requires c κs =
     let p = c .before .before .before .before .before .before .before .pre in
     record { ready = p .ready; full = p .full; room = p .room }
 
-same-length : tie.Need-same-length
-same-length c = search needs
-
-same-length-2 : tie.Need-same-length-2
-same-length-2 c = search needs
-
 returns : tie.Need-returns
 returns c =
-    let h : c .before .before .before .before .before .before .before .before .before .before .before .args .r .held ≡ 0 = search needs in
-    let e = c .before .before .before .one-line .ensures in
+    let at-one-line = c .before .before .before in
+    let entry = at-one-line .before .before .before .before .before .before .before .before in
+    let h : entry .args .r .held ≡ 0 = search needs in
+    let e = at-one-line .one-line .ensures in
     (record { ready = e .0 .ready; full = e .0 .full; after = rw h (e .0 .after) }, e .1 ∙ h)
-
-keep-requires : tie.Need-keep-requires
-keep-requires c κs = search needs
-
-slice-reshare-prefix-one-line : tie.Need-slice-reshare-prefix-one-line
-slice-reshare-prefix-one-line c = search needs
 
 slice-aggregate-one-line : tie.Need-slice-aggregate-one-line
 slice-aggregate-one-line c = sym (length-take-le _ _ (search needs))
@@ -41,21 +31,15 @@ one-line-requires-2 c κs =
     let p = c .before .before .before .before .before .before .before .before .before .before .before .before .pre in
     record { ready = p .ready; full = p .full; room = p .room }
 
-same-length-3 : tie.Need-same-length-3
-same-length-3 c = search needs
-
-same-length-4 : tie.Need-same-length-4
-same-length-4 c = search needs
-
-same-length-5 : tie.Need-same-length-5
-same-length-5 c = search needs
-
 returns-2 : tie.Need-returns-2
 returns-2 c =
-    let a = c .before .before .before .before .before .before .before .before .before .before .before .before .before .before .before .before .args in
-    let e = c .before .before .before .one-line2 .ensures in
+    let at-one-line2 = c .before .before .before in
+    let at-keep = at-one-line2 .before .before .before .before .before .before in
+    let entry = at-keep .before .before .before .before .before .before .before in
+    let a = entry .args in
+    let e = at-one-line2 .one-line2 .ensures in
     let l : List ℕ = take (a .r .held) (a .carry .now) ++ a .part .now in
-    let k = c .before .before .before .before .before .before .before .before .before .keep .ensures .1 in
+    let k = at-keep .keep .ensures .1 in
     let t = after-kept (progressOf (a .frames .now) (a .r) (a .window .now) (a .out .now)) l in
     (record { ready = e .0 .ready; full = e .0 .full; after = rw (k, t) at (e .0 .after) }, refl)
 
@@ -64,14 +48,14 @@ ended-spec =
     tie.close
     (tie.spec
     one-line-requires
-    same-length
-    same-length-2
+    (λ c. search needs)
+    (λ c. search needs)
     returns
-    keep-requires
-    slice-reshare-prefix-one-line
+    (λ c κs. search needs)
+    (λ c. search needs)
     slice-aggregate-one-line
     one-line-requires-2
-    same-length-3
-    same-length-4
-    same-length-5
+    (λ c. search needs)
+    (λ c. search needs)
+    (λ c. search needs)
     returns-2)

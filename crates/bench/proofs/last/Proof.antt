@@ -12,8 +12,9 @@ use Rattle.bench.proofs.last.Tie as tie
 
 returns : tie.Need-returns
 returns c =
-    let h : c .before .before .before .before .args .r .held ≡ 0 = search needs in
-    (c .before .before .before .before .pre .full, rw h (after-refl _))
+    let entry = c .before .before .before .before in
+    let h : entry .args .r .held ≡ 0 = search needs in
+    (entry .pre .full, rw h (after-refl _))
 
 slice-aggregate-one-line : tie.Need-slice-aggregate-one-line
 slice-aggregate-one-line c = sym (length-take-le _ _ (search needs))
@@ -23,16 +24,12 @@ one-line-requires c κs =
     let p = c .before .before .before .before .before .before .before .pre in
     record { ready = p .ready; full = p .full; room = p .room }
 
-same-length : tie.Need-same-length
-same-length c = search needs
-
-same-length-2 : tie.Need-same-length-2
-same-length-2 c = search needs
-
 returns-2 : tie.Need-returns-2
 returns-2 c =
-    let l : 0 < length (take (c .before .before .before .before .before .before .before .before .before .before .before .args .r .held) (c .before .before .before .before .before .before .before .before .before .before .before .args .carry .now)) = omega (arith, length-take-le (c .before .before .before .before .before .before .before .before .before .before .before .args .r .held) (c .before .before .before .before .before .before .before .before .before .before .before .args .carry .now) (search needs)) in
-    (c .before .before .before .one-line .ensures .0 .full, rw (last-held _ (take (c .before .before .before .before .before .before .before .before .before .before .before .args .r .held) (c .before .before .before .before .before .before .before .before .before .before .before .args .carry .now)) l) (c .before .before .before .one-line .ensures .0 .after))
+    let at-one-line = c .before .before .before in
+    let entry = at-one-line .before .before .before .before .before .before .before .before in
+    let l : 0 < length (take (entry .args .r .held) (entry .args .carry .now)) = omega (arith, length-take-le (entry .args .r .held) (entry .args .carry .now) (search needs)) in
+    (at-one-line .one-line .ensures .0 .full, rw (last-held _ (take (entry .args .r .held) (entry .args .carry .now)) l) (at-one-line .one-line .ensures .0 .after))
 
 pub last-spec : {M : Type 1} → statement M
 last-spec =
@@ -41,6 +38,6 @@ last-spec =
     returns
     slice-aggregate-one-line
     one-line-requires
-    same-length
-    same-length-2
+    (λ c. search needs)
+    (λ c. search needs)
     returns-2)

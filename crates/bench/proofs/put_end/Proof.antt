@@ -9,24 +9,18 @@ use Rattle.bench.proofs.RunLaws.{ends-more}
 use Rattle.bench.proofs.put_end.Statement.{statement}
 use Rattle.bench.proofs.put_end.Tie as tie
 
-make-room-requires : tie.Need-make-room-requires
-make-room-requires c κs = search needs
-
-put-totals-requires : tie.Need-put-totals-requires
-put-totals-requires c κs = search needs
-
-same-length : tie.Need-same-length
-same-length c = search needs
-
 returns : tie.Need-returns
 returns c =
-    let t = c .before .before .before .before .before .before .before .before .before .before .args .r .fields .totals in
-    let n = c .before .before .before .before .before .before .before .before .before .before .args .r .counts in
+    let at-put-totals = c .before .before in
+    let at-make-room = at-put-totals .before .before in
+    let entry = at-make-room .before .before .before .before .before .before in
+    let t = entry .args .r .fields .totals in
+    let n = entry .args .r .counts in
     let l : length (totalsLine t n) ≡ 49 = line-length (totalsBytes t n) in (
-      omega (arith, c .before .before .put-totals .ensures .0, c .before .before .before .before .make-room .ensures .0),
-      ends-more (c .before .before .before .before .before .before .before .before .before .before .args .out .now) _ (c .before .before .before .before .before .before .before .before .before .before .args .r .full) (c .before .before .before .before .make-room .result) (c .before .before .put-totals .result) (totalsLine t n) (c .before .before .before .before .make-room .ensures .1) (c .before .before .put-totals .ensures .1)
-          (omega (arith, c .before .before .before .before .make-room .ensures .0, c .before .before .before .before .before .before .before .before .before .before .pre .1)) (c .before .before .put-totals .ensures .0 ∙ omega arith),
+      omega (arith, at-put-totals .put-totals .ensures .0, at-make-room .make-room .ensures .0),
+      ends-more (entry .args .out .now) _ (entry .args .r .full) (at-make-room .make-room .result) (at-put-totals .put-totals .result) (totalsLine t n) (at-make-room .make-room .ensures .1) (at-put-totals .put-totals .ensures .1)
+          (omega (arith, at-make-room .make-room .ensures .0, entry .pre .1)) (at-put-totals .put-totals .ensures .0 ∙ omega arith),
     )
 
 pub put-end-spec : {M : Type 1} → statement M
-put-end-spec = tie.close (tie.spec make-room-requires put-totals-requires same-length returns)
+put-end-spec = tie.close (tie.spec (λ c κs. search needs) (λ c κs. search needs) (λ c. search needs) returns)

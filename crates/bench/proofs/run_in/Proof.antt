@@ -7,41 +7,18 @@ use borrow.Author.Needs.{needs}
 use Rattle.bench.proofs.run_in.Statement.{statement}
 use Rattle.bench.proofs.run_in.Tie as tie
 
-open-requires : tie.Need-open-requires
-open-requires c κs = search needs
-
-enum-told : tie.Need-enum-told
-enum-told c = search needs
-
-fields-of-requires : tie.Need-fields-of-requires
-fields-of-requires c κs = search needs
-
 run-with-requires : tie.Need-run-with-requires
 run-with-requires c κs =
-    let o = c .before .before .before .before .before .before .before .before .before .«open» in
-    let a = c .before .before .before .before .before .before .before .before .before .before .before .before .args in
-    let f = c .before .before .before .before .fields-of in
-    let b = bytes-by (a .frames .now) (λ i h. c .before .before .before .before .before .before .before .before .before .before .before .shared-slice-known .given i .fits) in
-    let t = ap openTold (c .before .before .before .before .before .enum-told .given .1) in
+    let at-fields-of = c .before .before .before .before in
+    let at-enum-told = at-fields-of .before in
+    let at-shared-slice-known = at-enum-told .before .before .before .before .before .before in
+    let entry = at-shared-slice-known .before in
+    let o = at-enum-told .before .before .before .before .«open» in
+    let a = entry .args in
+    let f = at-fields-of .fields-of in
+    let b = bytes-by (a .frames .now) (λ i h. at-shared-slice-known .shared-slice-known .given i .fits) in
+    let t = ap openTold (at-enum-told .enum-told .given .1) in
     ready-opened (a .frames .now) (o .result .state .frames) 64 (a .window .now) (o .result) _ (f .result) b t (search needs) (f .ensures) (o .ensures)
 
-enum-known-answer : tie.Need-enum-known-answer
-enum-known-answer c = search needs
-
-say-refused-requires : tie.Need-say-refused-requires
-say-refused-requires c κs = search needs
-
-same-length : tie.Need-same-length
-same-length c = search needs
-
-returns : tie.Need-returns
-returns c = search needs
-
-same-length-2 : tie.Need-same-length-2
-same-length-2 c = search needs
-
-returns-2 : tie.Need-returns-2
-returns-2 c = search needs
-
 pub run-in-spec : {M : Type 1} → statement M
-run-in-spec = tie.close (tie.spec open-requires enum-told fields-of-requires run-with-requires enum-known-answer say-refused-requires same-length returns same-length-2 returns-2)
+run-in-spec = tie.close (tie.spec (λ c κs. search needs) (λ c. search needs) (λ c κs. search needs) run-with-requires (λ c. search needs) (λ c κs. search needs) (λ c. search needs) (λ c. search needs) (λ c. search needs) (λ c. search needs))

@@ -15,19 +15,11 @@ all-requires c κs =
     record { ready = e .0 .ready; full = e .0 .full; held = search needs; space = search needs; room = search needs }
 
 finish-requires : tie.Need-finish-requires
-finish-requires c κs = (c .before .before .before .before .before .before .all .ensures, c .before .before .before .before .before .before .all .kept .1 .1 .1 .1 .0 ∙ c .before .before .before .before .before .before .before .before .before .before .before .before .pull-all .kept .1 .1 .1 .0 ∙ c .before .before .before .before .before .before .before .before .before .before .before .before .before .before .before .before .before .before .pre .1 .1)
-
-same-length : tie.Need-same-length
-same-length c = search needs
-
-same-length-2 : tie.Need-same-length-2
-same-length-2 c = search needs
-
-same-length-3 : tie.Need-same-length-3
-same-length-3 c = search needs
-
-returns : tie.Need-returns
-returns c = search needs
+finish-requires c κs =
+    let at-all = c .before .before .before .before .before .before in
+    let at-pull-all = at-all .before .before .before .before .before .before in
+    let entry = at-pull-all .before .before .before .before .before .before in
+    (at-all .all .ensures, at-all .all .kept .1 .1 .1 .1 .0 ∙ at-pull-all .pull-all .kept .1 .1 .1 .0 ∙ entry .pre .1 .1)
 
 pub run-log-spec : {M : Type 1} → statement M
-run-log-spec = tie.close (tie.spec pull-all-requires all-requires finish-requires same-length same-length-2 same-length-3 returns)
+run-log-spec = tie.close (tie.spec pull-all-requires all-requires finish-requires (λ c. search needs) (λ c. search needs) (λ c. search needs) (λ c. search needs))

@@ -7,19 +7,16 @@ use Rattle.bench.proofs.step.feed_line.Statement.{statement}
 use Rattle.bench.proofs.step.feed_line.Tie as tie
 
 feed-admitted-requires : tie.Need-feed-admitted-requires
-feed-admitted-requires c κs = c .before .before .before .before .pre
-
-counted-requires : tie.Need-counted-requires
-counted-requires c κs = search needs
-
-same-length : tie.Need-same-length
-same-length c = search needs
+feed-admitted-requires c κs =
+    let entry = c .before .before .before .before in
+    entry .pre
 
 returns : tie.Need-returns
 returns c =
-    let p = c .before .before .before .before .before .before .before .before .before in
+    let at-feed-admitted = c .before .before .before .before in
+    let p = at-feed-admitted .before .before .before .before .before in
     let a = p .args in
-    let f = c .before .before .before .before .feed-admitted in
+    let f = at-feed-admitted .feed-admitted in
     let s = ap (λ (x : FeedResult). x .state) (f .ensures) in
     let w = ap (λ (x : FeedResult). x .words) (f .ensures) in (
       ready-fed (a .frames .now) (a .r .fields) (f .result .fields) (a .window .now) _ (a .line .now) (p .pre) s w,
@@ -27,4 +24,4 @@ returns c =
     )
 
 pub feed-line-spec : {M : Type 1} → statement M
-feed-line-spec = tie.close (tie.spec feed-admitted-requires counted-requires same-length returns)
+feed-line-spec = tie.close (tie.spec feed-admitted-requires (λ c κs. search needs) (λ c. search needs) returns)

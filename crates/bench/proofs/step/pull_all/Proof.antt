@@ -29,29 +29,20 @@ pull-once-requires c κs =
     let i = c .before .before .before .loop .inv in
     record { ready = i .0; full = i .1 .0; room = i .1 .1 .1 .0 }
 
-sub-left : tie.Need-sub-left Inv-loop μ-loop
-sub-left c = search needs
-
-loop-less : tie.Need-loop-less Inv-loop μ-loop
-loop-less c = search needs
-
 loop-again : tie.Need-loop-again Inv-loop μ-loop
 loop-again c =
-    let e = c .before .before .pull-once .ensures in
-    let i = c .before .before .before .before .before .before .loop .inv .1 in
-    let p = rw (c .before .before .before .before .if1 .taken) at (c .before .before .before .before .before .before .loop .inv .1 .1 .1 .1) in
-    (e .0 .ready, (e .0 .full, (e .1 .0 ∙ i .1 .0, (search needs, pull-next _ _ _ (c .before .before .before .before .before .before .loop .left) _ (omega arith) p (e .0 .after) (e .1 .1)))))
-
-same-length : tie.Need-same-length Inv-loop μ-loop
-same-length c = search needs
+    let at-pull-once = c .before .before in
+    let at-if1 = at-pull-once .before .before in
+    let at-loop = at-if1 .before .before in
+    let e = at-pull-once .pull-once .ensures in
+    let i = at-loop .loop .inv .1 in
+    let p = rw (at-if1 .if1 .taken) at (at-loop .loop .inv .1 .1 .1 .1) in
+    (e .0 .ready, (e .0 .full, (e .1 .0 ∙ i .1 .0, (search needs, pull-next _ _ _ (at-loop .loop .left) _ (omega arith) p (e .0 .after) (e .1 .1)))))
 
 returns : tie.Need-returns Inv-loop μ-loop
 returns c =
     let i = c .before .before .loop .inv in
     (record { ready = i .0; full = i .1 .0; after = rw (c .if1 .left) at (i .1 .1 .1 .1) }, i .1 .1 .0)
-
-same-length-2 : tie.Need-same-length-2 Inv-loop μ-loop
-same-length-2 c = search needs
 
 returns-2 : tie.Need-returns-2 Inv-loop μ-loop
 returns-2 c =
@@ -67,10 +58,10 @@ pull-all-spec =
     μ-loop
     loop-holds
     pull-once-requires
-    sub-left
-    loop-less
+    (λ c. search needs)
+    (λ c. search needs)
     loop-again
-    same-length
+    (λ c. search needs)
     returns
-    same-length-2
+    (λ c. search needs)
     returns-2)

@@ -23,7 +23,11 @@ frame-at-requires : tie.Need-frame-at-requires Inv-loop μ-loop
 frame-at-requires c κs = omega arith
 
 lower-by-requires : tie.Need-lower-by-requires Inv-loop μ-loop
-lower-by-requires c κs = (startable (c .before .before .before .before .before .args .frames .now) (c .before .before .before .before .before .args .p .0) (c .before .before .before .loop .k) (c .before .before .before .before .before .pre) (omega arith) (c .before .frame-at .result) (c .before .frame-at .ensures), c .before .before .before .loop .inv .1 .0)
+lower-by-requires c κs =
+    let at-frame-at = c .before in
+    let at-loop = at-frame-at .before .before in
+    let entry = at-loop .before .before in
+    (startable (entry .args .frames .now) (entry .args .p .0) (at-loop .loop .k) (entry .pre) (omega arith) (at-frame-at .frame-at .result) (at-frame-at .frame-at .ensures), at-loop .loop .inv .1 .0)
 
 add-k : tie.Need-add-k Inv-loop μ-loop
 add-k c = omega arith
@@ -32,13 +36,19 @@ loop-less : tie.Need-loop-less Inv-loop μ-loop
 loop-less c = omega arith
 
 loop-again : tie.Need-loop-again Inv-loop μ-loop
-loop-again c = (omega arith, (c .lower-by .ensures .0, bases-next (c .before .before .before .before .before .before .args .frames .now) (c .before .before .before .before .before .before .args .p .0) (c .before .before .before .before .loop .k) (c .before .before .frame-at .result) (c .before .before .frame-at .ensures) (c .before .before .before .before .loop .out) _ (c .before .before .before .before .loop .inv .1 .1) (c .lower-by .ensures .1)))
+loop-again c =
+    let at-frame-at = c .before .before in
+    let at-loop = at-frame-at .before .before in
+    let entry = at-loop .before .before in
+    (omega arith, (c .lower-by .ensures .0, bases-next (entry .args .frames .now) (entry .args .p .0) (at-loop .loop .k) (at-frame-at .frame-at .result) (at-frame-at .frame-at .ensures) (at-loop .loop .out) _ (at-loop .loop .inv .1 .1) (c .lower-by .ensures .1)))
 
 returns : tie.Need-returns Inv-loop μ-loop
 unfolding basesOf
 returns c =
-    let e : c .before .loop .k ≡ frameCount (c .before .before .before .args .frames .now) = omega arith in
-    c .before .loop .inv .1 .1 ∙ ap (basesTo (c .before .before .before .args .frames .now) (c .before .before .before .args .p .0)) e
+    let at-loop = c .before in
+    let entry = at-loop .before .before in
+    let e : at-loop .loop .k ≡ frameCount (entry .args .frames .now) = omega arith in
+    at-loop .loop .inv .1 .1 ∙ ap (basesTo (entry .args .frames .now) (entry .args .p .0)) e
 
 pub bases-spec : {M : Type 1} → statement M
 bases-spec = tie.close (tie.spec Inv-loop μ-loop loop-holds frame-at-requires lower-by-requires add-k loop-less loop-again returns)

@@ -14,15 +14,6 @@ use Rattle.checker.specs.Base.{orZero}
 use Rattle.checker.proofs.base.lower.Statement.{statement}
 use Rattle.checker.proofs.base.lower.Tie as tie
 
-occurrence-of-requires : tie.Need-occurrence-of-requires
-occurrence-of-requires c κs = search needs
-
-enum-told : tie.Need-enum-told
-enum-told c = search needs
-
-enum-known-meant : tie.Need-enum-known-meant
-enum-known-meant c = search needs
-
 -- the lower by what is meant, whose offset the code carries in 32 bits
 by-meant : (low n p factor : ℕ) (offset : ℤ) (m : Meant) → SFits w32 offset → m ≡ meantBy (occurrence factor (toZ w32 (ofZ w32 offset)) p)
     → n ≡ min low (orZero m) → n ≡ min low (orZero (meantBy (occurrence factor offset p)))
@@ -31,26 +22,31 @@ by-meant low n p factor offset m f e h =
 
 returns : tie.Need-returns
 returns c =
-    let s = c .before .before .before in
+    let at-occurrence-of = c .before .before in
+    let s = at-occurrence-of .before in
     let a = s .args in
     by-meant (a .low) 0 (a .p .0) (a .factor) (a .offset) Void (s .fits .offset)
-    (sym (c .enum-told .given .1) ∙ c .before .before .occurrence-of .ensures) (omega arith)
+    (sym (c .enum-told .given .1) ∙ at-occurrence-of .occurrence-of .ensures) (omega arith)
 
 returns-2 : tie.Need-returns-2
 returns-2 c =
-    let s = c .before .before .before .before .before .before in
+    let at-meant = c .before .before .before in
+    let at-occurrence-of = at-meant .before .before in
+    let s = at-occurrence-of .before in
     let a = s .args in
-    let k = c .before .before .before .meant .given in
+    let k = at-meant .meant .given in
     by-meant (a .low) (k .0 .0 .0) (a .p .0) (a .factor) (a .offset) (At (k .0 .0)) (s .fits .offset)
-    (sym (k .1) ∙ c .before .before .before .before .before .occurrence-of .ensures) (omega arith)
+    (sym (k .1) ∙ at-occurrence-of .occurrence-of .ensures) (omega arith)
 
 returns-3 : tie.Need-returns-3
 returns-3 c =
-    let s = c .before .before .before .before .before .before in
+    let at-meant = c .before .before .before in
+    let at-occurrence-of = at-meant .before .before in
+    let s = at-occurrence-of .before in
     let a = s .args in
-    let k = c .before .before .before .meant .given in
+    let k = at-meant .meant .given in
     by-meant (a .low) (a .low) (a .p .0) (a .factor) (a .offset) (At (k .0 .0)) (s .fits .offset)
-    (sym (k .1) ∙ c .before .before .before .before .before .occurrence-of .ensures) (omega arith)
+    (sym (k .1) ∙ at-occurrence-of .occurrence-of .ensures) (omega arith)
 
 pub lower-spec : {M : Type 1} → statement M
-lower-spec = tie.close (tie.spec occurrence-of-requires enum-told enum-known-meant returns returns-2 returns-3)
+lower-spec = tie.close (tie.spec (λ c κs. search needs) (λ c. search needs) (λ c. search needs) returns returns-2 returns-3)

@@ -9,22 +9,10 @@ use Rattle.checker.proofs.Charges.{rise-facts, charged-by, turned-28, t
 use Rattle.checker.proofs.charging.charge.Statement.{statement}
 use Rattle.checker.proofs.charging.charge.Tie as tie
 
-bands-fit-requires : tie.Need-bands-fit-requires
-bands-fit-requires c κs = search needs
-
 prices-fit-requires : tie.Need-prices-fit-requires
 prices-fit-requires c κs =
     let b = c .before in
     rise-facts (b .before .args .tariff) (sym (b .bands-fit .ensures) ∙ c .if1 .taken) .few
-
-fields-of-requires : tie.Need-fields-of-requires
-fields-of-requires c κs = search needs
-
-slice-aggregate-state-passes : tie.Need-slice-aggregate-state-passes
-slice-aggregate-state-passes c = search needs
-
-state-passes-requires : tie.Need-state-passes-requires
-state-passes-requires c κs = search needs
 
 cents-requires : tie.Need-cents-requires
 cents-requires c κs =
@@ -36,15 +24,6 @@ cents-requires c κs =
     let prices : pricesFit (a .tariff) ≡ true = sym (p .prices-fit .ensures) ∙ r .before .before .if2 .taken in
     let good : statePasses (a .state) ≡ true = sym (ap statePasses (r .fields-of .ensures)) ∙ sym (c .before .state-passes .ensures .0) ∙ c .if3 .taken in
     (bands, (prices, omega (arith, failed-most (a .state) good)))
-
-refuse-requires : tie.Need-refuse-requires
-refuse-requires c κs = search needs
-
-refuse-requires-2 : tie.Need-refuse-requires-2
-refuse-requires-2 c κs = search needs
-
-refuse-requires-3 : tie.Need-refuse-requires-3
-refuse-requires-3 c κs = search needs
 
 -- charged
 returns : tie.Need-returns
@@ -94,15 +73,15 @@ pub charge-spec : {M : Type 1} → statement M
 charge-spec =
     tie.close
     (tie.spec
-    bands-fit-requires
+    (λ c κs. search needs)
     prices-fit-requires
-    fields-of-requires
-    slice-aggregate-state-passes
-    state-passes-requires
+    (λ c κs. search needs)
+    (λ c. search needs)
+    (λ c κs. search needs)
     cents-requires
-    refuse-requires
-    refuse-requires-2
-    refuse-requires-3
+    (λ c κs. search needs)
+    (λ c κs. search needs)
+    (λ c κs. search needs)
     returns
     returns-2
     returns-3

@@ -7,34 +7,22 @@ use Rattle.checker.proofs.CodeFeed.{fed-whole}
 use Rattle.checker.proofs.feeding.feed.Statement.{statement}
 use Rattle.checker.proofs.feeding.feed.Tie as tie
 
-fields-of-requires : tie.Need-fields-of-requires
-fields-of-requires c κs = search needs
-
-slice-aggregate-feed-parts : tie.Need-slice-aggregate-feed-parts
-slice-aggregate-feed-parts c = search needs
-
-feed-parts-requires : tie.Need-feed-parts-requires
-feed-parts-requires c κs = search needs
-
-with-fields-requires : tie.Need-with-fields-requires
-with-fields-requires c κs = search needs
-
-same-length : tie.Need-same-length
-same-length c = search needs
-
 returns : tie.Need-returns
 returns c =
-    let a = c .before .before .before .before .before .before .before .before .before .args in
-    let s = ap (λ (x : State). feedDef x (a .window .now) (a .line .now)) (c .before .before .before .before .before .before .fields-of .ensures) in
-    fed-whole (c .before .before .before .feed-parts .result) (c .with-fields .result) (feedDef (a .state) (a .window .now) (a .line .now)) (c .with-fields .ensures) (c .before .before .before .feed-parts .ensures ∙ s)
+    let at-feed-parts = c .before .before .before in
+    let at-fields-of = at-feed-parts .before .before .before in
+    let entry = at-fields-of .before .before .before in
+    let a = entry .args in
+    let s = ap (λ (x : State). feedDef x (a .window .now) (a .line .now)) (at-fields-of .fields-of .ensures) in
+    fed-whole (at-feed-parts .feed-parts .result) (c .with-fields .result) (feedDef (a .state) (a .window .now) (a .line .now)) (c .with-fields .ensures) (at-feed-parts .feed-parts .ensures ∙ s)
 
 pub feed-spec : {M : Type 1} → statement M
 feed-spec =
     tie.close
     (tie.spec
-    fields-of-requires
-    slice-aggregate-feed-parts
-    feed-parts-requires
-    with-fields-requires
-    same-length
+    (λ c κs. search needs)
+    (λ c. search needs)
+    (λ c κs. search needs)
+    (λ c κs. search needs)
+    (λ c. search needs)
     returns)

@@ -7,9 +7,6 @@ use Rattle.checker.proofs.CodeStateTest.{ready-facts}
 use Rattle.checker.proofs.feeding.feed_admitted.Statement.{statement}
 use Rattle.checker.proofs.feeding.feed_admitted.Tie as tie
 
-cast-n : tie.Need-cast-n
-cast-n c = search needs
-
 mul-n : tie.Need-mul-n
 mul-n c = omega (arith, ready-facts (c .before .before .before .pre) .few)
 
@@ -20,14 +17,14 @@ slice-aggregate-bases c =
 
 bases-requires : tie.Need-bases-requires
 bases-requires c κs =
-    let f = ready-facts (c .before .before .before .before .before .pre) in
+    let entry = c .before .before .before .before .before in
+    let f = ready-facts (entry .pre) in
     record { accepted = f .accepted; instance-in = f .totals .low }
 
 feed-with-requires : tie.Need-feed-with-requires
-feed-with-requires c κs = (c .before .before .before .before .before .before .before .pre, c .before .bases .ensures)
-
-same-length : tie.Need-same-length
-same-length c = search needs
+feed-with-requires c κs =
+    let entry = c .before .before .before .before .before .before .before in
+    (entry .pre, c .before .bases .ensures)
 
 returns : tie.Need-returns
 returns c = c .before .feed-with .ensures
@@ -36,10 +33,10 @@ pub feed-admitted-spec : {M : Type 1} → statement M
 feed-admitted-spec =
     tie.close
     (tie.spec
-    cast-n
+    (λ c. search needs)
     mul-n
     slice-aggregate-bases
     bases-requires
     feed-with-requires
-    same-length
+    (λ c. search needs)
     returns)

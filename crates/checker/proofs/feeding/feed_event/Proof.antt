@@ -16,74 +16,56 @@ use Rattle.checker.proofs.CodeFeed.{some-in, high-skipped, none-skipped
 use Rattle.checker.proofs.feeding.feed_event.Statement.{statement}
 use Rattle.checker.proofs.feeding.feed_event.Tie as tie
 
-ignore-requires : tie.Need-ignore-requires
-ignore-requires c κs = search needs
-
 returns : tie.Need-returns
 returns c =
-    let p = c .before .before .before in
+    let at-shared-slice-known = c .before .before in
+    let p = at-shared-slice-known .before in
     let a = p .args in
     let s : State = stateOf (a .frames .now) (a .t2) in
-    let b : Bytes (stateFrames s) = bytes-take (s .len * 8) (s .frames) (λ i. c .before .before .shared-slice-known .given i .fits) in
+    let b : Bytes (stateFrames s) = bytes-take (s .len * 8) (s .frames) (λ i. at-shared-slice-known .shared-slice-known .given i .fits) in
     let g = in-good s (a .window .now) (p .pre .0 .let-in) in
     ignored-as (a .frames .now) (a .t2) (a .window .now) (c .ignore .result) _ (c .ignore .ensures) (high-skipped s b g (a .t3) (p .pre .1) (a .event) (notesOf (a .notes)) (c .before .if1 .taken))
 
-mul-low : tie.Need-mul-low
-mul-low c = search needs
-
-array-read-low : tie.Need-array-read-low
-array-read-low c = search needs
-
-ignore-requires-2 : tie.Need-ignore-requires-2
-ignore-requires-2 c κs = search needs
-
 returns-2 : tie.Need-returns-2
 returns-2 c =
-    let p = c .before .before .before .before in
+    let at-if1 = c .before .before in
+    let at-shared-slice-known = at-if1 .before in
+    let p = at-shared-slice-known .before in
     let a = p .args in
     let s : State = stateOf (a .frames .now) (a .t2) in
-    let b : Bytes (stateFrames s) = bytes-take (s .len * 8) (s .frames) (λ i. c .before .before .before .shared-slice-known .given i .fits) in
+    let b : Bytes (stateFrames s) = bytes-take (s .len * 8) (s .frames) (λ i. at-shared-slice-known .shared-slice-known .given i .fits) in
     let g = in-good s (a .window .now) (p .pre .0 .let-in) in
-    ignored-as (a .frames .now) (a .t2) (a .window .now) (c .ignore2 .result) _ (c .ignore2 .ensures) (none-skipped s b g (a .t3) (p .pre .1) (a .event) (notesOf (a .notes)) (c .before .before .if1 .left) (c .before .if2 .taken))
-
-mul-c : tie.Need-mul-c
-mul-c c = search needs
-
-element-copy-out-c : tie.Need-element-copy-out-c
-element-copy-out-c c = search needs
-
-refuse-requires : tie.Need-refuse-requires
-refuse-requires c κs = search needs
+    ignored-as (a .frames .now) (a .t2) (a .window .now) (c .ignore2 .result) _ (c .ignore2 .ensures) (none-skipped s b g (a .t3) (p .pre .1) (a .event) (notesOf (a .notes)) (at-if1 .if1 .left) (c .before .if2 .taken))
 
 returns-3 : tie.Need-returns-3
 returns-3 c =
-    let p = c .before .before .before .before .before .before in
+    let at-shared-slice-known = c .before .before .before .before .before in
+    let p = at-shared-slice-known .before in
     let a = p .args in
     let s : State = stateOf (a .frames .now) (a .t2) in
-    let b : Bytes (stateFrames s) = bytes-take (s .len * 8) (s .frames) (λ i. c .before .before .before .before .before .shared-slice-known .given i .fits) in
+    let b : Bytes (stateFrames s) = bytes-take (s .len * 8) (s .frames) (λ i. at-shared-slice-known .shared-slice-known .given i .fits) in
     let g = in-good s (a .window .now) (p .pre .0 .let-in) in
     let k = c .before .before .before in
     refused-as (a .frames .now) (a .t2) (a .window .now) (c .refuse .result) _ 16 0 (c .refuse .ensures) (many-turned s b g (a .t3) (p .pre .1) (a .event) (notesOf (a .notes)) (k .before .if1 .left) (k .if2 .left) (c .before .if3 .taken))
 
 add-if4 : tie.Need-add-if4
 add-if4 c =
-    let p = c .before .before .before .before .before in
+    let at-shared-slice-known = c .before .before .before .before in
+    let p = at-shared-slice-known .before in
     let a = p .args in
     let s : State = stateOf (a .frames .now) (a .t2) in
-    let b : Bytes (stateFrames s) = bytes-take (s .len * 8) (s .frames) (λ i. c .before .before .before .before .shared-slice-known .given i .fits) in
+    let b : Bytes (stateFrames s) = bytes-take (s .len * 8) (s .frames) (λ i. at-shared-slice-known .shared-slice-known .given i .fits) in
     let g = in-good s (a .window .now) (p .pre .0 .let-in) in
     let k = c .before .before in
     omega (arith, some-in s b g (a .t3) (p .pre .1) (a .event) (k .before .if1 .left) (k .if2 .left) .1 .1, good-facts s g .most)
 
-refuse-requires-2 : tie.Need-refuse-requires-2
-refuse-requires-2 c κs = search needs
-
 returns-4 : tie.Need-returns-4
 returns-4 c =
-    let p = c .before .before .before .before .before .before .before in
+    let at-shared-slice-known = c .before .before .before .before .before .before in
+    let p = at-shared-slice-known .before in
     let a = p .args in
     let s : State = stateOf (a .frames .now) (a .t2) in
-    let b : Bytes (stateFrames s) = bytes-take (s .len * 8) (s .frames) (λ i. c .before .before .before .before .before .before .shared-slice-known .given i .fits) in
+    let b : Bytes (stateFrames s) = bytes-take (s .len * 8) (s .frames) (λ i. at-shared-slice-known .shared-slice-known .given i .fits) in
     let g = in-good s (a .window .now) (p .pre .0 .let-in) in
     let n = c .before .before in
     let k = n .before .before in
@@ -102,41 +84,41 @@ with-line-requires c κs =
     let n = c .before .before .before .before in
     (n .before .before .before .if1 .left, n .if3 .left)
 
-same-length : tie.Need-same-length
-same-length c = search needs
-
 returns-5 : tie.Need-returns-5
 returns-5 c =
-    let p = c .before .before .before .before .before .before .before .before .before .before in
+    let at-keep = c .before .before in
+    let at-if4 = at-keep .before .before in
+    let at-shared-slice-known = at-if4 .before .before .before .before .before in
+    let p = at-shared-slice-known .before in
     let a = p .args in
     let s : State = stateOf (a .frames .now) (a .t2) in
-    let b : Bytes (stateFrames s) = bytes-take (s .len * 8) (s .frames) (λ i. c .before .before .before .before .before .before .before .before .before .shared-slice-known .given i .fits) in
+    let b : Bytes (stateFrames s) = bytes-take (s .len * 8) (s .frames) (λ i. at-shared-slice-known .shared-slice-known .given i .fits) in
     let g = in-good s (a .window .now) (p .pre .0 .let-in) in
-    let n = c .before .before .before .before .before in
+    let n = at-if4 .before in
     let k = n .before .before in
     let l = some-in s b g (a .t3) (p .pre .1) (a .event) (k .before .if1 .left) (k .if2 .left) .1 .0 in
-    let t = room-taken s b g (a .t3) (p .pre .1) (a .event) (notesOf (a .notes)) (k .before .if1 .left) (k .if2 .left) (n .if3 .left) (c .before .before .before .before .if4 .left) in
-    let w = c .before .before .keep .ensures ∙ ap (λ (x : ℕ). kept (a .window .now) (s .width) (a .event) x (getD (s .counts) (a .event) 0) (notesOf (a .notes))) l in
+    let t = room-taken s b g (a .t3) (p .pre .1) (a .event) (notesOf (a .notes)) (k .before .if1 .left) (k .if2 .left) (n .if3 .left) (at-if4 .if4 .left) in
+    let w = at-keep .keep .ensures ∙ ap (λ (x : ℕ). kept (a .window .now) (s .width) (a .event) x (getD (s .counts) (a .event) 0) (notesOf (a .notes))) l in
     taken-as (a .frames .now) (a .t2) (c .with-line .result) (a .window .now) _ _ (a .event) (notesOf (a .notes)) t (c .with-line .ensures (a .frames .now)) w
 
 pub feed-event-spec : {M : Type 1} → statement M
 feed-event-spec =
     tie.close
     (tie.spec
-    ignore-requires
+    (λ c κs. search needs)
     returns
-    mul-low
-    array-read-low
-    ignore-requires-2
+    (λ c. search needs)
+    (λ c. search needs)
+    (λ c κs. search needs)
     returns-2
-    mul-c
-    element-copy-out-c
-    refuse-requires
+    (λ c. search needs)
+    (λ c. search needs)
+    (λ c κs. search needs)
     returns-3
     add-if4
-    refuse-requires-2
+    (λ c κs. search needs)
     returns-4
     keep-requires
     with-line-requires
-    same-length
+    (λ c. search needs)
     returns-5)

@@ -8,33 +8,25 @@ use Rattle.checker.proofs.CodeFeed.{refused-as}
 use Rattle.checker.proofs.feeding.feed_parts.Statement.{statement}
 use Rattle.checker.proofs.feeding.feed_parts.Tie as tie
 
-admit-requires : tie.Need-admit-requires
-admit-requires c κs = search needs
-
 feed-with-requires : tie.Need-feed-with-requires
 feed-with-requires c κs =
-    let t = c .before .before .before .before .admit in
-    let z = c .before .before .if1 .taken in
-    let p = c .before .before .before .before .before .before .before .before in
+    let at-if1 = c .before .before in
+    let at-admit = at-if1 .before .before in
+    let t = at-admit .admit in
+    let z = at-if1 .if1 .taken in
+    let p = at-admit .before .before .before .before in
     let a = p .args in
     (record { long = p .pre; let-in = none-barred (stateOf (a .frames .now) (a .fields)) (a .window .now) (sym (t .ensures .0) ∙ z) }, t .ensures .1 z)
-
-refuse-requires : tie.Need-refuse-requires
-refuse-requires c κs = search needs
-
-same-length : tie.Need-same-length
-same-length c = search needs
 
 returns : tie.Need-returns
 returns c = c .before .feed-with .ensures
 
-same-length-2 : tie.Need-same-length-2
-same-length-2 c = search needs
-
 returns-2 : tie.Need-returns-2
 returns-2 c =
-    let t = c .before .before .before .admit in
-    let a = c .before .before .before .before .before .before .before .args in
+    let at-admit = c .before .before .before in
+    let entry = at-admit .before .before .before .before in
+    let t = at-admit .admit in
+    let a = entry .args in
     refused-as (a .frames .now) (a .fields) (a .window .now) (c .refuse .result) (turned (t .result .number) 0) (t .result .number) 0 (c .refuse .ensures) refl
     ∙ feed-barred (stateOf (a .frames .now) (a .fields)) (a .window .now) (a .line .now) (t .result .number) (t .ensures .0) (c .before .if1 .left)
 
@@ -42,10 +34,10 @@ pub feed-parts-spec : {M : Type 1} → statement M
 feed-parts-spec =
     tie.close
     (tie.spec
-    admit-requires
+    (λ c κs. search needs)
     feed-with-requires
-    refuse-requires
-    same-length
+    (λ c κs. search needs)
+    (λ c. search needs)
     returns
-    same-length-2
+    (λ c. search needs)
     returns-2)

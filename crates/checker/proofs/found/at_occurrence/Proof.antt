@@ -13,9 +13,6 @@ use native.Mathlib.Omega.{arith}
 use Rattle.checker.proofs.found.at_occurrence.Statement.{statement}
 use Rattle.checker.proofs.found.at_occurrence.Tie as tie
 
-word-requires : tie.Need-word-requires
-word-requires c κs = search needs
-
 mul-t10 : tie.Need-mul-t10
 mul-t10 c =
     let s = c .before .before .before in
@@ -30,10 +27,12 @@ shared-slice-copy-out-t12 c =
 
 returns : tie.Need-returns
 returns c =
-    let a = c .before .before .before .before .args in
+    let at-if1 = c .before .before in
+    let entry = at-if1 .before .before in
+    let a = entry .args in
     let win = a .window .now in
     let w = c .before .word in
-    rw (lt-ltb (a .k .0) (a .count) (c .before .before .if1 .taken))
+    rw (lt-ltb (a .k .0) (a .count) (at-if1 .if1 .taken))
     (record {
       mark-is = refl;
       note-is = toZ-ofZ w32 (getD win (w .result) (pos 0)) (sfits-of (c .t12 .given)) ∙ ap (λ (i : ℕ). getD win i (pos 0)) (w .ensures);
@@ -46,4 +45,4 @@ returns-2 c =
 
 pub at-occurrence-spec : {M : Type 1} → statement M
 at-occurrence-spec =
-    tie.close (tie.spec word-requires mul-t10 shared-slice-copy-out-t12 returns returns-2)
+    tie.close (tie.spec (λ c κs. search needs) mul-t10 shared-slice-copy-out-t12 returns returns-2)

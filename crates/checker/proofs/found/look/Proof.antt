@@ -26,13 +26,15 @@ frame-at-requires c κs = omega arith
 
 of-frame-requires : tie.Need-of-frame-requires Inv-loop μ-loop
 of-frame-requires c κs =
-    let s = c .before .before .before .before in
-    (limited (s .args .frames .now) (c .before .before .loop .k) (c .frame-at .result) (s .pre .0) (omega arith) (c .frame-at .ensures), s .pre .1 .0)
+    let at-loop = c .before .before in
+    let s = at-loop .before .before in
+    (limited (s .args .frames .now) (at-loop .loop .k) (c .frame-at .result) (s .pre .0) (omega arith) (c .frame-at .ensures), s .pre .1 .0)
 
 element-write-marks : tie.Need-element-write-marks Inv-loop μ-loop
 element-write-marks c =
-    let s = c .before .before .before .before .before .before in
-    omega (arith, c .before .before .before .before .loop .inv .1 .marked, few-frames (s .args .frames .now) (s .pre .0))
+    let at-loop = c .before .before .before .before in
+    let s = at-loop .before .before in
+    omega (arith, at-loop .loop .inv .1 .marked, few-frames (s .args .frames .now) (s .pre .0))
 
 mul-note : tie.Need-mul-note Inv-loop μ-loop
 mul-note c =
@@ -41,8 +43,9 @@ mul-note c =
 
 element-set-from-note : tie.Need-element-set-from-note Inv-loop μ-loop
 element-set-from-note c =
-    let s = c .before .before .before .before .before .before in
-    omega (arith, c .before .before .before .before .loop .inv .1 .noted, few-frames (s .args .frames .now) (s .pre .0))
+    let at-loop = c .before .before .before .before in
+    let s = at-loop .before .before in
+    omega (arith, at-loop .loop .inv .1 .noted, few-frames (s .args .frames .now) (s .pre .0))
 
 add-k : tie.Need-add-k Inv-loop μ-loop
 add-k c = omega arith

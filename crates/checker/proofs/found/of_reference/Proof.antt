@@ -20,27 +20,6 @@ use native.Mathlib.Omega.{arith}
 use Rattle.checker.proofs.found.of_reference.Statement.{statement}
 use Rattle.checker.proofs.found.of_reference.Tie as tie
 
-cast-e : tie.Need-cast-e
-cast-e c = search needs
-
-mul-count : tie.Need-mul-count
-mul-count c = search needs
-
-array-read-count : tie.Need-array-read-count
-array-read-count c = search needs
-
-occurrence-of-requires : tie.Need-occurrence-of-requires
-occurrence-of-requires c κs = search needs
-
-enum-told : tie.Need-enum-told
-enum-told c = search needs
-
-enum-known-meant : tie.Need-enum-known-meant
-enum-known-meant c = search needs
-
-at-occurrence-requires : tie.Need-at-occurrence-requires
-at-occurrence-requires c κs = search needs
-
 -- by the occurrence that is meant, whose offset the code carries in 32 bits
 by-meant : (x : Frame) (p w : ℕ) (counts : List ℕ) (win : List ℤ) (m : Meant) (mark : ℕ) (note : ℤ) → LimitsR (referenceOf x)
     → m ≡ meantBy (occurrence (x .factor) (toZ w32 (ofZ w32 (x .value))) p)
@@ -52,29 +31,32 @@ by-meant x p w counts win m mark note l e h =
 
 returns : tie.Need-returns
 returns c =
-    let s = c .before .before .before .before .before in
+    let at-occurrence-of = c .before .before in
+    let s = at-occurrence-of .before .before .before in
     let a = s .args in
     by-meant (a .x) (a .p .0) (a .width) (a .t4) (a .window .now) Void 2 (pos 0) (s .pre .0)
-    (sym (c .enum-told .given .1) ∙ c .before .before .occurrence-of .ensures) (record { mark-is = refl; note-is = refl })
+    (sym (c .enum-told .given .1) ∙ at-occurrence-of .occurrence-of .ensures) (record { mark-is = refl; note-is = refl })
 
 returns-2 : tie.Need-returns-2
 returns-2 c =
-    let s = c .before .before .before .before .before .before .before in
+    let at-meant = c .before .before in
+    let at-occurrence-of = at-meant .before .before in
+    let s = at-occurrence-of .before .before .before in
     let a = s .args in
-    let k = c .before .before .meant .given in
+    let k = at-meant .meant .given in
     by-meant (a .x) (a .p .0) (a .width) (a .t4) (a .window .now) (At (k .0 .0)) _ _ (s .pre .0)
-    (sym (k .1) ∙ c .before .before .before .before .occurrence-of .ensures) (c .at-occurrence .ensures)
+    (sym (k .1) ∙ at-occurrence-of .occurrence-of .ensures) (c .at-occurrence .ensures)
 
 pub of-reference-spec : {M : Type 1} → statement M
 of-reference-spec =
     tie.close
     (tie.spec
-    cast-e
-    mul-count
-    array-read-count
-    occurrence-of-requires
-    enum-told
-    enum-known-meant
-    at-occurrence-requires
+    (λ c. search needs)
+    (λ c. search needs)
+    (λ c. search needs)
+    (λ c κs. search needs)
+    (λ c. search needs)
+    (λ c. search needs)
+    (λ c κs. search needs)
     returns
     returns-2)

@@ -4,15 +4,9 @@ use Rattle.checker.specs.State.{withTally}
 use Rattle.checker.proofs.parts.with_verdict.Statement.{statement}
 use Rattle.checker.proofs.parts.with_verdict.Tie as tie
 
-count-verdict-requires : tie.Need-count-verdict-requires
-count-verdict-requires c κs = search needs
-
-add-t8 : tie.Need-add-t8
-add-t8 c = search needs
-
 returns : tie.Need-returns
 unfolding withTally
 returns c = λ fs. rw (c .before .count-verdict .ensures)
 
 pub with-verdict-spec : {M : Type 1} → statement M
-with-verdict-spec = tie.close (tie.spec count-verdict-requires add-t8 returns)
+with-verdict-spec = tie.close (tie.spec (λ c κs. search needs) (λ c. search needs) returns)

@@ -25,63 +25,53 @@ look-requires c κs =
     let p = c .before .before .before .before .pre in
     (p .accepted, (p .look, (refl, refl)))
 
-slice-aggregate-judge : tie.Need-slice-aggregate-judge
-slice-aggregate-judge c = search needs
-
-slice-aggregate-judge-2 : tie.Need-slice-aggregate-judge-2
-slice-aggregate-judge-2 c = search needs
-
 judge-requires : tie.Need-judge-requires
 judge-requires c κs =
-    let p = c .before .before .before .before .before .before .before in
+    let at-look = c .before .before in
+    let p = at-look .before .before .before .before .before in
     let a = p .args in
-    let l = c .before .before .look in
+    let l = at-look .look in
     let marks : List ℕ = l .last .1 .1 .1 .1 .1 .0 in
     let notes : List ℤ = l .last .1 .1 .1 .1 .1 .1 .0 in
     let found : Reference → Found = foundInWindow (a .width) (a .counts) (a .window .now) (a .p .0) in
     offer-judge (a .frames .now) (a .p .0) (a .width) (length (a .window .now)) (length (a .report .now)) (p .pre) found marks notes (l .ensures)
 
-enum-told : tie.Need-enum-told
-enum-told c = search needs
-
-slice-aggregate-fill : tie.Need-slice-aggregate-fill
-slice-aggregate-fill c = search needs
-
-slice-aggregate-fill-2 : tie.Need-slice-aggregate-fill-2
-slice-aggregate-fill-2 c = search needs
-
 fill-requires : tie.Need-fill-requires
 fill-requires c κs =
-    let p = c .before .before .before .before .before .before .before .before .before .before .before .before .before in
+    let at-look = c .before .before .before .before .before .before .before .before in
+    let p = at-look .before .before .before .before .before in
     let a = p .args in
-    let l = c .before .before .before .before .before .before .before .before .look in
+    let l = at-look .look in
     let marks : List ℕ = l .last .1 .1 .1 .1 .1 .0 in
     let notes : List ℤ = l .last .1 .1 .1 .1 .1 .1 .0 in
     let found : Reference → Found = foundInWindow (a .width) (a .counts) (a .window .now) (a .p .0) in
     offer-fill (a .frames .now) (a .p .0) (a .width) (length (a .window .now)) (length (a .report .now)) (p .pre) found marks notes (l .ensures)
 
-same-length : tie.Need-same-length
-same-length c = search needs
-
 returns : tie.Need-returns
 returns c =
-    let p = c .before .before .before .before .before .before .before .before .before .before .before .before .before .before .before .before in
+    let at-fill = c .before .before in
+    let at-enum-told = at-fill .before .before .before .before in
+    let at-judge = at-enum-told .before .before in
+    let at-look = at-judge .before .before .before in
+    let at-shared-slice-known = at-look .before .before .before .before in
+    let p = at-shared-slice-known .before in
     let a = p .args in
-    let l = c .before .before .before .before .before .before .before .before .before .before .before .look in
+    let l = at-look .look in
     let marks : List ℕ = l .last .1 .1 .1 .1 .1 .0 in
     let notes : List ℤ = l .last .1 .1 .1 .1 .1 .1 .0 in
     let found : Reference → Found = foundInWindow (a .width) (a .counts) (a .window .now) (a .p .0) in
-    let j = c .before .before .before .before .before .before .before .before .judge in
-    let e : j .result ≡ False = c .before .before .before .before .before .before .enum-told .given .1 in
-    let b : Bytes (a .frames .now) = bytes-by (a .frames .now) (λ i _. c .before .before .before .before .before .before .before .before .before .before .before .before .before .before .before .shared-slice-known .given i .fits) in
+    let j = at-judge .judge in
+    let e : j .result ≡ False = at-enum-told .enum-told .given .1 in
+    let b : Bytes (a .frames .now) = bytes-by (a .frames .now) (λ i _. at-shared-slice-known .shared-slice-known .given i .fits) in
     let w = ap (λ (x : List ℕ). written x (a .report .now)) (offer-report (a .frames .now) (a .p .0) (a .width) (length (a .window .now)) (length (a .report .now)) (p .pre) found marks notes (l .ensures) b) in
-    (offer-judged (a .frames .now) (a .p .0) (a .width) (length (a .window .now)) (length (a .report .now)) (p .pre) found marks notes (l .ensures) (j .result) (j .ensures), c .before .before .fill .ensures ∙ w ∙ ap (λ (x : Judgement). pullReport (a .p .0) (references (treeOf (a .frames .now))) found (a .report .now) (offered x)) (sym e))
+    (offer-judged (a .frames .now) (a .p .0) (a .width) (length (a .window .now)) (length (a .report .now)) (p .pre) found marks notes (l .ensures) (j .result) (j .ensures), at-fill .fill .ensures ∙ w ∙ ap (λ (x : Judgement). pullReport (a .p .0) (references (treeOf (a .frames .now))) found (a .report .now) (offered x)) (sym e))
 
 returns-2 : tie.Need-returns-2
 returns-2 c =
-    let p = c .before .before .before .before .before .before .before .before .before in
+    let at-look = c .before .before .before .before in
+    let p = at-look .before .before .before .before .before in
     let a = p .args in
-    let l = c .before .before .before .before .look in
+    let l = at-look .look in
     let marks : List ℕ = l .last .1 .1 .1 .1 .1 .0 in
     let notes : List ℤ = l .last .1 .1 .1 .1 .1 .1 .0 in
     let found : Reference → Found = foundInWindow (a .width) (a .counts) (a .window .now) (a .p .0) in
@@ -94,13 +84,13 @@ offer-spec =
     tie.close
     (tie.spec
     look-requires
-    slice-aggregate-judge
-    slice-aggregate-judge-2
+    (λ c. search needs)
+    (λ c. search needs)
     judge-requires
-    enum-told
-    slice-aggregate-fill
-    slice-aggregate-fill-2
+    (λ c. search needs)
+    (λ c. search needs)
+    (λ c. search needs)
     fill-requires
-    same-length
+    (λ c. search needs)
     returns
     returns-2)

@@ -7,34 +7,22 @@ use Rattle.checker.proofs.PullOffer.{pulled-whole}
 use Rattle.checker.proofs.pulling.pull.Statement.{statement}
 use Rattle.checker.proofs.pulling.pull.Tie as tie
 
-fields-of-requires : tie.Need-fields-of-requires
-fields-of-requires c κs = search needs
-
-slice-aggregate-pull-parts : tie.Need-slice-aggregate-pull-parts
-slice-aggregate-pull-parts c = search needs
-
-pull-parts-requires : tie.Need-pull-parts-requires
-pull-parts-requires c κs = search needs
-
-with-fields-requires : tie.Need-with-fields-requires
-with-fields-requires c κs = search needs
-
-same-length : tie.Need-same-length
-same-length c = search needs
-
 returns : tie.Need-returns
 returns c =
-    let a = c .before .before .before .before .before .before .before .before .before .before .args in
-    let s = ap (λ (x : State). pullDef x (a .window .now) (a .report .now)) (c .before .before .before .before .before .before .before .fields-of .ensures) in
-    pulled-whole (c .before .before .before .before .pull-parts .result) (c .with-fields .result) (pullDef (a .state) (a .window .now) (a .report .now)) (c .with-fields .ensures) (c .before .before .before .before .pull-parts .ensures ∙ s)
+    let at-pull-parts = c .before .before .before .before in
+    let at-fields-of = at-pull-parts .before .before .before in
+    let entry = at-fields-of .before .before .before in
+    let a = entry .args in
+    let s = ap (λ (x : State). pullDef x (a .window .now) (a .report .now)) (at-fields-of .fields-of .ensures) in
+    pulled-whole (at-pull-parts .pull-parts .result) (c .with-fields .result) (pullDef (a .state) (a .window .now) (a .report .now)) (c .with-fields .ensures) (at-pull-parts .pull-parts .ensures ∙ s)
 
 pub pull-spec : {M : Type 1} → statement M
 pull-spec =
     tie.close
     (tie.spec
-    fields-of-requires
-    slice-aggregate-pull-parts
-    pull-parts-requires
-    with-fields-requires
-    same-length
+    (λ c κs. search needs)
+    (λ c. search needs)
+    (λ c κs. search needs)
+    (λ c κs. search needs)
+    (λ c. search needs)
     returns)

@@ -14,9 +14,6 @@ use Rattle.checker.proofs.PullOffer.{pull-offers, pulled-as}
 use Rattle.checker.proofs.pulling.pull_admitted.Statement.{statement}
 use Rattle.checker.proofs.pulling.pull_admitted.Tie as tie
 
-cast-n : tie.Need-cast-n
-cast-n c = search needs
-
 mul-n : tie.Need-mul-n
 mul-n c = omega (arith, ready-facts (c .before .before .before .pre .0) .few)
 
@@ -38,21 +35,21 @@ offer-requires c κs =
     }
 
 give-requires : tie.Need-give-requires
-give-requires c κs = ready-facts (c .before .before .before .before .before .before .before .before .before .before .pre .0) .totals
-
-same-length : tie.Need-same-length
-same-length c = search needs
+give-requires c κs =
+    let entry = c .before .before .before .before .before .before .before .before .before .before in
+    ready-facts (entry .pre .0) .totals
 
 returns : tie.Need-returns
 returns c =
-    let p = c .before .before .before .before .before .before .before .before .before .before .before in
+    let at-offer = c .before .before .before in
+    let p = at-offer .before .before .before .before .before .before .before .before in
     let a = p .args in
     let s : State = stateOf (a .frames .now) (a .fields) in
-    let o = c .before .before .before .offer in
+    let o = at-offer .offer in
     let d = pull-offers s (a .window .now) (a .report .now) (p .pre .0 .let-in) (le-ltb (length (a .report .now)) 166 (p .pre .1)) (o .result) (o .ensures .0) in
     pulled-as (a .frames .now) (a .fields) (c .give .result) (a .window .now) (a .report .now) _ (offered (o .result)) (c .give .ensures (a .frames .now) _) (o .ensures .1) ∙ d
 
 pub pull-admitted-spec : {M : Type 1} → statement M
 pull-admitted-spec =
     tie.close
-    (tie.spec cast-n mul-n slice-aggregate-offer offer-requires give-requires same-length returns)
+    (tie.spec (λ c. search needs) mul-n slice-aggregate-offer offer-requires give-requires (λ c. search needs) returns)

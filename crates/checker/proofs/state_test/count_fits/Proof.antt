@@ -5,9 +5,6 @@ use borrow.Author.Needs.{needs}
 use Rattle.checker.proofs.state_test.count_fits.Statement.{statement}
 use Rattle.checker.proofs.state_test.count_fits.Tie as tie
 
-add-result : tie.Need-add-result
-add-result c = search needs
-
 returns : tie.Need-returns
 returns c = rw (eq-eqb (c .before .args .low) noBase (c .if1 .taken))
 
@@ -15,4 +12,4 @@ returns-2 : tie.Need-returns-2
 returns-2 c = rw (ne-eqb (c .before .args .low) noBase (c .if1 .left))
 
 pub count-fits-spec : {M : Type 1} → statement M
-count-fits-spec = tie.close (tie.spec add-result returns returns-2)
+count-fits-spec = tie.close (tie.spec (λ c. search needs) returns returns-2)

@@ -26,21 +26,6 @@ loop-holds : tie.Need-loop-holds Inv-loop μ-loop
 unfolding allTo
 loop-holds c = (omega arith, refl)
 
-mul-count-fits : tie.Need-mul-count-fits Inv-loop μ-loop
-mul-count-fits c = search needs
-
-array-read-count-fits : tie.Need-array-read-count-fits Inv-loop μ-loop
-array-read-count-fits c = search needs
-
-mul-count-fits-2 : tie.Need-mul-count-fits-2 Inv-loop μ-loop
-mul-count-fits-2 c = search needs
-
-array-read-count-fits-2 : tie.Need-array-read-count-fits-2 Inv-loop μ-loop
-array-read-count-fits-2 c = search needs
-
-count-fits-requires : tie.Need-count-fits-requires Inv-loop μ-loop
-count-fits-requires c κs = search needs
-
 add-e : tie.Need-add-e Inv-loop μ-loop
 add-e c = omega arith
 
@@ -48,10 +33,17 @@ loop-less : tie.Need-loop-less Inv-loop μ-loop
 loop-less c = omega arith
 
 loop-again : tie.Need-loop-again Inv-loop μ-loop
-loop-again c = (omega arith, rw (add-one (c .before .before .before .loop .e)) (allTo-more (c .before .before .before .loop .e) (fit (c .before .before .before .before .args .width) (c .before .before .before .before .args .t2) (c .before .before .before .before .args .t3)) (c .before .before .before .loop .inv .1) (sym (c .before .count-fits .ensures) ∙ c .if1 .taken)))
+loop-again c =
+    let at-loop = c .before .before .before in
+    let entry = at-loop .before in
+    (omega arith, rw (add-one (at-loop .loop .e)) (allTo-more (at-loop .loop .e) (fit (entry .args .width) (entry .args .t2) (entry .args .t3)) (at-loop .loop .inv .1) (sym (c .before .count-fits .ensures) ∙ c .if1 .taken)))
 
 returns : tie.Need-returns Inv-loop μ-loop
-returns c = sym (allTo-false 8 (fit (c .before .before .before .before .args .width) (c .before .before .before .before .args .t2) (c .before .before .before .before .args .t3)) (c .before .before .before .loop .e) (c .before .before .loop-test .taken) (sym (c .before .count-fits .ensures) ∙ c .if1 .left))
+returns c =
+    let at-loop-test = c .before .before in
+    let at-loop = at-loop-test .before in
+    let entry = at-loop .before in
+    sym (allTo-false 8 (fit (entry .args .width) (entry .args .t2) (entry .args .t3)) (at-loop .loop .e) (at-loop-test .loop-test .taken) (sym (c .before .count-fits .ensures) ∙ c .if1 .left))
 
 returns-2 : tie.Need-returns-2 Inv-loop μ-loop
 returns-2 c =
@@ -59,4 +51,4 @@ returns-2 c =
     sym (rw q at (c .before .loop .inv .1))
 
 pub counts-fit-spec : {M : Type 1} → statement M
-counts-fit-spec = tie.close (tie.spec Inv-loop μ-loop loop-holds mul-count-fits array-read-count-fits mul-count-fits-2 array-read-count-fits-2 count-fits-requires add-e loop-less loop-again returns returns-2)
+counts-fit-spec = tie.close (tie.spec Inv-loop μ-loop loop-holds (λ c. search needs) (λ c. search needs) (λ c. search needs) (λ c. search needs) (λ c κs. search needs) add-e loop-less loop-again returns returns-2)

@@ -13,20 +13,15 @@ mul-n c = omega arith
 slice-aggregate-check : tie.Need-slice-aggregate-check
 slice-aggregate-check c = sym (length-take-le _ _ (omega (arith, c .before .before .before .pre)))
 
-check-requires : tie.Need-check-requires
-check-requires c κs = search needs
-
-accepted-requires : tie.Need-accepted-requires
-accepted-requires c κs = search needs
-
-width-fits-requires : tie.Need-width-fits-requires
-width-fits-requires c κs = search needs
-
 returns : tie.Need-returns
-returns c = rw (le-leb (c .before .before .before .before .before .before .args .len) 64 (c .before .before .before .before .if1 .taken), c .before .accepted .ensures, c .before .before .check .ensures .0, c .width-fits .ensures)
+returns c =
+    let at-check = c .before .before in
+    let at-if1 = at-check .before .before in
+    let entry = at-if1 .before .before in
+    rw (le-leb (entry .args .len) 64 (at-if1 .if1 .taken), c .before .accepted .ensures, at-check .check .ensures .0, c .width-fits .ensures)
 
 returns-2 : tie.Need-returns-2
 returns-2 c = rw (lt-leb (c .before .before .args .len) 64 (c .if1 .left))
 
 pub rule-fits-spec : {M : Type 1} → statement M
-rule-fits-spec = tie.close (tie.spec mul-n slice-aggregate-check check-requires accepted-requires width-fits-requires returns returns-2)
+rule-fits-spec = tie.close (tie.spec mul-n slice-aggregate-check (λ c κs. search needs) (λ c κs. search needs) (λ c κs. search needs) returns returns-2)

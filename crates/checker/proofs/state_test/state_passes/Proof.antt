@@ -14,32 +14,32 @@ use borrow.Author.Needs.{needs}
 use Rattle.checker.proofs.state_test.state_passes.Statement.{statement}
 use Rattle.checker.proofs.state_test.state_passes.Tie as tie
 
-rule-fits-requires : tie.Need-rule-fits-requires
-rule-fits-requires c κs = search needs
-
 tally-fits-requires : tie.Need-tally-fits-requires
 tally-fits-requires c κs =
-    let s : State = stateOf (c .before .before .before .args .frames .now) (c .before .before .before .args .s) in
+    let entry = c .before .before .before in
+    let s : State = stateOf (entry .args .frames .now) (entry .args .s) in
     let q : ruleFits (s .frames) (s .len) (s .width) ≡ true = sym (c .before .rule-fits .ensures) ∙ c .if1 .taken in
-    (c .before .before .before .pre, rule-facts (s .frames) (s .len) (s .width) q)
-
-unfit-requires : tie.Need-unfit-requires
-unfit-requires c κs = search needs
+    (entry .pre, rule-facts (s .frames) (s .len) (s .width) q)
 
 returns : tie.Need-returns
 returns c =
-    let s : State = stateOf (c .before .before .before .before .args .frames .now) (c .before .before .before .before .args .s) in
-    let q : ruleFits (s .frames) (s .len) (s .width) ≡ true = sym (c .before .before .rule-fits .ensures) ∙ c .before .if1 .taken in
-    let b : Bytes (stateFrames s) = bytes-take (s .len * 8) (s .frames) (λ i. c .before .before .before .shared-slice-known .given i .fits) in (
+    let at-rule-fits = c .before .before in
+    let at-shared-slice-known = at-rule-fits .before in
+    let entry = at-shared-slice-known .before in
+    let s : State = stateOf (entry .args .frames .now) (entry .args .s) in
+    let q : ruleFits (s .frames) (s .len) (s .width) ≡ true = sym (at-rule-fits .rule-fits .ensures) ∙ c .before .if1 .taken in
+    let b : Bytes (stateFrames s) = bytes-take (s .len * 8) (s .frames) (λ i. at-shared-slice-known .shared-slice-known .given i .fits) in (
       good-by s (c .tally-fits .result .fits) q (c .tally-fits .ensures .0 ∙ tally-same b (rule-facts (s .frames) (s .len) (s .width) q .1) (s .width) (s .counts) (s .next .0) (s .totals)),
       c .tally-fits .ensures .1,
     )
 
 returns-2 : tie.Need-returns-2
 returns-2 c =
-    let s : State = stateOf (c .before .before .before .before .args .frames .now) (c .before .before .before .before .args .s) in
-    let q : ruleFits (s .frames) (s .len) (s .width) ≡ false = sym (c .before .before .rule-fits .ensures) ∙ c .before .if1 .left in
+    let at-rule-fits = c .before .before in
+    let entry = at-rule-fits .before .before in
+    let s : State = stateOf (entry .args .frames .now) (entry .args .s) in
+    let q : ruleFits (s .frames) (s .len) (s .width) ≡ false = sym (at-rule-fits .rule-fits .ensures) ∙ c .before .if1 .left in
     (c .unfit .ensures ∙ bad-by s q, λ e. absurd (true-false (sym e ∙ c .unfit .ensures)))
 
 pub state-passes-spec : {M : Type 1} → statement M
-state-passes-spec = tie.close (tie.spec rule-fits-requires tally-fits-requires unfit-requires returns returns-2)
+state-passes-spec = tie.close (tie.spec (λ c κs. search needs) tally-fits-requires (λ c κs. search needs) returns returns-2)

@@ -129,282 +129,398 @@ ors-calls t = (token-at-reads.Asked, token-at-reads.Learnt, conj-below t, conj.P
 abbrev unit-calls : ℕ → unit-lts.Claims
 unit-calls t = (token-at-reads.Asked, token-at-reads.Learnt, deeper-reads.Asked, deeper-reads.Learnt, entered-reads.Asked, entered-reads.Learnt, braces-below t, braces.Post, relation-reads.Asked, relation-reads.Learnt, unit-below t, unit.Post, emit-kind-reads.Asked, emit-kind-reads.Learnt)
 
-ands-token-at-requires : (t : ℕ) → ands-lts.Need-token-at-requires (ands-calls t) (ands-at t) ands.Post
-ands-token-at-requires t c κs = search needs
-
 ands-returns : (t : ℕ) → ands-lts.Need-returns (ands-calls t) (ands-at t) ands.Post
 unfolding step finish
-ands-returns t c = same (c .before .before .before .before .pre .1) (c .before .before .token-at .ensures) (idle (omega arith) (c .before .before .before .before .pre .1) refl) (λ s. rw (ne-eqb _ _ (c .if1 .taken))) (λ s. refl)
+ands-returns t c =
+    let at-token-at = c .before .before in
+    let entry = at-token-at .before .before in
+    same (entry .pre .1) (at-token-at .token-at .ensures) (idle (omega arith) (entry .pre .1) refl) (λ s. rw (ne-eqb _ _ (c .if1 .taken))) (λ s. refl)
 
 ands-unit-requires : (t : ℕ) → ands-lts.Need-unit-requires (ands-calls t) (ands-at t) ands.Post
-ands-unit-requires t c κs = let ne : c .before .before .before .token-at .result .kind ≡ 0 → ⊥ = λ e. omega arith in let v = beyond (now (c .before .before .before .before .before .args .text)) (c .before .before .before .before .before .args .at) (c .before .before .before .token-at .result) (c .before .before .before .before .before .pre .1) (c .before .before .before .token-at .ensures) ne in omega arith
-
-ands-enum-known-q : (t : ℕ) → ands-lts.Need-enum-known-q (ands-calls t) (ands-at t) ands.Post
-ands-enum-known-q t c = search needs
-
-ands-enum-known-a : (t : ℕ) → ands-lts.Need-enum-known-a (ands-calls t) (ands-at t) ands.Post
-ands-enum-known-a t c = search needs
-
-ands-emit-kind-requires : (t : ℕ) → ands-lts.Need-emit-kind-requires (ands-calls t) (ands-at t) ands.Post
-ands-emit-kind-requires t c κs = search needs
+ands-unit-requires t c κs =
+    let at-token-at = c .before .before .before in
+    let entry = at-token-at .before .before in
+    let ne : at-token-at .token-at .result .kind ≡ 0 → ⊥ = λ e. omega arith in
+    let v = beyond (now (entry .args .text)) (entry .args .at) (at-token-at .token-at .result) (entry .pre .1) (at-token-at .token-at .ensures) ne in
+    omega arith
 
 ands-ands-requires : (t : ℕ) → ands-lts.Need-ands-requires (ands-calls t) (ands-at t) ands.Post
-ands-ands-requires t c κs = let ne : c .before .before .before .before .before .before .before .before .before .before .token-at .result .kind ≡ 0 → ⊥ = λ e. omega arith in let v = beyond (now (c .before .before .before .before .before .before .before .before .before .before .before .before .args .text)) (c .before .before .before .before .before .before .before .before .before .before .before .before .args .at) (c .before .before .before .before .before .before .before .before .before .before .token-at .result) (c .before .before .before .before .before .before .before .before .before .before .before .before .pre .1) (c .before .before .before .before .before .before .before .before .before .before .token-at .ensures) ne in let d = as-is (c .before .before .before .before .before .before .unit .ensures) (c .before .before .before .before .a .given .1) in let w = d .within in omega arith
+ands-ands-requires t c κs =
+    let at-a = c .before .before .before .before in
+    let at-unit = at-a .before .before in
+    let at-token-at = at-unit .before .before .before .before in
+    let entry = at-token-at .before .before in
+    let ne : at-token-at .token-at .result .kind ≡ 0 → ⊥ = λ e. omega arith in
+    let v = beyond (now (entry .args .text)) (entry .args .at) (at-token-at .token-at .result) (entry .pre .1) (at-token-at .token-at .ensures) ne in
+    let d = as-is (at-unit .unit .ensures) (at-a .a .given .1) in
+    let w = d .within in
+    omega arith
 
 ands-returns-2 : (t : ℕ) → ands-lts.Need-returns-2 (ands-calls t) (ands-at t) ands.Post
 unfolding step
-ands-returns-2 t c = let ne : c .before .before .before .before .before .before .before .token-at .result .kind ≡ 0 → ⊥ = λ e. omega arith in let v = beyond (now (c .before .before .before .before .before .before .before .before .before .args .text)) (c .before .before .before .before .before .before .before .before .before .args .at) (c .before .before .before .before .before .before .before .token-at .result) (c .before .before .before .before .before .before .before .before .before .pre .1) (c .before .before .before .before .before .before .before .token-at .ensures) ne in take (c .before .before .before .before .before .before .before .before .before .pre .1) (c .before .before .before .before .before .before .before .token-at .ensures) ne (stop (λ s. doing (out (alone (Kind.connective Connective.and))) ∷ machine.ands (c .before .before .before .before .before .before .before .before .before .args .d) ∷ s) _ (as-is (c .before .before .before .unit .ensures) (c .before .q .given .1))) (λ s. rw (c .before .before .before .before .before .if1 .left))
+ands-returns-2 t c =
+    let at-unit = c .before .before .before in
+    let at-if1 = at-unit .before .before in
+    let at-token-at = at-if1 .before .before in
+    let entry = at-token-at .before .before in
+    let ne : at-token-at .token-at .result .kind ≡ 0 → ⊥ = λ e. omega arith in
+    let v = beyond (now (entry .args .text)) (entry .args .at) (at-token-at .token-at .result) (entry .pre .1) (at-token-at .token-at .ensures) ne in
+    take (entry .pre .1) (at-token-at .token-at .ensures) ne (stop (λ s. doing (out (alone (Kind.connective Connective.and))) ∷ machine.ands (entry .args .d) ∷ s) _ (as-is (at-unit .unit .ensures) (c .before .q .given .1))) (λ s. rw (at-if1 .if1 .left))
 
 ands-returns-3 : (t : ℕ) → ands-lts.Need-returns-3 (ands-calls t) (ands-at t) ands.Post
 unfolding step
-ands-returns-3 t c = let ne : c .before .before .before .before .before .before .before .before .before .before .before .token-at .result .kind ≡ 0 → ⊥ = λ e. omega arith in let v = beyond (now (c .before .before .before .before .before .before .before .before .before .before .before .before .before .args .text)) (c .before .before .before .before .before .before .before .before .before .before .before .before .before .args .at) (c .before .before .before .before .before .before .before .before .before .before .before .token-at .result) (c .before .before .before .before .before .before .before .before .before .before .before .before .before .pre .1) (c .before .before .before .before .before .before .before .before .before .before .before .token-at .ensures) ne in let d = as-is (c .before .before .before .before .before .before .before .unit .ensures) (c .before .before .before .before .before .a .given .1) in let w = d .within in take (c .before .before .before .before .before .before .before .before .before .before .before .before .before .pre .1) (c .before .before .before .before .before .before .before .before .before .before .before .token-at .ensures) ne (then (then-does (out (alone (Kind.connective Connective.and))) d (c .before .before .emit-kind .ensures (now (c .before .before .before .before .before .before .before .before .before .before .before .before .before .args .text)) (now (c .before .before .before .before .before .before .before .before .before .before .before .before .before .args .names)))) (c .ands .ensures) (omega arith)) (λ s. rw (c .before .before .before .before .before .before .before .before .before .if1 .left))
-
-arrow-token-at-requires : (t : ℕ) → arrow-lts.Need-token-at-requires (arrow-calls t) (arrow-at t) arrow.Post
-arrow-token-at-requires t c κs = search needs
+ands-returns-3 t c =
+    let at-emit-kind = c .before .before in
+    let at-a = at-emit-kind .before .before .before in
+    let at-unit = at-a .before .before in
+    let at-if1 = at-unit .before .before in
+    let at-token-at = at-if1 .before .before in
+    let entry = at-token-at .before .before in
+    let ne : at-token-at .token-at .result .kind ≡ 0 → ⊥ = λ e. omega arith in
+    let v = beyond (now (entry .args .text)) (entry .args .at) (at-token-at .token-at .result) (entry .pre .1) (at-token-at .token-at .ensures) ne in
+    let d = as-is (at-unit .unit .ensures) (at-a .a .given .1) in
+    let w = d .within in
+    take (entry .pre .1) (at-token-at .token-at .ensures) ne (then (then-does (out (alone (Kind.connective Connective.and))) d (at-emit-kind .emit-kind .ensures (now (entry .args .text)) (now (entry .args .names)))) (c .ands .ensures) (omega arith)) (λ s. rw (at-if1 .if1 .left))
 
 arrow-returns : (t : ℕ) → arrow-lts.Need-returns (arrow-calls t) (arrow-at t) arrow.Post
 unfolding step finish
-arrow-returns t c = same (c .before .before .before .before .pre .1) (c .before .before .token-at .ensures) (idle (omega arith) (c .before .before .before .before .pre .1) refl) (λ s. rw (ne-eqb _ _ (c .if1 .taken))) (λ s. refl)
-
-arrow-deeper-requires : (t : ℕ) → arrow-lts.Need-deeper-requires (arrow-calls t) (arrow-at t) arrow.Post
-arrow-deeper-requires t c κs = search needs
-
-arrow-entered-requires : (t : ℕ) → arrow-lts.Need-entered-requires (arrow-calls t) (arrow-at t) arrow.Post
-arrow-entered-requires t c κs = search needs
+arrow-returns t c =
+    let at-token-at = c .before .before in
+    let entry = at-token-at .before .before in
+    same (entry .pre .1) (at-token-at .token-at .ensures) (idle (omega arith) (entry .pre .1) refl) (λ s. rw (ne-eqb _ _ (c .if1 .taken))) (λ s. refl)
 
 arrow-condition-requires : (t : ℕ) → arrow-lts.Need-condition-requires (arrow-calls t) (arrow-at t) arrow.Post
-arrow-condition-requires t c κs = let ne : c .before .before .before .before .before .token-at .result .kind ≡ 0 → ⊥ = λ e. omega arith in let v = beyond (now (c .before .before .before .before .before .before .before .args .text)) (c .before .before .before .before .before .before .before .args .at) (c .before .before .before .before .before .token-at .result) (c .before .before .before .before .before .before .before .pre .1) (c .before .before .before .before .before .token-at .ensures) ne in omega arith
-
-arrow-enum-known-q : (t : ℕ) → arrow-lts.Need-enum-known-q (arrow-calls t) (arrow-at t) arrow.Post
-arrow-enum-known-q t c = search needs
-
-arrow-enum-known-a : (t : ℕ) → arrow-lts.Need-enum-known-a (arrow-calls t) (arrow-at t) arrow.Post
-arrow-enum-known-a t c = search needs
-
-arrow-emit-kind-requires : (t : ℕ) → arrow-lts.Need-emit-kind-requires (arrow-calls t) (arrow-at t) arrow.Post
-arrow-emit-kind-requires t c κs = search needs
+arrow-condition-requires t c κs =
+    let at-token-at = c .before .before .before .before .before in
+    let entry = at-token-at .before .before in
+    let ne : at-token-at .token-at .result .kind ≡ 0 → ⊥ = λ e. omega arith in
+    let v = beyond (now (entry .args .text)) (entry .args .at) (at-token-at .token-at .result) (entry .pre .1) (at-token-at .token-at .ensures) ne in
+    omega arith
 
 arrow-returns-2 : (t : ℕ) → arrow-lts.Need-returns-2 (arrow-calls t) (arrow-at t) arrow.Post
 unfolding step
-arrow-returns-2 t c = let ne : c .before .before .before .before .before .before .before .before .before .token-at .result .kind ≡ 0 → ⊥ = λ e. omega arith in let v = beyond (now (c .before .before .before .before .before .before .before .before .before .before .before .args .text)) (c .before .before .before .before .before .before .before .before .before .before .before .args .at) (c .before .before .before .before .before .before .before .before .before .token-at .result) (c .before .before .before .before .before .before .before .before .before .before .before .pre .1) (c .before .before .before .before .before .before .before .before .before .token-at .ensures) ne in take (c .before .before .before .before .before .before .before .before .before .before .before .pre .1) (c .before .before .before .before .before .before .before .before .before .token-at .ensures) ne (stop (λ s. doing (out (alone (Kind.connective Connective.implies))) ∷ s) _ (rw (c .before .before .before .before .before .entered .ensures (now (c .before .before .before .before .before .before .before .before .before .before .before .args .text)) (now (c .before .before .before .before .before .before .before .before .before .before .before .args .names)) (now (c .before .before .before .before .before .before .before .before .before .before .before .args .buf))) at (as-is (c .before .before .before .condition .ensures) (c .before .q .given .1)))) (λ s. rw (c .before .before .before .before .before .before .before .if1 .left, ← c .before .before .before .before .before .before .deeper .ensures))
+arrow-returns-2 t c =
+    let at-condition = c .before .before .before in
+    let at-entered = at-condition .before .before in
+    let at-deeper = at-entered .before in
+    let at-if1 = at-deeper .before in
+    let at-token-at = at-if1 .before .before in
+    let entry = at-token-at .before .before in
+    let ne : at-token-at .token-at .result .kind ≡ 0 → ⊥ = λ e. omega arith in
+    let v = beyond (now (entry .args .text)) (entry .args .at) (at-token-at .token-at .result) (entry .pre .1) (at-token-at .token-at .ensures) ne in
+    take (entry .pre .1) (at-token-at .token-at .ensures) ne (stop (λ s. doing (out (alone (Kind.connective Connective.implies))) ∷ s) _ (rw (at-entered .entered .ensures (now (entry .args .text)) (now (entry .args .names)) (now (entry .args .buf))) at (as-is (at-condition .condition .ensures) (c .before .q .given .1)))) (λ s. rw (at-if1 .if1 .left, ← at-deeper .deeper .ensures))
 
 arrow-returns-3 : (t : ℕ) → arrow-lts.Need-returns-3 (arrow-calls t) (arrow-at t) arrow.Post
 unfolding step
-arrow-returns-3 t c = let ne : c .before .before .before .before .before .before .before .before .before .before .before .token-at .result .kind ≡ 0 → ⊥ = λ e. omega arith in let v = beyond (now (c .before .before .before .before .before .before .before .before .before .before .before .before .before .args .text)) (c .before .before .before .before .before .before .before .before .before .before .before .before .before .args .at) (c .before .before .before .before .before .before .before .before .before .before .before .token-at .result) (c .before .before .before .before .before .before .before .before .before .before .before .before .before .pre .1) (c .before .before .before .before .before .before .before .before .before .before .before .token-at .ensures) ne in let d = rw (c .before .before .before .before .before .before .before .entered .ensures (now (c .before .before .before .before .before .before .before .before .before .before .before .before .before .args .text)) (now (c .before .before .before .before .before .before .before .before .before .before .before .before .before .args .names)) (now (c .before .before .before .before .before .before .before .before .before .before .before .before .before .args .buf))) at (as-is (c .before .before .before .before .before .condition .ensures) (c .before .before .before .a .given .1)) in let w = d .within in take (c .before .before .before .before .before .before .before .before .before .before .before .before .before .pre .1) (c .before .before .before .before .before .before .before .before .before .before .before .token-at .ensures) ne (least (omega arith) (then-does (out (alone (Kind.connective Connective.implies))) d (c .emit-kind .ensures (now (c .before .before .before .before .before .before .before .before .before .before .before .before .before .args .text)) (now (c .before .before .before .before .before .before .before .before .before .before .before .before .before .args .names))))) (λ s. rw (c .before .before .before .before .before .before .before .before .before .if1 .left, ← c .before .before .before .before .before .before .before .before .deeper .ensures))
+arrow-returns-3 t c =
+    let at-a = c .before .before .before in
+    let at-condition = at-a .before .before in
+    let at-entered = at-condition .before .before in
+    let at-deeper = at-entered .before in
+    let at-if1 = at-deeper .before in
+    let at-token-at = at-if1 .before .before in
+    let entry = at-token-at .before .before in
+    let ne : at-token-at .token-at .result .kind ≡ 0 → ⊥ = λ e. omega arith in
+    let v = beyond (now (entry .args .text)) (entry .args .at) (at-token-at .token-at .result) (entry .pre .1) (at-token-at .token-at .ensures) ne in
+    let d = rw (at-entered .entered .ensures (now (entry .args .text)) (now (entry .args .names)) (now (entry .args .buf))) at (as-is (at-condition .condition .ensures) (at-a .a .given .1)) in
+    let w = d .within in
+    take (entry .pre .1) (at-token-at .token-at .ensures) ne (least (omega arith) (then-does (out (alone (Kind.connective Connective.implies))) d (c .emit-kind .ensures (now (entry .args .text)) (now (entry .args .names))))) (λ s. rw (at-if1 .if1 .left, ← at-deeper .deeper .ensures))
 
 braces-condition-requires : (t : ℕ) → braces-lts.Need-condition-requires (braces-calls t) (braces-at t) braces.Post
 braces-condition-requires t c κs = omega arith
 
-braces-enum-known-q : (t : ℕ) → braces-lts.Need-enum-known-q (braces-calls t) (braces-at t) braces.Post
-braces-enum-known-q t c = search needs
-
-braces-enum-known-a : (t : ℕ) → braces-lts.Need-enum-known-a (braces-calls t) (braces-at t) braces.Post
-braces-enum-known-a t c = search needs
-
 braces-expect-requires : (t : ℕ) → braces-lts.Need-expect-requires (braces-calls t) (braces-at t) braces.Post
-braces-expect-requires t c κs = let d = as-is (c .before .before .before .condition .ensures) (c .before .a .given .1) in let w = d .within in (w .1, omega arith)
+braces-expect-requires t c κs =
+    let at-condition = c .before .before .before in
+    let d = as-is (at-condition .condition .ensures) (c .before .a .given .1) in
+    let w = d .within in
+    (w .1, omega arith)
 
 braces-returns : (t : ℕ) → braces-lts.Need-returns (braces-calls t) (braces-at t) braces.Post
-braces-returns t c = stop (λ s. want closeBrace ∷ s) _ (as-is (c .before .before .before .condition .ensures) (c .before .q .given .1))
+braces-returns t c =
+    let at-condition = c .before .before .before in
+    stop (λ s. want closeBrace ∷ s) _ (as-is (at-condition .condition .ensures) (c .before .q .given .1))
 
 braces-returns-2 : (t : ℕ) → braces-lts.Need-returns-2 (braces-calls t) (braces-at t) braces.Post
-braces-returns-2 t c = let d = as-is (c .before .before .before .before .condition .ensures) (c .before .before .a .given .1) in let w = d .within in then d (c .expect .ensures _ _) (omega arith)
+braces-returns-2 t c =
+    let at-a = c .before .before in
+    let at-condition = at-a .before .before in
+    let d = as-is (at-condition .condition .ensures) (at-a .a .given .1) in
+    let w = d .within in
+    then d (c .expect .ensures _ _) (omega arith)
 
 condition-conj-requires : (t : ℕ) → condition-lts.Need-conj-requires (condition-calls t) (condition-at t) condition.Post
 condition-conj-requires t c κs = omega arith
 
-condition-enum-known-q : (t : ℕ) → condition-lts.Need-enum-known-q (condition-calls t) (condition-at t) condition.Post
-condition-enum-known-q t c = search needs
-
-condition-enum-known-a : (t : ℕ) → condition-lts.Need-enum-known-a (condition-calls t) (condition-at t) condition.Post
-condition-enum-known-a t c = search needs
-
 condition-ors-requires : (t : ℕ) → condition-lts.Need-ors-requires (condition-calls t) (condition-at t) condition.Post
-condition-ors-requires t c κs = let d = as-is (c .before .before .before .before .conj .ensures) (c .before .before .a .given .1) in let w = d .within in omega arith
-
-condition-enum-known-q-2 : (t : ℕ) → condition-lts.Need-enum-known-q-2 (condition-calls t) (condition-at t) condition.Post
-condition-enum-known-q-2 t c = search needs
-
-condition-enum-known-z : (t : ℕ) → condition-lts.Need-enum-known-z (condition-calls t) (condition-at t) condition.Post
-condition-enum-known-z t c = search needs
+condition-ors-requires t c κs =
+    let at-a = c .before .before in
+    let at-conj = at-a .before .before in
+    let d = as-is (at-conj .conj .ensures) (at-a .a .given .1) in
+    let w = d .within in
+    omega arith
 
 condition-arrow-requires : (t : ℕ) → condition-lts.Need-arrow-requires (condition-calls t) (condition-at t) condition.Post
-condition-arrow-requires t c κs = let d = as-is (c .before .before .before .before .before .before .before .before .before .conj .ensures) (c .before .before .before .before .before .before .before .a .given .1) in let w = d .within in let e = as-is (c .before .before .before .before .ors .ensures) (c .before .before .z .given .1) in let x = e .within in omega arith
+condition-arrow-requires t c κs =
+    let at-z = c .before .before in
+    let at-ors = at-z .before .before in
+    let at-a = at-ors .before .before .before in
+    let at-conj = at-a .before .before in
+    let d = as-is (at-conj .conj .ensures) (at-a .a .given .1) in
+    let w = d .within in
+    let e = as-is (at-ors .ors .ensures) (at-z .z .given .1) in
+    let x = e .within in
+    omega arith
 
 condition-returns : (t : ℕ) → condition-lts.Need-returns (condition-calls t) (condition-at t) condition.Post
-condition-returns t c = stop (λ s. machine.ors (c .before .before .before .before .before .before .args .d) ∷ machine.arrow (c .before .before .before .before .before .before .args .d) ∷ s) _ (as-is (c .before .before .before .conj .ensures) (c .before .q .given .1))
+condition-returns t c =
+    let at-conj = c .before .before .before in
+    let entry = at-conj .before .before .before in
+    stop (λ s. machine.ors (entry .args .d) ∷ machine.arrow (entry .args .d) ∷ s) _ (as-is (at-conj .conj .ensures) (c .before .q .given .1))
 
 condition-returns-2 : (t : ℕ) → condition-lts.Need-returns-2 (condition-calls t) (condition-at t) condition.Post
-condition-returns-2 t c = let d = as-is (c .before .before .before .before .before .before .before .before .conj .ensures) (c .before .before .before .before .before .before .a .given .1) in let w = d .within in then d (stop (λ s. machine.arrow (c .before .before .before .before .before .before .before .before .before .before .before .args .d) ∷ s) (c .before .before .before .before .before .before .before .before .before .before .before .args .at + 1) (as-is (c .before .before .before .ors .ensures) (c .before .q2 .given .1))) (omega arith)
+condition-returns-2 t c =
+    let at-ors = c .before .before .before in
+    let at-a = at-ors .before .before .before in
+    let at-conj = at-a .before .before in
+    let entry = at-conj .before .before .before in
+    let d = as-is (at-conj .conj .ensures) (at-a .a .given .1) in
+    let w = d .within in
+    then d (stop (λ s. machine.arrow (entry .args .d) ∷ s) (entry .args .at + 1) (as-is (at-ors .ors .ensures) (c .before .q2 .given .1))) (omega arith)
 
 condition-returns-3 : (t : ℕ) → condition-lts.Need-returns-3 (condition-calls t) (condition-at t) condition.Post
-condition-returns-3 t c = let d = as-is (c .before .before .before .before .before .before .before .before .before .before .conj .ensures) (c .before .before .before .before .before .before .before .before .a .given .1) in let w = d .within in let e = as-is (c .before .before .before .before .before .ors .ensures) (c .before .before .before .z .given .1) in let x = e .within in then d (then {lo″ = c .before .before .before .before .before .before .before .before .before .before .before .before .before .args .at + 1} e (c .arrow .ensures) (omega arith)) (omega arith)
+condition-returns-3 t c =
+    let at-z = c .before .before .before in
+    let at-ors = at-z .before .before in
+    let at-a = at-ors .before .before .before in
+    let at-conj = at-a .before .before in
+    let entry = at-conj .before .before .before in
+    let d = as-is (at-conj .conj .ensures) (at-a .a .given .1) in
+    let w = d .within in
+    let e = as-is (at-ors .ors .ensures) (at-z .z .given .1) in
+    let x = e .within in
+    then d (then {lo″ = entry .args .at + 1} e (c .arrow .ensures) (omega arith)) (omega arith)
 
 conj-unit-requires : (t : ℕ) → conj-lts.Need-unit-requires (conj-calls t) (conj-at t) conj.Post
 conj-unit-requires t c κs = omega arith
 
-conj-enum-known-q : (t : ℕ) → conj-lts.Need-enum-known-q (conj-calls t) (conj-at t) conj.Post
-conj-enum-known-q t c = search needs
-
-conj-enum-known-a : (t : ℕ) → conj-lts.Need-enum-known-a (conj-calls t) (conj-at t) conj.Post
-conj-enum-known-a t c = search needs
-
 conj-ands-requires : (t : ℕ) → conj-lts.Need-ands-requires (conj-calls t) (conj-at t) conj.Post
-conj-ands-requires t c κs = let d = as-is (c .before .before .before .before .unit .ensures) (c .before .before .a .given .1) in let w = d .within in omega arith
+conj-ands-requires t c κs =
+    let at-a = c .before .before in
+    let at-unit = at-a .before .before in
+    let d = as-is (at-unit .unit .ensures) (at-a .a .given .1) in
+    let w = d .within in
+    omega arith
 
 conj-returns : (t : ℕ) → conj-lts.Need-returns (conj-calls t) (conj-at t) conj.Post
-conj-returns t c = stop (λ s. machine.ands (c .before .before .before .before .before .before .args .d) ∷ s) _ (as-is (c .before .before .before .unit .ensures) (c .before .q .given .1))
+conj-returns t c =
+    let at-unit = c .before .before .before in
+    let entry = at-unit .before .before .before in
+    stop (λ s. machine.ands (entry .args .d) ∷ s) _ (as-is (at-unit .unit .ensures) (c .before .q .given .1))
 
 conj-returns-2 : (t : ℕ) → conj-lts.Need-returns-2 (conj-calls t) (conj-at t) conj.Post
-conj-returns-2 t c = let d = as-is (c .before .before .before .before .before .unit .ensures) (c .before .before .before .a .given .1) in let w = d .within in then d (c .ands .ensures) (omega arith)
-
-ors-token-at-requires : (t : ℕ) → ors-lts.Need-token-at-requires (ors-calls t) (ors-at t) ors.Post
-ors-token-at-requires t c κs = search needs
+conj-returns-2 t c =
+    let at-a = c .before .before .before in
+    let at-unit = at-a .before .before in
+    let d = as-is (at-unit .unit .ensures) (at-a .a .given .1) in
+    let w = d .within in
+    then d (c .ands .ensures) (omega arith)
 
 ors-returns : (t : ℕ) → ors-lts.Need-returns (ors-calls t) (ors-at t) ors.Post
 unfolding step finish
-ors-returns t c = same (c .before .before .before .before .pre .1) (c .before .before .token-at .ensures) (idle (omega arith) (c .before .before .before .before .pre .1) refl) (λ s. rw (ne-eqb _ _ (c .if1 .taken))) (λ s. refl)
+ors-returns t c =
+    let at-token-at = c .before .before in
+    let entry = at-token-at .before .before in
+    same (entry .pre .1) (at-token-at .token-at .ensures) (idle (omega arith) (entry .pre .1) refl) (λ s. rw (ne-eqb _ _ (c .if1 .taken))) (λ s. refl)
 
 ors-conj-requires : (t : ℕ) → ors-lts.Need-conj-requires (ors-calls t) (ors-at t) ors.Post
-ors-conj-requires t c κs = let ne : c .before .before .before .token-at .result .kind ≡ 0 → ⊥ = λ e. omega arith in let v = beyond (now (c .before .before .before .before .before .args .text)) (c .before .before .before .before .before .args .at) (c .before .before .before .token-at .result) (c .before .before .before .before .before .pre .1) (c .before .before .before .token-at .ensures) ne in omega arith
-
-ors-enum-known-q : (t : ℕ) → ors-lts.Need-enum-known-q (ors-calls t) (ors-at t) ors.Post
-ors-enum-known-q t c = search needs
-
-ors-enum-known-a : (t : ℕ) → ors-lts.Need-enum-known-a (ors-calls t) (ors-at t) ors.Post
-ors-enum-known-a t c = search needs
-
-ors-emit-kind-requires : (t : ℕ) → ors-lts.Need-emit-kind-requires (ors-calls t) (ors-at t) ors.Post
-ors-emit-kind-requires t c κs = search needs
+ors-conj-requires t c κs =
+    let at-token-at = c .before .before .before in
+    let entry = at-token-at .before .before in
+    let ne : at-token-at .token-at .result .kind ≡ 0 → ⊥ = λ e. omega arith in
+    let v = beyond (now (entry .args .text)) (entry .args .at) (at-token-at .token-at .result) (entry .pre .1) (at-token-at .token-at .ensures) ne in
+    omega arith
 
 ors-ors-requires : (t : ℕ) → ors-lts.Need-ors-requires (ors-calls t) (ors-at t) ors.Post
-ors-ors-requires t c κs = let ne : c .before .before .before .before .before .before .before .before .before .before .token-at .result .kind ≡ 0 → ⊥ = λ e. omega arith in let v = beyond (now (c .before .before .before .before .before .before .before .before .before .before .before .before .args .text)) (c .before .before .before .before .before .before .before .before .before .before .before .before .args .at) (c .before .before .before .before .before .before .before .before .before .before .token-at .result) (c .before .before .before .before .before .before .before .before .before .before .before .before .pre .1) (c .before .before .before .before .before .before .before .before .before .before .token-at .ensures) ne in let d = as-is (c .before .before .before .before .before .before .conj .ensures) (c .before .before .before .before .a .given .1) in let w = d .within in omega arith
+ors-ors-requires t c κs =
+    let at-a = c .before .before .before .before in
+    let at-conj = at-a .before .before in
+    let at-token-at = at-conj .before .before .before .before in
+    let entry = at-token-at .before .before in
+    let ne : at-token-at .token-at .result .kind ≡ 0 → ⊥ = λ e. omega arith in
+    let v = beyond (now (entry .args .text)) (entry .args .at) (at-token-at .token-at .result) (entry .pre .1) (at-token-at .token-at .ensures) ne in
+    let d = as-is (at-conj .conj .ensures) (at-a .a .given .1) in
+    let w = d .within in
+    omega arith
 
 ors-returns-2 : (t : ℕ) → ors-lts.Need-returns-2 (ors-calls t) (ors-at t) ors.Post
 unfolding step
-ors-returns-2 t c = let ne : c .before .before .before .before .before .before .before .token-at .result .kind ≡ 0 → ⊥ = λ e. omega arith in let v = beyond (now (c .before .before .before .before .before .before .before .before .before .args .text)) (c .before .before .before .before .before .before .before .before .before .args .at) (c .before .before .before .before .before .before .before .token-at .result) (c .before .before .before .before .before .before .before .before .before .pre .1) (c .before .before .before .before .before .before .before .token-at .ensures) ne in take (c .before .before .before .before .before .before .before .before .before .pre .1) (c .before .before .before .before .before .before .before .token-at .ensures) ne (stop (λ s. doing (out (alone (Kind.connective Connective.or))) ∷ machine.ors (c .before .before .before .before .before .before .before .before .before .args .d) ∷ s) _ (as-is (c .before .before .before .conj .ensures) (c .before .q .given .1))) (λ s. rw (c .before .before .before .before .before .if1 .left))
+ors-returns-2 t c =
+    let at-conj = c .before .before .before in
+    let at-if1 = at-conj .before .before in
+    let at-token-at = at-if1 .before .before in
+    let entry = at-token-at .before .before in
+    let ne : at-token-at .token-at .result .kind ≡ 0 → ⊥ = λ e. omega arith in
+    let v = beyond (now (entry .args .text)) (entry .args .at) (at-token-at .token-at .result) (entry .pre .1) (at-token-at .token-at .ensures) ne in
+    take (entry .pre .1) (at-token-at .token-at .ensures) ne (stop (λ s. doing (out (alone (Kind.connective Connective.or))) ∷ machine.ors (entry .args .d) ∷ s) _ (as-is (at-conj .conj .ensures) (c .before .q .given .1))) (λ s. rw (at-if1 .if1 .left))
 
 ors-returns-3 : (t : ℕ) → ors-lts.Need-returns-3 (ors-calls t) (ors-at t) ors.Post
 unfolding step
-ors-returns-3 t c = let ne : c .before .before .before .before .before .before .before .before .before .before .before .token-at .result .kind ≡ 0 → ⊥ = λ e. omega arith in let v = beyond (now (c .before .before .before .before .before .before .before .before .before .before .before .before .before .args .text)) (c .before .before .before .before .before .before .before .before .before .before .before .before .before .args .at) (c .before .before .before .before .before .before .before .before .before .before .before .token-at .result) (c .before .before .before .before .before .before .before .before .before .before .before .before .before .pre .1) (c .before .before .before .before .before .before .before .before .before .before .before .token-at .ensures) ne in let d = as-is (c .before .before .before .before .before .before .before .conj .ensures) (c .before .before .before .before .before .a .given .1) in let w = d .within in take (c .before .before .before .before .before .before .before .before .before .before .before .before .before .pre .1) (c .before .before .before .before .before .before .before .before .before .before .before .token-at .ensures) ne (then (then-does (out (alone (Kind.connective Connective.or))) d (c .before .before .emit-kind .ensures (now (c .before .before .before .before .before .before .before .before .before .before .before .before .before .args .text)) (now (c .before .before .before .before .before .before .before .before .before .before .before .before .before .args .names)))) (c .ors .ensures) (omega arith)) (λ s. rw (c .before .before .before .before .before .before .before .before .before .if1 .left))
-
-unit-token-at-requires : (t : ℕ) → unit-lts.Need-token-at-requires (unit-calls t) (unit-at t) unit.Post
-unit-token-at-requires t c κs = search needs
-
-unit-deeper-requires : (t : ℕ) → unit-lts.Need-deeper-requires (unit-calls t) (unit-at t) unit.Post
-unit-deeper-requires t c κs = search needs
-
-unit-entered-requires : (t : ℕ) → unit-lts.Need-entered-requires (unit-calls t) (unit-at t) unit.Post
-unit-entered-requires t c κs = search needs
+ors-returns-3 t c =
+    let at-emit-kind = c .before .before in
+    let at-a = at-emit-kind .before .before .before in
+    let at-conj = at-a .before .before in
+    let at-if1 = at-conj .before .before in
+    let at-token-at = at-if1 .before .before in
+    let entry = at-token-at .before .before in
+    let ne : at-token-at .token-at .result .kind ≡ 0 → ⊥ = λ e. omega arith in
+    let v = beyond (now (entry .args .text)) (entry .args .at) (at-token-at .token-at .result) (entry .pre .1) (at-token-at .token-at .ensures) ne in
+    let d = as-is (at-conj .conj .ensures) (at-a .a .given .1) in
+    let w = d .within in
+    take (entry .pre .1) (at-token-at .token-at .ensures) ne (then (then-does (out (alone (Kind.connective Connective.or))) d (at-emit-kind .emit-kind .ensures (now (entry .args .text)) (now (entry .args .names)))) (c .ors .ensures) (omega arith)) (λ s. rw (at-if1 .if1 .left))
 
 unit-braces-requires : (t : ℕ) → unit-lts.Need-braces-requires (unit-calls t) (unit-at t) unit.Post
-unit-braces-requires t c κs = let ne : c .before .before .before .before .before .token-at .result .kind ≡ 0 → ⊥ = λ e. omega arith in let v = beyond (now (c .before .before .before .before .before .before .before .args .text)) (c .before .before .before .before .before .before .before .args .at) (c .before .before .before .before .before .token-at .result) (c .before .before .before .before .before .before .before .pre .1) (c .before .before .before .before .before .token-at .ensures) ne in omega arith
+unit-braces-requires t c κs =
+    let at-token-at = c .before .before .before .before .before in
+    let entry = at-token-at .before .before in
+    let ne : at-token-at .token-at .result .kind ≡ 0 → ⊥ = λ e. omega arith in
+    let v = beyond (now (entry .args .text)) (entry .args .at) (at-token-at .token-at .result) (entry .pre .1) (at-token-at .token-at .ensures) ne in
+    omega arith
 
 unit-returns : (t : ℕ) → unit-lts.Need-returns (unit-calls t) (unit-at t) unit.Post
 unfolding step
-unit-returns t c = let ne : c .before .before .before .before .before .before .token-at .result .kind ≡ 0 → ⊥ = λ e. omega arith in let v = beyond (now (c .before .before .before .before .before .before .before .before .args .text)) (c .before .before .before .before .before .before .before .before .args .at) (c .before .before .before .before .before .before .token-at .result) (c .before .before .before .before .before .before .before .before .pre .1) (c .before .before .before .before .before .before .token-at .ensures) ne in take (c .before .before .before .before .before .before .before .before .pre .1) (c .before .before .before .before .before .before .token-at .ensures) ne (least (omega arith) (rw (c .before .before .entered .ensures (now (c .before .before .before .before .before .before .before .before .args .text)) (now (c .before .before .before .before .before .before .before .before .args .names)) (now (c .before .before .before .before .before .before .before .before .args .buf))) at (c .braces .ensures))) (λ s. rw (c .before .before .before .if1 .taken, ← c .before .before .before .before .before .deeper .ensures))
+unit-returns t c =
+    let at-entered = c .before .before in
+    let at-if1 = at-entered .before in
+    let at-deeper = at-if1 .before .before in
+    let at-token-at = at-deeper .before in
+    let entry = at-token-at .before .before in
+    let ne : at-token-at .token-at .result .kind ≡ 0 → ⊥ = λ e. omega arith in
+    let v = beyond (now (entry .args .text)) (entry .args .at) (at-token-at .token-at .result) (entry .pre .1) (at-token-at .token-at .ensures) ne in
+    take (entry .pre .1) (at-token-at .token-at .ensures) ne (least (omega arith) (rw (at-entered .entered .ensures (now (entry .args .text)) (now (entry .args .names)) (now (entry .args .buf))) at (c .braces .ensures))) (λ s. rw (at-if1 .if1 .taken, ← at-deeper .deeper .ensures))
 
 unit-relation-requires : (t : ℕ) → unit-lts.Need-relation-requires (unit-calls t) (unit-at t) unit.Post
-unit-relation-requires t c κs = c .before .before .before .before .before .before .before .before .pre .1
+unit-relation-requires t c κs =
+    let entry = c .before .before .before .before .before .before .before .before in
+    entry .pre .1
 
 unit-returns-2 : (t : ℕ) → unit-lts.Need-returns-2 (unit-calls t) (unit-at t) unit.Post
 unfolding step finish
-unit-returns-2 t c = same (c .before .before .before .before .before .before .before .before .before .pre .1) (c .before .before .before .before .before .before .before .token-at .ensures) (c .relation .ensures) (λ s. rw (ne-eqb _ _ (c .before .before .before .before .if1 .left), ne-eqb _ _ (c .before .before .if2 .taken))) (λ s. refl)
-
-unit-entered-requires-2 : (t : ℕ) → unit-lts.Need-entered-requires-2 (unit-calls t) (unit-at t) unit.Post
-unit-entered-requires-2 t c κs = search needs
+unit-returns-2 t c =
+    let at-if2 = c .before .before in
+    let at-if1 = at-if2 .before .before in
+    let at-token-at = at-if1 .before .before .before in
+    let entry = at-token-at .before .before in
+    same (entry .pre .1) (at-token-at .token-at .ensures) (c .relation .ensures) (λ s. rw (ne-eqb _ _ (at-if1 .if1 .left), ne-eqb _ _ (at-if2 .if2 .taken))) (λ s. refl)
 
 unit-unit-requires : (t : ℕ) → unit-lts.Need-unit-requires (unit-calls t) (unit-at t) unit.Post
-unit-unit-requires t c κs = let ne : c .before .before .before .before .before .before .before .token-at .result .kind ≡ 0 → ⊥ = λ e. omega arith in let v = beyond (now (c .before .before .before .before .before .before .before .before .before .args .text)) (c .before .before .before .before .before .before .before .before .before .args .at) (c .before .before .before .before .before .before .before .token-at .result) (c .before .before .before .before .before .before .before .before .before .pre .1) (c .before .before .before .before .before .before .before .token-at .ensures) ne in omega arith
-
-unit-enum-known-q : (t : ℕ) → unit-lts.Need-enum-known-q (unit-calls t) (unit-at t) unit.Post
-unit-enum-known-q t c = search needs
-
-unit-enum-known-a : (t : ℕ) → unit-lts.Need-enum-known-a (unit-calls t) (unit-at t) unit.Post
-unit-enum-known-a t c = search needs
-
-unit-emit-kind-requires : (t : ℕ) → unit-lts.Need-emit-kind-requires (unit-calls t) (unit-at t) unit.Post
-unit-emit-kind-requires t c κs = search needs
+unit-unit-requires t c κs =
+    let at-token-at = c .before .before .before .before .before .before .before in
+    let entry = at-token-at .before .before in
+    let ne : at-token-at .token-at .result .kind ≡ 0 → ⊥ = λ e. omega arith in
+    let v = beyond (now (entry .args .text)) (entry .args .at) (at-token-at .token-at .result) (entry .pre .1) (at-token-at .token-at .ensures) ne in
+    omega arith
 
 unit-returns-3 : (t : ℕ) → unit-lts.Need-returns-3 (unit-calls t) (unit-at t) unit.Post
 unfolding step
-unit-returns-3 t c = let ne : c .before .before .before .before .before .before .before .before .before .before .before .token-at .result .kind ≡ 0 → ⊥ = λ e. omega arith in let v = beyond (now (c .before .before .before .before .before .before .before .before .before .before .before .before .before .args .text)) (c .before .before .before .before .before .before .before .before .before .before .before .before .before .args .at) (c .before .before .before .before .before .before .before .before .before .before .before .token-at .result) (c .before .before .before .before .before .before .before .before .before .before .before .before .before .pre .1) (c .before .before .before .before .before .before .before .before .before .before .before .token-at .ensures) ne in take (c .before .before .before .before .before .before .before .before .before .before .before .before .before .pre .1) (c .before .before .before .before .before .before .before .before .before .before .before .token-at .ensures) ne (stop (λ s. doing (out (alone Kind.negation)) ∷ s) _ (rw (c .before .before .before .before .before .entered2 .ensures (now (c .before .before .before .before .before .before .before .before .before .before .before .before .before .args .text)) (now (c .before .before .before .before .before .before .before .before .before .before .before .before .before .args .names)) (now (c .before .before .before .before .before .before .before .before .before .before .before .before .before .args .buf))) at (as-is (c .before .before .before .unit .ensures) (c .before .q .given .1)))) (λ s. rw (c .before .before .before .before .before .before .if2 .left, ← c .before .before .before .before .before .before .before .before .before .before .deeper .ensures))
+unit-returns-3 t c =
+    let at-unit = c .before .before .before in
+    let at-entered2 = at-unit .before .before in
+    let at-if2 = at-entered2 .before in
+    let at-deeper = at-if2 .before .before .before .before in
+    let at-token-at = at-deeper .before in
+    let entry = at-token-at .before .before in
+    let ne : at-token-at .token-at .result .kind ≡ 0 → ⊥ = λ e. omega arith in
+    let v = beyond (now (entry .args .text)) (entry .args .at) (at-token-at .token-at .result) (entry .pre .1) (at-token-at .token-at .ensures) ne in
+    take (entry .pre .1) (at-token-at .token-at .ensures) ne (stop (λ s. doing (out (alone Kind.negation)) ∷ s) _ (rw (at-entered2 .entered2 .ensures (now (entry .args .text)) (now (entry .args .names)) (now (entry .args .buf))) at (as-is (at-unit .unit .ensures) (c .before .q .given .1)))) (λ s. rw (at-if2 .if2 .left, ← at-deeper .deeper .ensures))
 
 unit-returns-4 : (t : ℕ) → unit-lts.Need-returns-4 (unit-calls t) (unit-at t) unit.Post
 unfolding step
-unit-returns-4 t c = let ne : c .before .before .before .before .before .before .before .before .before .before .before .before .before .token-at .result .kind ≡ 0 → ⊥ = λ e. omega arith in let v = beyond (now (c .before .before .before .before .before .before .before .before .before .before .before .before .before .before .before .args .text)) (c .before .before .before .before .before .before .before .before .before .before .before .before .before .before .before .args .at) (c .before .before .before .before .before .before .before .before .before .before .before .before .before .token-at .result) (c .before .before .before .before .before .before .before .before .before .before .before .before .before .before .before .pre .1) (c .before .before .before .before .before .before .before .before .before .before .before .before .before .token-at .ensures) ne in let d = rw (c .before .before .before .before .before .before .before .entered2 .ensures (now (c .before .before .before .before .before .before .before .before .before .before .before .before .before .before .before .args .text)) (now (c .before .before .before .before .before .before .before .before .before .before .before .before .before .before .before .args .names)) (now (c .before .before .before .before .before .before .before .before .before .before .before .before .before .before .before .args .buf))) at (as-is (c .before .before .before .before .before .unit .ensures) (c .before .before .before .a .given .1)) in let w = d .within in take (c .before .before .before .before .before .before .before .before .before .before .before .before .before .before .before .pre .1) (c .before .before .before .before .before .before .before .before .before .before .before .before .before .token-at .ensures) ne (least (omega arith) (then-does (out (alone Kind.negation)) d (c .emit-kind .ensures (now (c .before .before .before .before .before .before .before .before .before .before .before .before .before .before .before .args .text)) (now (c .before .before .before .before .before .before .before .before .before .before .before .before .before .before .before .args .names))))) (λ s. rw (c .before .before .before .before .before .before .before .before .if2 .left, ← c .before .before .before .before .before .before .before .before .before .before .before .before .deeper .ensures))
+unit-returns-4 t c =
+    let at-a = c .before .before .before in
+    let at-unit = at-a .before .before in
+    let at-entered2 = at-unit .before .before in
+    let at-if2 = at-entered2 .before in
+    let at-deeper = at-if2 .before .before .before .before in
+    let at-token-at = at-deeper .before in
+    let entry = at-token-at .before .before in
+    let ne : at-token-at .token-at .result .kind ≡ 0 → ⊥ = λ e. omega arith in
+    let v = beyond (now (entry .args .text)) (entry .args .at) (at-token-at .token-at .result) (entry .pre .1) (at-token-at .token-at .ensures) ne in
+    let d = rw (at-entered2 .entered2 .ensures (now (entry .args .text)) (now (entry .args .names)) (now (entry .args .buf))) at (as-is (at-unit .unit .ensures) (at-a .a .given .1)) in
+    let w = d .within in
+    take (entry .pre .1) (at-token-at .token-at .ensures) ne (least (omega arith) (then-does (out (alone Kind.negation)) d (c .emit-kind .ensures (now (entry .args .text)) (now (entry .args .names))))) (λ s. rw (at-if2 .if2 .left, ← at-deeper .deeper .ensures))
 
 pub +ands+arrow+braces+condition+conj+ors+unit-spec : {M : Type 1} → statement M
 +ands+arrow+braces+condition+conj+ors+unit-spec =
     close μ-ands μ-arrow μ-braces μ-condition μ-conj μ-ors μ-unit
     (λ t. ands-lts.spec (ands-calls t) (ands-at t) ands.Post
-    (ands-token-at-requires t)
+    (λ c κs. search needs)
     (ands-returns t)
     (ands-unit-requires t)
-    (ands-enum-known-q t)
-    (ands-enum-known-a t)
-    (ands-emit-kind-requires t)
+    (λ c. search needs)
+    (λ c. search needs)
+    (λ c κs. search needs)
     (ands-ands-requires t)
     (ands-returns-2 t)
     (ands-returns-3 t))
     (λ t. arrow-lts.spec (arrow-calls t) (arrow-at t) arrow.Post
-    (arrow-token-at-requires t)
+    (λ c κs. search needs)
     (arrow-returns t)
-    (arrow-deeper-requires t)
-    (arrow-entered-requires t)
+    (λ c κs. search needs)
+    (λ c κs. search needs)
     (arrow-condition-requires t)
-    (arrow-enum-known-q t)
-    (arrow-enum-known-a t)
-    (arrow-emit-kind-requires t)
+    (λ c. search needs)
+    (λ c. search needs)
+    (λ c κs. search needs)
     (arrow-returns-2 t)
     (arrow-returns-3 t))
     (λ t. braces-lts.spec (braces-calls t) (braces-at t) braces.Post
     (braces-condition-requires t)
-    (braces-enum-known-q t)
-    (braces-enum-known-a t)
+    (λ c. search needs)
+    (λ c. search needs)
     (braces-expect-requires t)
     (braces-returns t)
     (braces-returns-2 t))
     (λ t. condition-lts.spec (condition-calls t) (condition-at t) condition.Post
     (condition-conj-requires t)
-    (condition-enum-known-q t)
-    (condition-enum-known-a t)
+    (λ c. search needs)
+    (λ c. search needs)
     (condition-ors-requires t)
-    (condition-enum-known-q-2 t)
-    (condition-enum-known-z t)
+    (λ c. search needs)
+    (λ c. search needs)
     (condition-arrow-requires t)
     (condition-returns t)
     (condition-returns-2 t)
     (condition-returns-3 t))
     (λ t. conj-lts.spec (conj-calls t) (conj-at t) conj.Post
     (conj-unit-requires t)
-    (conj-enum-known-q t)
-    (conj-enum-known-a t)
+    (λ c. search needs)
+    (λ c. search needs)
     (conj-ands-requires t)
     (conj-returns t)
     (conj-returns-2 t))
     (λ t. ors-lts.spec (ors-calls t) (ors-at t) ors.Post
-    (ors-token-at-requires t)
+    (λ c κs. search needs)
     (ors-returns t)
     (ors-conj-requires t)
-    (ors-enum-known-q t)
-    (ors-enum-known-a t)
-    (ors-emit-kind-requires t)
+    (λ c. search needs)
+    (λ c. search needs)
+    (λ c κs. search needs)
     (ors-ors-requires t)
     (ors-returns-2 t)
     (ors-returns-3 t))
     (λ t. unit-lts.spec (unit-calls t) (unit-at t) unit.Post
-    (unit-token-at-requires t)
-    (unit-deeper-requires t)
-    (unit-entered-requires t)
+    (λ c κs. search needs)
+    (λ c κs. search needs)
+    (λ c κs. search needs)
     (unit-braces-requires t)
     (unit-returns t)
     (unit-relation-requires t)
     (unit-returns-2 t)
-    (unit-entered-requires-2 t)
+    (λ c κs. search needs)
     (unit-unit-requires t)
-    (unit-enum-known-q t)
-    (unit-enum-known-a t)
-    (unit-emit-kind-requires t)
+    (λ c. search needs)
+    (λ c. search needs)
+    (λ c κs. search needs)
     (unit-returns-3 t)
     (unit-returns-4 t))

@@ -12,42 +12,58 @@ use borrow.Author.Needs.{needs}
 use Rattle.rule.proofs.conditions.compare.Statement.{statement}
 use Rattle.rule.proofs.conditions.compare.Tie as tie
 
-token-at-requires : tie.Need-token-at-requires
-token-at-requires c κs = search needs
-
-rel-kind-requires : tie.Need-rel-kind-requires
-rel-kind-requires c κs = search needs
-
 returns : tie.Need-returns
 unfolding finish
-returns c = fail (c .before .before .before .before .pre) (c .before .before .token-at .ensures) (λ s. rel-stuck _ _ _ _ _ _ _ (sym (c .before .rel-kind .ensures) ∙ c .if1 .taken)) (λ s. refl)
+returns c =
+    let at-token-at = c .before .before in
+    let entry = at-token-at .before .before in
+    fail (entry .pre) (at-token-at .token-at .ensures) (λ s. rel-stuck _ _ _ _ _ _ _ (sym (c .before .rel-kind .ensures) ∙ c .if1 .taken)) (λ s. refl)
 
 sum-requires : tie.Need-sum-requires
-sum-requires c κs = let nz : relByte (c .before .before .before .token-at .result .kind) ≡ 0 → ⊥ = λ e. c .before .if1 .left (c .before .before .rel-kind .ensures ∙ e) in let ne = rel-some (c .before .before .before .token-at .result .kind) nz in let v = beyond (now (c .before .before .before .before .before .args .text)) (c .before .before .before .before .before .args .at) (c .before .before .before .token-at .result) (c .before .before .before .before .before .pre) (c .before .before .before .token-at .ensures) ne in v .1
-
-enum-known-q : tie.Need-enum-known-q
-enum-known-q c = search needs
-
-enum-known-a : tie.Need-enum-known-a
-enum-known-a c = search needs
-
-emit-kind-requires : tie.Need-emit-kind-requires
-emit-kind-requires c κs = search needs
+sum-requires c κs =
+    let at-rel-kind = c .before .before in
+    let at-token-at = at-rel-kind .before in
+    let entry = at-token-at .before .before in
+    let nz : relByte (at-token-at .token-at .result .kind) ≡ 0 → ⊥ = λ e. c .before .if1 .left (at-rel-kind .rel-kind .ensures ∙ e) in
+    let ne = rel-some (at-token-at .token-at .result .kind) nz in
+    let v = beyond (now (entry .args .text)) (entry .args .at) (at-token-at .token-at .result) (entry .pre) (at-token-at .token-at .ensures) ne in
+    v .1
 
 returns-2 : tie.Need-returns-2
-returns-2 c = let nz : relByte (c .before .before .before .before .before .before .before .token-at .result .kind) ≡ 0 → ⊥ = λ e. c .before .before .before .before .before .if1 .left (c .before .before .before .before .before .before .rel-kind .ensures ∙ e) in let ne = rel-some (c .before .before .before .before .before .before .before .token-at .result .kind) nz in let v = beyond (now (c .before .before .before .before .before .before .before .before .before .args .text)) (c .before .before .before .before .before .before .before .before .before .args .at) (c .before .before .before .before .before .before .before .token-at .result) (c .before .before .before .before .before .before .before .before .before .pre) (c .before .before .before .before .before .before .before .token-at .ensures) ne in take (c .before .before .before .before .before .before .before .before .before .pre) (c .before .before .before .before .before .before .before .token-at .ensures) ne (stop (λ s. doing (out (plain (relByte (c .before .before .before .before .before .before .before .token-at .result .kind)))) ∷ s) _ (as-is (c .before .before .before .sum .ensures) (c .before .q .given .1))) (λ s. rel-step _ _ _ _ _ _ _ nz)
+returns-2 c =
+    let at-sum = c .before .before .before in
+    let at-if1 = at-sum .before .before in
+    let at-rel-kind = at-if1 .before in
+    let at-token-at = at-rel-kind .before in
+    let entry = at-token-at .before .before in
+    let nz : relByte (at-token-at .token-at .result .kind) ≡ 0 → ⊥ = λ e. at-if1 .if1 .left (at-rel-kind .rel-kind .ensures ∙ e) in
+    let ne = rel-some (at-token-at .token-at .result .kind) nz in
+    let v = beyond (now (entry .args .text)) (entry .args .at) (at-token-at .token-at .result) (entry .pre) (at-token-at .token-at .ensures) ne in
+    take (entry .pre) (at-token-at .token-at .ensures) ne (stop (λ s. doing (out (plain (relByte (at-token-at .token-at .result .kind)))) ∷ s) _ (as-is (at-sum .sum .ensures) (c .before .q .given .1))) (λ s. rel-step _ _ _ _ _ _ _ nz)
 
 returns-3 : tie.Need-returns-3
-returns-3 c = let nz : relByte (c .before .before .before .before .before .before .before .before .before .token-at .result .kind) ≡ 0 → ⊥ = λ e. c .before .before .before .before .before .before .before .if1 .left (c .before .before .before .before .before .before .before .before .rel-kind .ensures ∙ e) in let ne = rel-some (c .before .before .before .before .before .before .before .before .before .token-at .result .kind) nz in let v = beyond (now (c .before .before .before .before .before .before .before .before .before .before .before .args .text)) (c .before .before .before .before .before .before .before .before .before .before .before .args .at) (c .before .before .before .before .before .before .before .before .before .token-at .result) (c .before .before .before .before .before .before .before .before .before .before .before .pre) (c .before .before .before .before .before .before .before .before .before .token-at .ensures) ne in let d = as-is (c .before .before .before .before .before .sum .ensures) (c .before .before .before .a .given .1) in let w = d .within in take (c .before .before .before .before .before .before .before .before .before .before .before .pre) (c .before .before .before .before .before .before .before .before .before .token-at .ensures) ne (least (omega arith) (then-does (out (plain (c .before .before .before .before .before .before .before .before .rel-kind .result))) d (c .emit-kind .ensures (now (c .before .before .before .before .before .before .before .before .before .before .before .args .text)) (now (c .before .before .before .before .before .before .before .before .before .before .before .args .names))))) (λ s. rw (c .before .before .before .before .before .before .before .before .rel-kind .ensures) (rel-step _ _ _ _ _ _ _ nz))
+returns-3 c =
+    let at-a = c .before .before .before in
+    let at-sum = at-a .before .before in
+    let at-if1 = at-sum .before .before in
+    let at-rel-kind = at-if1 .before in
+    let at-token-at = at-rel-kind .before in
+    let entry = at-token-at .before .before in
+    let nz : relByte (at-token-at .token-at .result .kind) ≡ 0 → ⊥ = λ e. at-if1 .if1 .left (at-rel-kind .rel-kind .ensures ∙ e) in
+    let ne = rel-some (at-token-at .token-at .result .kind) nz in
+    let v = beyond (now (entry .args .text)) (entry .args .at) (at-token-at .token-at .result) (entry .pre) (at-token-at .token-at .ensures) ne in
+    let d = as-is (at-sum .sum .ensures) (at-a .a .given .1) in
+    let w = d .within in
+    take (entry .pre) (at-token-at .token-at .ensures) ne (least (omega arith) (then-does (out (plain (at-rel-kind .rel-kind .result))) d (c .emit-kind .ensures (now (entry .args .text)) (now (entry .args .names))))) (λ s. rw (at-rel-kind .rel-kind .ensures) (rel-step _ _ _ _ _ _ _ nz))
 
 pub compare-spec : {M : Type 1} → statement M
 compare-spec = tie.close (tie.spec
-    token-at-requires
-    rel-kind-requires
+    (λ c κs. search needs)
+    (λ c κs. search needs)
     returns
     sum-requires
-    enum-known-q
-    enum-known-a
-    emit-kind-requires
+    (λ c. search needs)
+    (λ c. search needs)
+    (λ c κs. search needs)
     returns-2
     returns-3)

@@ -3,12 +3,9 @@ use borrow.Author.Needs.{needs}
 use Rattle.rule.proofs.emit.emit_kind.Statement.{statement}
 use Rattle.rule.proofs.emit.emit_kind.Tie as tie
 
-emit-requires : tie.Need-emit-requires
-emit-requires c κs = search needs
-
 returns : tie.Need-returns
 unfolding acts
 returns c = λ text tb. c .emit .ensures tb
 
 pub emit-kind-spec : {M : Type 1} → statement M
-emit-kind-spec = tie.close (tie.spec emit-requires returns)
+emit-kind-spec = tie.close (tie.spec (λ c κs. search needs) returns)

@@ -5,40 +5,27 @@ use borrow.Author.Needs.{needs}
 use Rattle.rule.proofs.emit.emit_reference.Statement.{statement}
 use Rattle.rule.proofs.emit.emit_reference.Tie as tie
 
-name-at-requires : tie.Need-name-at-requires
-name-at-requires c κs = search needs
-
-lookup-requires : tie.Need-lookup-requires
-lookup-requires c κs = search needs
-
-name-at-requires-2 : tie.Need-name-at-requires-2
-name-at-requires-2 c κs = search needs
-
-lookup-requires-2 : tie.Need-lookup-requires-2
-lookup-requires-2 c κs = search needs
-
-factor-of-requires : tie.Need-factor-of-requires
-factor-of-requires c κs = search needs
-
-offset-of-requires : tie.Need-offset-of-requires
-offset-of-requires c κs = search needs
-
-emit-requires : tie.Need-emit-requires
-emit-requires c κs = search needs
-
 returns : tie.Need-returns
 unfolding acts
-returns c = c .emit .ensures (now (c .before .before .before .before .before .before .before .before .before .args .names)) ∙ rw (c .before .before .before .before .before .before .lookup .ensures (now (c .before .before .before .before .before .before .before .before .before .args .buf)), c .before .before .before .before .before .before .before .name-at .ensures, c .before .before .before .before .lookup2 .ensures (now (c .before .before .before .before .before .before .before .before .before .args .buf)), c .before .before .before .before .before .name-at2 .ensures, c .before .before .before .factor-of .ensures, c .before .before .offset-of .ensures)
+returns c =
+    let at-offset-of = c .before .before in
+    let at-factor-of = at-offset-of .before in
+    let at-lookup2 = at-factor-of .before in
+    let at-name-at2 = at-lookup2 .before in
+    let at-lookup = at-name-at2 .before in
+    let at-name-at = at-lookup .before in
+    let entry = at-name-at .before .before in
+    c .emit .ensures (now (entry .args .names)) ∙ rw (at-lookup .lookup .ensures (now (entry .args .buf)), at-name-at .name-at .ensures, at-lookup2 .lookup2 .ensures (now (entry .args .buf)), at-name-at2 .name-at2 .ensures, at-factor-of .factor-of .ensures, at-offset-of .offset-of .ensures)
 
 pub emit-reference-spec : {M : Type 1} → statement M
 emit-reference-spec =
     tie.close
     (tie.spec
-    name-at-requires
-    lookup-requires
-    name-at-requires-2
-    lookup-requires-2
-    factor-of-requires
-    offset-of-requires
-    emit-requires
+    (λ c κs. search needs)
+    (λ c κs. search needs)
+    (λ c κs. search needs)
+    (λ c κs. search needs)
+    (λ c κs. search needs)
+    (λ c κs. search needs)
+    (λ c κs. search needs)
     returns)

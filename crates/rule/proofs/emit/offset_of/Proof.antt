@@ -7,43 +7,36 @@ use borrow.Author.Needs.{needs}
 use Rattle.rule.proofs.emit.offset_of.Statement.{statement}
 use Rattle.rule.proofs.emit.offset_of.Tie as tie
 
-enum-told : tie.Need-enum-told
-enum-told c = search needs
-
-enum-known-o : tie.Need-enum-known-o
-enum-known-o c = search needs
-
 number-at-requires : tie.Need-number-at-requires
-number-at-requires c κs = subst (λ (x : Shift). InsideShift (length (now (c .before .before .before .before .args .text))) x) (c .before .o .given .1) (c .before .before .before .before .pre)
-
-enum-told-2 : tie.Need-enum-told-2
-enum-told-2 c = search needs
-
-enum-told-3 : tie.Need-enum-told-3
-enum-told-3 c = search needs
-
-negated-requires : tie.Need-negated-requires
-negated-requires c κs = search needs
+number-at-requires c κs =
+    let entry = c .before .before .before .before in
+    subst (λ (x : Shift). InsideShift (length (now (entry .args .text))) x) (c .before .o .given .1) (entry .pre)
 
 returns : tie.Need-returns
 returns c = rw (c .enum-told .given .1)
 
 returns-2 : tie.Need-returns-2
-returns-2 c = rw (c .before .before .before .before .o .given .1, c .enum-told2 .given .1, c .before .before .number-at .ensures)
+returns-2 c =
+    let at-number-at = c .before .before in
+    let at-o = at-number-at .before .before in
+    rw (at-o .o .given .1, c .enum-told2 .given .1, at-number-at .number-at .ensures)
 
 returns-3 : tie.Need-returns-3
-returns-3 c = rw (c .before .before .before .before .before .o .given .1, c .before .enum-told3 .given .1, ← c .before .before .before .number-at .ensures) (c .negated .ensures)
+returns-3 c =
+    let at-number-at = c .before .before .before in
+    let at-o = at-number-at .before .before in
+    rw (at-o .o .given .1, c .before .enum-told3 .given .1, ← at-number-at .number-at .ensures) (c .negated .ensures)
 
 pub offset-of-spec : {M : Type 1} → statement M
 offset-of-spec =
     tie.close
     (tie.spec
-    enum-told
-    enum-known-o
+    (λ c. search needs)
+    (λ c. search needs)
     number-at-requires
-    enum-told-2
-    enum-told-3
-    negated-requires
+    (λ c. search needs)
+    (λ c. search needs)
+    (λ c κs. search needs)
     returns
     returns-2
     returns-3)

@@ -8,22 +8,23 @@ use borrow.Author.Needs.{needs}
 use Rattle.rule.proofs.expect.expect.Statement.{statement}
 use Rattle.rule.proofs.expect.expect.Tie as tie
 
-token-at-requires : tie.Need-token-at-requires
-token-at-requires c κs = search needs
-
 returns : tie.Need-returns
 unfolding step
 returns c =
-    let a = c .before .before .before .before .args in
-    let h = c .before .before .before .before .pre in
-    λ tb b. let ne : c .before .before .token-at .result .kind ≡ 0 → ⊥ = λ e. omega arith in
-    let v = beyond (now (a .text)) (a .at) (c .before .before .token-at .result) (h .0) (c .before .before .token-at .ensures) ne in take (h .0) (c .before .before .token-at .ensures) ne (idle (omega arith) (v .1) refl) (λ s. rw (eq-eqb _ _ (c .if1 .taken)))
+    let at-token-at = c .before .before in
+    let entry = at-token-at .before .before in
+    let a = entry .args in
+    let h = entry .pre in
+    λ tb b. let ne : at-token-at .token-at .result .kind ≡ 0 → ⊥ = λ e. omega arith in
+    let v = beyond (now (a .text)) (a .at) (at-token-at .token-at .result) (h .0) (at-token-at .token-at .ensures) ne in take (h .0) (at-token-at .token-at .ensures) ne (idle (omega arith) (v .1) refl) (λ s. rw (eq-eqb _ _ (c .if1 .taken)))
 
 returns-2 : tie.Need-returns-2
 unfolding step finish
 returns-2 c =
-    let h = c .before .before .before .before .pre in
-    λ tb b. fail (h .0) (c .before .before .token-at .ensures) (λ s. rw (ne-eqb _ _ (c .if1 .left))) (λ s. refl)
+    let at-token-at = c .before .before in
+    let entry = at-token-at .before .before in
+    let h = entry .pre in
+    λ tb b. fail (h .0) (at-token-at .token-at .ensures) (λ s. rw (ne-eqb _ _ (c .if1 .left))) (λ s. refl)
 
 pub expect-spec : {M : Type 1} → statement M
-expect-spec = tie.close (tie.spec token-at-requires returns returns-2)
+expect-spec = tie.close (tie.spec (λ c κs. search needs) returns returns-2)

@@ -30,28 +30,45 @@ names-of-below t = and 2 names-of-kinds.ps (falls 2 names-of-kinds.ps _<_ μ-nam
 abbrev names-of-calls : ℕ → names-of-lts.Claims
 names-of-calls t = (token-at-reads.Asked, token-at-reads.Learnt, declare-reads.Asked, declare-reads.Learnt, names-of-below t, names-of.Post)
 
-names-of-token-at-requires : (t : ℕ) → names-of-lts.Need-token-at-requires (names-of-calls t) (names-of-at t) names-of.Post
-names-of-token-at-requires t c κs = search needs
-
 names-of-returns : (t : ℕ) → names-of-lts.Need-returns (names-of-calls t) (names-of-at t) names-of.Post
 unfolding step finish
-names-of-returns t c = (λ b. same (c .before .before .before .before .pre .1 .0) (c .before .before .token-at .ensures) (idle (omega arith) (c .before .before .before .before .pre .1 .0) refl) (λ s. rw (ne-eqb _ _ (c .if1 .taken))) (λ s. refl), c .before .before .before .before .pre .1 .1)
+names-of-returns t c =
+    let at-token-at = c .before .before in
+    let entry = at-token-at .before .before in
+    (λ b. same (entry .pre .1 .0) (at-token-at .token-at .ensures) (idle (omega arith) (entry .pre .1 .0) refl) (λ s. rw (ne-eqb _ _ (c .if1 .taken))) (λ s. refl), entry .pre .1 .1)
 
 names-of-declare-requires : (t : ℕ) → names-of-lts.Need-declare-requires (names-of-calls t) (names-of-at t) names-of.Post
-names-of-declare-requires t c κs = let ne : c .before .before .before .token-at .result .kind ≡ 0 → ⊥ = λ e. omega arith in let i = inside (now (c .before .before .before .before .before .args .text)) (c .before .before .before .before .before .args .at) (c .before .before .before .token-at .result) (c .before .before .before .before .before .pre .1 .0) (c .before .before .before .token-at .ensures) ne in (i, c .before .before .before .before .before .pre .1 .1)
+names-of-declare-requires t c κs =
+    let at-token-at = c .before .before .before in
+    let entry = at-token-at .before .before in
+    let ne : at-token-at .token-at .result .kind ≡ 0 → ⊥ = λ e. omega arith in
+    let i = inside (now (entry .args .text)) (entry .args .at) (at-token-at .token-at .result) (entry .pre .1 .0) (at-token-at .token-at .ensures) ne in
+    (i, entry .pre .1 .1)
 
 names-of-names-of-requires : (t : ℕ) → names-of-lts.Need-names-of-requires (names-of-calls t) (names-of-at t) names-of.Post
-names-of-names-of-requires t c κs = let ne : c .before .before .before .before .before .token-at .result .kind ≡ 0 → ⊥ = λ e. omega arith in let v = beyond (now (c .before .before .before .before .before .before .before .args .text)) (c .before .before .before .before .before .before .before .args .at) (c .before .before .before .before .before .token-at .result) (c .before .before .before .before .before .before .before .pre .1 .0) (c .before .before .before .before .before .token-at .ensures) ne in (omega arith, (v .1, c .before .declare .ensures .1))
+names-of-names-of-requires t c κs =
+    let at-token-at = c .before .before .before .before .before in
+    let entry = at-token-at .before .before in
+    let ne : at-token-at .token-at .result .kind ≡ 0 → ⊥ = λ e. omega arith in
+    let v = beyond (now (entry .args .text)) (entry .args .at) (at-token-at .token-at .result) (entry .pre .1 .0) (at-token-at .token-at .ensures) ne in
+    (omega arith, (v .1, c .before .declare .ensures .1))
 
 names-of-returns-2 : (t : ℕ) → names-of-lts.Need-returns-2 (names-of-calls t) (names-of-at t) names-of.Post
 unfolding step
-names-of-returns-2 t c = let ne : c .before .before .before .before .before .before .token-at .result .kind ≡ 0 → ⊥ = λ e. omega arith in let v = beyond (now (c .before .before .before .before .before .before .before .before .args .text)) (c .before .before .before .before .before .before .before .before .args .at) (c .before .before .before .before .before .before .token-at .result) (c .before .before .before .before .before .before .before .before .pre .1 .0) (c .before .before .before .before .before .before .token-at .ensures) ne in (λ b. take (c .before .before .before .before .before .before .before .before .pre .1 .0) (c .before .before .before .before .before .before .token-at .ensures) ne (least (omega arith) (rw (c .before .before .declare .ensures .0 b) at (c .names-of .ensures .0 b))) (λ s. rw (c .before .before .before .before .if1 .left)), c .names-of .ensures .1)
+names-of-returns-2 t c =
+    let at-declare = c .before .before in
+    let at-if1 = at-declare .before .before in
+    let at-token-at = at-if1 .before .before in
+    let entry = at-token-at .before .before in
+    let ne : at-token-at .token-at .result .kind ≡ 0 → ⊥ = λ e. omega arith in
+    let v = beyond (now (entry .args .text)) (entry .args .at) (at-token-at .token-at .result) (entry .pre .1 .0) (at-token-at .token-at .ensures) ne in
+    (λ b. take (entry .pre .1 .0) (at-token-at .token-at .ensures) ne (least (omega arith) (rw (at-declare .declare .ensures .0 b) at (c .names-of .ensures .0 b))) (λ s. rw (at-if1 .if1 .left)), c .names-of .ensures .1)
 
 pub +names-of-spec : {M : Type 1} → statement M
 +names-of-spec =
     close μ-names-of
     (λ t. names-of-lts.spec (names-of-calls t) (names-of-at t) names-of.Post
-    (names-of-token-at-requires t)
+    (λ c κs. search needs)
     (names-of-returns t)
     (names-of-declare-requires t)
     (names-of-names-of-requires t)

@@ -4,18 +4,6 @@ use borrow.Author.Needs.{needs}
 use Rattle.rule.proofs.lookup.held.Statement.{statement}
 use Rattle.rule.proofs.lookup.held.Tie as tie
 
-enum-told : tie.Need-enum-told
-enum-told c = search needs
-
-least-requires : tie.Need-least-requires
-least-requires c κs = search needs
-
-enum-told-2 : tie.Need-enum-told-2
-enum-told-2 c = search needs
-
-least-requires-2 : tie.Need-least-requires-2
-least-requires-2 c κs = search needs
-
 returns : tie.Need-returns
 unfolding mem
 returns c = λ tb b. rw (c .before .enum-told .given .1, length-listed) (c .least .ensures)
@@ -26,4 +14,4 @@ returns-2 c = λ tb b. rw (c .before .enum-told2 .given .1, length-listed) (c .l
 
 pub held-spec : {M : Type 1} → statement M
 held-spec =
-    tie.close (tie.spec enum-told least-requires enum-told-2 least-requires-2 returns returns-2)
+    tie.close (tie.spec (λ c. search needs) (λ c κs. search needs) (λ c. search needs) (λ c κs. search needs) returns returns-2)

@@ -3,24 +3,6 @@ use borrow.Author.Needs.{needs}
 use Rattle.rule.proofs.lookup.lookup.Statement.{statement}
 use Rattle.rule.proofs.lookup.lookup.Tie as tie
 
-enum-told : tie.Need-enum-told
-enum-told c = search needs
-
-least-requires : tie.Need-least-requires
-least-requires c κs = search needs
-
-find-requires : tie.Need-find-requires
-find-requires c κs = search needs
-
-enum-told-2 : tie.Need-enum-told-2
-enum-told-2 c = search needs
-
-least-requires-2 : tie.Need-least-requires-2
-least-requires-2 c κs = search needs
-
-find-requires-2 : tie.Need-find-requires-2
-find-requires-2 c κs = search needs
-
 returns : tie.Need-returns
 unfolding mem
 returns c = λ b. rw (c .before .before .enum-told .given .1, ← c .before .least .ensures) (c .find .ensures)
@@ -33,11 +15,11 @@ pub lookup-spec : {M : Type 1} → statement M
 lookup-spec =
     tie.close
     (tie.spec
-    enum-told
-    least-requires
-    find-requires
-    enum-told-2
-    least-requires-2
-    find-requires-2
+    (λ c. search needs)
+    (λ c κs. search needs)
+    (λ c κs. search needs)
+    (λ c. search needs)
+    (λ c κs. search needs)
+    (λ c κs. search needs)
     returns
     returns-2)

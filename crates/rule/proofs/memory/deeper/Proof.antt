@@ -4,9 +4,6 @@ use borrow.Author.Needs.{needs}
 use Rattle.rule.proofs.memory.deeper.Statement.{statement}
 use Rattle.rule.proofs.memory.deeper.Tie as tie
 
-add-result : tie.Need-add-result
-add-result c = search needs
-
 returns : tie.Need-returns
 unfolding deeper
 returns c = rw (le-leb _ _ (c .if1 .taken))
@@ -16,4 +13,4 @@ unfolding deeper
 returns-2 c = rw (lt-leb _ _ (c .if1 .left))
 
 pub deeper-spec : {M : Type 1} → statement M
-deeper-spec = tie.close (tie.spec add-result returns returns-2)
+deeper-spec = tie.close (tie.spec (λ c. search needs) returns returns-2)

@@ -3,15 +3,6 @@ use borrow.Author.Needs.{needs}
 use Rattle.rule.proofs.memory.over.Statement.{statement}
 use Rattle.rule.proofs.memory.over.Tie as tie
 
-enum-told : tie.Need-enum-told
-enum-told c = search needs
-
-enum-told-2 : tie.Need-enum-told-2
-enum-told-2 c = search needs
-
-enum-told-3 : tie.Need-enum-told-3
-enum-told-3 c = search needs
-
 returns : tie.Need-returns
 returns c = rw (c .enum-told .given .1)
 
@@ -26,4 +17,4 @@ returns-4 c = rw (c .enum-told3 .given .1)
 
 pub over-spec : {M : Type 1} → statement M
 over-spec =
-    tie.close (tie.spec enum-told enum-told-2 enum-told-3 returns returns-2 returns-3 returns-4)
+    tie.close (tie.spec (λ c. search needs) (λ c. search needs) (λ c. search needs) returns returns-2 returns-3 returns-4)

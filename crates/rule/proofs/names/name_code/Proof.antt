@@ -21,29 +21,33 @@ returns c = sym (long-code _ (c .if1 .taken))
 loop-holds : tie.Need-loop-holds Inv-loop μ-loop
 loop-holds c = (omega arith, code-end (c .before .before .args .word .now))
 
-sub-i : tie.Need-sub-i Inv-loop μ-loop
-sub-i c = search needs
-
-shared-slice-read-letter-number : tie.Need-shared-slice-read-letter-number Inv-loop μ-loop
-shared-slice-read-letter-number c = search needs
-
-letter-number-requires : tie.Need-letter-number-requires Inv-loop μ-loop
-letter-number-requires c κs = search needs
-
 mul-v : tie.Need-mul-v Inv-loop μ-loop
-mul-v c = let h : c .before .before .before .loop .v ≤ 38913423965888661 = code-room _ _ (c .before .before .before .loop .inv .1 .1) (omega arith) in record { fits = omega arith }
+mul-v c =
+    let at-loop = c .before .before .before in
+    let h : at-loop .loop .v ≤ 38913423965888661 = code-room _ _ (at-loop .loop .inv .1 .1) (omega arith) in
+    record { fits = omega arith }
 
 add-v : tie.Need-add-v Inv-loop μ-loop
-add-v c = let h : c .before .before .before .loop .v ≤ 38913423965888661 = code-room _ _ (c .before .before .before .loop .inv .1 .1) (omega arith) in record { fits = omega (arith, c .letter-number .ensures, c .before .before .before .before .before .shared-slice-known .given (c .before .before .before .loop .i - 1)) }
-
-loop-less : tie.Need-loop-less Inv-loop μ-loop
-loop-less c = search needs
+add-v c =
+    let at-loop = c .before .before .before in
+    let at-shared-slice-known = at-loop .before .before in
+    let h : at-loop .loop .v ≤ 38913423965888661 = code-room _ _ (at-loop .loop .inv .1 .1) (omega arith) in
+    record { fits = omega (arith, c .letter-number .ensures, at-shared-slice-known .shared-slice-known .given (at-loop .loop .i - 1)) }
 
 loop-again : tie.Need-loop-again Inv-loop μ-loop
-loop-again c = (omega arith, rw (c .letter-number .ensures) (code-back (c .before .before .before .before .before .before .args .word .now) (c .before .before .before .loop .v) (c .before .before .before .loop .i) (c .before .before .loop-test .taken) (c .before .before .before .loop .inv .0) (c .before .before .before .before .before .shared-slice-known .given (c .before .before .before .loop .i - 1) .fits) (c .before .before .before .loop .inv .1 .0) (c .before .before .before .loop .inv .1 .1)))
+loop-again c =
+    let at-loop-test = c .before .before in
+    let at-loop = at-loop-test .before in
+    let at-shared-slice-known = at-loop .before .before in
+    let entry = at-shared-slice-known .before in
+    (omega arith, rw (c .letter-number .ensures) (code-back (entry .args .word .now) (at-loop .loop .v) (at-loop .loop .i) (at-loop-test .loop-test .taken) (at-loop .loop .inv .0) (at-shared-slice-known .shared-slice-known .given (at-loop .loop .i - 1) .fits) (at-loop .loop .inv .1 .0) (at-loop .loop .inv .1 .1)))
 
 returns-2 : tie.Need-returns-2 Inv-loop μ-loop
-returns-2 c = let z : c .before .loop .i ≡ 0 = omega arith in c .before .loop .inv .1 .0 ∙ (ap (λ (k : ℕ). code (drop k (c .before .before .before .before .args .word .now))) z ∙ sym (short-code (c .before .before .before .before .args .word .now) (omega arith)))
+returns-2 c =
+    let at-loop = c .before in
+    let entry = at-loop .before .before .before in
+    let z : at-loop .loop .i ≡ 0 = omega arith in
+    at-loop .loop .inv .1 .0 ∙ (ap (λ (k : ℕ). code (drop k (entry .args .word .now))) z ∙ sym (short-code (entry .args .word .now) (omega arith)))
 
 pub name-code-spec : {M : Type 1} → statement M
 name-code-spec =
@@ -53,11 +57,11 @@ name-code-spec =
     μ-loop
     returns
     loop-holds
-    sub-i
-    shared-slice-read-letter-number
-    letter-number-requires
+    (λ c. search needs)
+    (λ c. search needs)
+    (λ c κs. search needs)
     mul-v
     add-v
-    loop-less
+    (λ c. search needs)
     loop-again
     returns-2)

@@ -19,24 +19,19 @@ abbrev μ-loop : tie.MeasureT-loop
 loop-holds : tie.Need-loop-holds Inv-loop μ-loop
 loop-holds c = (omega arith, (omega arith, refl))
 
-shared-slice-read-with-digit : tie.Need-shared-slice-read-with-digit Inv-loop μ-loop
-shared-slice-read-with-digit c = search needs
-
-with-digit-requires : tie.Need-with-digit-requires Inv-loop μ-loop
-with-digit-requires c κs = search needs
-
-add-i : tie.Need-add-i Inv-loop μ-loop
-add-i c = search needs
-
-loop-less : tie.Need-loop-less Inv-loop μ-loop
-loop-less c = search needs
-
 loop-again : tie.Need-loop-again Inv-loop μ-loop
-loop-again c = (omega arith, (omega (arith, c .with-digit .ensures), ap (λ (x : ℕ). min most (decimalFrom x (drop (c .before .before .before .loop .i + 1) (c .before .before .before .before .before .args .digits .now)))) (c .with-digit .ensures) ∙ (digit-more (c .before .before .before .before .before .args .digits .now) (c .before .before .before .loop .v) (c .before .before .before .loop .i) (c .before .before .loop-test .taken) ∙ c .before .before .before .loop .inv .1 .1)))
+loop-again c =
+    let at-loop-test = c .before .before in
+    let at-loop = at-loop-test .before in
+    let entry = at-loop .before .before in
+    (omega arith, (omega (arith, c .with-digit .ensures), ap (λ (x : ℕ). min most (decimalFrom x (drop (at-loop .loop .i + 1) (entry .args .digits .now)))) (c .with-digit .ensures) ∙ (digit-more (entry .args .digits .now) (at-loop .loop .v) (at-loop .loop .i) (at-loop-test .loop-test .taken) ∙ at-loop .loop .inv .1 .1)))
 
 returns : tie.Need-returns Inv-loop μ-loop
 unfolding numberValue decimal
-returns c = digits-end (c .before .before .before .args .digits .now) (c .before .loop .v) (c .before .loop .i) (omega arith) (c .before .loop .inv .1 .0) ∙ c .before .loop .inv .1 .1
+returns c =
+    let at-loop = c .before in
+    let entry = at-loop .before .before in
+    digits-end (entry .args .digits .now) (at-loop .loop .v) (at-loop .loop .i) (omega arith) (at-loop .loop .inv .1 .0) ∙ at-loop .loop .inv .1 .1
 
 pub number-value-spec : {M : Type 1} → statement M
 number-value-spec =
@@ -45,9 +40,9 @@ number-value-spec =
     Inv-loop
     μ-loop
     loop-holds
-    shared-slice-read-with-digit
-    with-digit-requires
-    add-i
-    loop-less
+    (λ c. search needs)
+    (λ c κs. search needs)
+    (λ c. search needs)
+    (λ c. search needs)
     loop-again
     returns)

@@ -25,30 +25,32 @@ frame-at-requires c κs = omega arith
 
 frame-step-requires : tie.Need-frame-step-requires Inv-loop μ-loop
 frame-step-requires c κs =
-    let l = c .before .before .loop in
-    let h : l .c + l .k ≤ l .i = counts (c .before .before .before .before .args .frames .now) (l .i) (l .c) (l .k) (l .inv .1 .0) in
+    let at-loop = c .before .before in
+    let entry = at-loop .before .before in
+    let l = at-loop .loop in
+    let h : l .c + l .k ≤ l .i = counts (entry .args .frames .now) (l .i) (l .c) (l .k) (l .inv .1 .0) in
     omega arith
-
-enum-known-next : tie.Need-enum-known-next Inv-loop μ-loop
-enum-known-next c = search needs
-
-enum-told : tie.Need-enum-told Inv-loop μ-loop
-enum-told c = search needs
 
 returns : tie.Need-returns Inv-loop μ-loop
 unfolding orderOf
 returns c =
-    let l = c .before .before .before .before .before .loop in
-    let s = c .before .before .before .before .before .before .before .args .frames .now in
-    let x = c .before .before .before .frame-at in
-    let g = c .before .before .frame-step in
+    let at-frame-step = c .before .before in
+    let at-frame-at = at-frame-step .before in
+    let at-loop = at-frame-at .before .before in
+    let entry = at-loop .before .before in
+    let l = at-loop .loop in
+    let s = entry .args .frames .now in
+    let x = at-frame-at .frame-at in
+    let g = at-frame-step .frame-step in
     let bad : prefixAt s (l .i + 1) ≡ stuck (l .i) = prefix-next s (l .i) (l .c) (l .k) (l .inv .1 .0) (x .result) (x .ensures) (g .result) (g .ensures) ∙ ap (orderAt (l .i)) (c .enum-told .given .1) in
     sym (ap (ended (frameCount s) (referenceCount s)) (stuck-at s (l .i + 1) (frameCount s) (l .i) (omega arith) bad))
 
 counted-requires : tie.Need-counted-requires Inv-loop μ-loop
 counted-requires c κs =
-    let l = c .before .before .before .before .before .before .loop in
-    let h = count-le (c .before .before .before .before .before .before .before .before .args .frames .now) (l .i) in
+    let at-loop = c .before .before .before .before .before .before in
+    let entry = at-loop .before .before in
+    let l = at-loop .loop in
+    let h = count-le (entry .args .frames .now) (l .i) in
     omega (arith, h, l .inv .1 .1)
 
 add-i : tie.Need-add-i Inv-loop μ-loop
@@ -59,13 +61,18 @@ loop-less c = omega arith
 
 loop-again : tie.Need-loop-again Inv-loop μ-loop
 loop-again c =
-    let l = c .before .before .before .before .before .before .before .loop in
-    let s = c .before .before .before .before .before .before .before .before .before .args .frames .now in
-    let x = c .before .before .before .before .before .frame-at in
-    let g = c .before .before .before .before .frame-step in (
+    let at-next = c .before .before in
+    let at-frame-step = at-next .before .before in
+    let at-frame-at = at-frame-step .before in
+    let at-loop = at-frame-at .before .before in
+    let entry = at-loop .before .before in
+    let l = at-loop .loop in
+    let s = entry .args .frames .now in
+    let x = at-frame-at .frame-at in
+    let g = at-frame-step .frame-step in (
       omega arith,
       (
-        prefix-next s (l .i) (l .c) (l .k) (l .inv .1 .0) (x .result) (x .ensures) (g .result) (g .ensures) ∙ ap (orderAt (l .i)) (c .before .before .next .given .1),
+        prefix-next s (l .i) (l .c) (l .k) (l .inv .1 .0) (x .result) (x .ensures) (g .result) (g .ensures) ∙ ap (orderAt (l .i)) (at-next .next .given .1),
         count-next s (l .i) (l .m) (l .inv .1 .1) (x .result .kind) (ap (λ (y : Frame). y .kind) (x .ensures)) (c .counted .result) (c .counted .ensures),
       ),
     )
@@ -98,8 +105,8 @@ order-spec =
     loop-holds
     frame-at-requires
     frame-step-requires
-    enum-known-next
-    enum-told
+    (λ c. search needs)
+    (λ c. search needs)
     returns
     counted-requires
     add-i

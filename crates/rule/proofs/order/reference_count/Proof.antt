@@ -26,8 +26,10 @@ shared-slice-read-counted c = omega arith
 
 counted-requires : tie.Need-counted-requires Inv-loop μ-loop
 counted-requires c κs =
-    let l = c .before .before .loop in
-    let h = count-le (c .before .before .before .before .args .frames .now) (l .i) in
+    let at-loop = c .before .before in
+    let entry = at-loop .before .before in
+    let l = at-loop .loop in
+    let h = count-le (entry .args .frames .now) (l .i) in
     omega (arith, h, l .inv .1)
 
 add-i : tie.Need-add-i Inv-loop μ-loop
@@ -38,8 +40,10 @@ loop-less c = omega arith
 
 loop-again : tie.Need-loop-again Inv-loop μ-loop
 loop-again c =
-    let l = c .before .before .before .loop in
-    (omega arith, count-next (c .before .before .before .before .before .args .frames .now) (l .i) (l .m) (l .inv .1) _ refl (c .counted .result) (c .counted .ensures))
+    let at-loop = c .before .before .before in
+    let entry = at-loop .before .before in
+    let l = at-loop .loop in
+    (omega arith, count-next (entry .args .frames .now) (l .i) (l .m) (l .inv .1) _ refl (c .counted .result) (c .counted .ensures))
 
 returns : tie.Need-returns Inv-loop μ-loop
 unfolding referenceCount

@@ -17,15 +17,6 @@ use Rattle.rule.proofs.order.step.Tie as tie
 conds-taken : (n c k : ℕ) → (leb n c && eqb k 0) ≡ true → n ≤ c
 conds-taken n c k t = leb-true n c (and-true (leb n c) (eqb k 0) t .0)
 
-add-t12 : tie.Need-add-t12
-add-t12 c = search needs
-
-sub-t15 : tie.Need-sub-t15
-sub-t15 c = search needs
-
-add-t18 : tie.Need-add-t18
-add-t18 c = search needs
-
 sub-t23 : tie.Need-sub-t23
 sub-t23 c =
     let a = c .before .before .before .before .before .before .before .before .before .before .args in
@@ -93,24 +84,32 @@ returns-12 : tie.Need-returns-12
 returns-12 c = rw (none-00 (c .before .before .args .kind) (omega arith))
 
 returns-13 : tie.Need-returns-13
-returns-13 c = rw (none-04 (c .before .before .before .before .args .kind) (omega arith) (omega arith))
+returns-13 c =
+    let entry = c .before .before .before .before in
+    rw (none-04 (entry .args .kind) (omega arith) (omega arith))
 
 returns-14 : tie.Need-returns-14
-returns-14 c = rw (none-15 (c .before .before .before .before .before .before .args .kind) (omega arith) (omega arith))
+returns-14 c =
+    let entry = c .before .before .before .before .before .before in
+    rw (none-15 (entry .args .kind) (omega arith) (omega arith))
 
 returns-15 : tie.Need-returns-15
-returns-15 c = rw (none-27 (c .before .before .before .before .before .before .before .before .args .kind) (omega arith) (omega arith))
+returns-15 c =
+    let entry = c .before .before .before .before .before .before .before .before in
+    rw (none-27 (entry .args .kind) (omega arith) (omega arith))
 
 returns-16 : tie.Need-returns-16
-returns-16 c = rw (none-35 (c .before .before .before .before .before .before .before .before .before .args .kind) (omega arith) (omega arith))
+returns-16 c =
+    let entry = c .before .before .before .before .before .before .before .before .before in
+    rw (none-35 (entry .args .kind) (omega arith) (omega arith))
 
 pub step-spec : {M : Type 1} → statement M
 step-spec =
     tie.close
     (tie.spec
-    add-t12
-    sub-t15
-    add-t18
+    (λ c. search needs)
+    (λ c. search needs)
+    (λ c. search needs)
     sub-t23
     returns
     returns-2

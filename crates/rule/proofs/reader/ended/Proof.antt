@@ -3,17 +3,17 @@ use borrow.Author.Needs.{needs}
 use Rattle.rule.proofs.reader.ended.Statement.{statement}
 use Rattle.rule.proofs.reader.ended.Tie as tie
 
-token-at-requires : tie.Need-token-at-requires
-token-at-requires c κs = search needs
-
 returns : tie.Need-returns
-returns c = λ tb b. something-left _ _ _ (c .before .before .token-at .ensures) (c .before .before .before .before .pre) (c .if1 .taken)
+returns c =
+    let at-token-at = c .before .before in
+    let entry = at-token-at .before .before in
+    λ tb b. something-left _ _ _ (at-token-at .token-at .ensures) (entry .pre) (c .if1 .taken)
 
 returns-2 : tie.Need-returns-2
 returns-2 c = λ tb b. nothing-left _ _ _ (c .before .before .token-at .ensures) (c .if1 .left)
 
 pub ended-spec : {M : Type 1} → statement M
 ended-spec = tie.close (tie.spec
-    token-at-requires
+    (λ c κs. search needs)
     returns
     returns-2)

@@ -8,58 +8,71 @@ use borrow.Author.Needs.{needs}
 use Rattle.rule.proofs.references.ref_index.Statement.{statement}
 use Rattle.rule.proofs.references.ref_index.Tie as tie
 
-token-at-requires : tie.Need-token-at-requires
-token-at-requires c κs = search needs
-
 sized-requires : tie.Need-sized-requires
 sized-requires c κs =
-    let a = c .before .before .before .before .args in
-    let h = c .before .before .before .before .pre in
-    let ne : c .before .before .token-at .result .kind ≡ 0 → ⊥ = λ e. omega arith in
-    let i = inside (now (a .text)) (a .at) (c .before .before .token-at .result) (h .0) (c .before .before .token-at .ensures) ne in i
+    let at-token-at = c .before .before in
+    let entry = at-token-at .before .before in
+    let a = entry .args in
+    let h = entry .pre in
+    let ne : at-token-at .token-at .result .kind ≡ 0 → ⊥ = λ e. omega arith in
+    let i = inside (now (a .text)) (a .at) (at-token-at .token-at .result) (h .0) (at-token-at .token-at .ensures) ne in i
 
 ref-scaled-requires : tie.Need-ref-scaled-requires
 ref-scaled-requires c κs =
-    let a = c .before .before .before .before .before .before .args in
-    let h = c .before .before .before .before .before .before .pre in
-    let ne : c .before .before .before .before .token-at .result .kind ≡ 0 → ⊥ = λ e. omega arith in
-    let v = beyond (now (a .text)) (a .at) (c .before .before .before .before .token-at .result) (h .0) (c .before .before .before .before .token-at .ensures) ne in
-    let i = inside (now (a .text)) (a .at) (c .before .before .before .before .token-at .result) (h .0) (c .before .before .before .before .token-at .ensures) ne in (v .1, h .1, h .2, i)
+    let at-token-at = c .before .before .before .before in
+    let entry = at-token-at .before .before in
+    let a = entry .args in
+    let h = entry .pre in
+    let ne : at-token-at .token-at .result .kind ≡ 0 → ⊥ = λ e. omega arith in
+    let v = beyond (now (a .text)) (a .at) (at-token-at .token-at .result) (h .0) (at-token-at .token-at .ensures) ne in
+    let i = inside (now (a .text)) (a .at) (at-token-at .token-at .result) (h .0) (at-token-at .token-at .ensures) ne in (v .1, h .1, h .2, i)
 
 returns : tie.Need-returns
 unfolding step
 returns c =
-    let a = c .before .before .before .before .before .before .before .args in
-    let h = c .before .before .before .before .before .before .before .pre in
-    let ne : c .before .before .before .before .before .token-at .result .kind ≡ 0 → ⊥ = λ e. omega arith in
-    let v = beyond (now (a .text)) (a .at) (c .before .before .before .before .before .token-at .result) (h .0) (c .before .before .before .before .before .token-at .ensures) ne in take (h .0) (c .before .before .before .before .before .token-at .ensures) ne (least (omega arith) (rw (c .before .before .sized .ensures (now (a .names)) (now (a .buf))) at (c .ref-scaled .ensures))) (λ s. rw (c .before .before .before .if1 .taken))
+    let at-sized = c .before .before in
+    let at-if1 = at-sized .before in
+    let at-token-at = at-if1 .before .before in
+    let entry = at-token-at .before .before in
+    let a = entry .args in
+    let h = entry .pre in
+    let ne : at-token-at .token-at .result .kind ≡ 0 → ⊥ = λ e. omega arith in
+    let v = beyond (now (a .text)) (a .at) (at-token-at .token-at .result) (h .0) (at-token-at .token-at .ensures) ne in take (h .0) (at-token-at .token-at .ensures) ne (least (omega arith) (rw (at-sized .sized .ensures (now (a .names)) (now (a .buf))) at (c .ref-scaled .ensures))) (λ s. rw (at-if1 .if1 .taken))
 
 ref-shift-requires : tie.Need-ref-shift-requires
 ref-shift-requires c κs =
-    let a = c .before .before .before .before .before .before .before .args in
-    let h = c .before .before .before .before .before .before .before .pre in
-    let ne : c .before .before .before .before .before .token-at .result .kind ≡ 0 → ⊥ = λ e. omega arith in
-    let v = beyond (now (a .text)) (a .at) (c .before .before .before .before .before .token-at .result) (h .0) (c .before .before .before .before .before .token-at .ensures) ne in (v .1, h .1, h .2, tt)
+    let at-token-at = c .before .before .before .before .before in
+    let entry = at-token-at .before .before in
+    let a = entry .args in
+    let h = entry .pre in
+    let ne : at-token-at .token-at .result .kind ≡ 0 → ⊥ = λ e. omega arith in
+    let v = beyond (now (a .text)) (a .at) (at-token-at .token-at .result) (h .0) (at-token-at .token-at .ensures) ne in (v .1, h .1, h .2, tt)
 
 returns-2 : tie.Need-returns-2
 unfolding step
 returns-2 c =
-    let a = c .before .before .before .before .before .before .before .before .args in
-    let h = c .before .before .before .before .before .before .before .before .pre in
-    let ne : c .before .before .before .before .before .before .token-at .result .kind ≡ 0 → ⊥ = λ e. omega arith in
-    let v = beyond (now (a .text)) (a .at) (c .before .before .before .before .before .before .token-at .result) (h .0) (c .before .before .before .before .before .before .token-at .ensures) ne in take (h .0) (c .before .before .before .before .before .before .token-at .ensures) ne (least (omega arith) (c .ref-shift .ensures)) (λ s. rw (c .before .before .if2 .taken))
+    let at-if2 = c .before .before in
+    let at-token-at = at-if2 .before .before .before .before in
+    let entry = at-token-at .before .before in
+    let a = entry .args in
+    let h = entry .pre in
+    let ne : at-token-at .token-at .result .kind ≡ 0 → ⊥ = λ e. omega arith in
+    let v = beyond (now (a .text)) (a .at) (at-token-at .token-at .result) (h .0) (at-token-at .token-at .ensures) ne in take (h .0) (at-token-at .token-at .ensures) ne (least (omega arith) (c .ref-shift .ensures)) (λ s. rw (at-if2 .if2 .taken))
 
 returns-3 : tie.Need-returns-3
 unfolding step finish
 returns-3 c =
-    let h = c .before .before .before .before .before .before .pre in
-    fail (h .0) (c .before .before .before .before .token-at .ensures) (λ s. rw (ne-eqb _ _ (c .before .before .if1 .left), ne-eqb _ _ (c .if2 .left))) (λ s. refl)
+    let at-if1 = c .before .before in
+    let at-token-at = at-if1 .before .before in
+    let entry = at-token-at .before .before in
+    let h = entry .pre in
+    fail (h .0) (at-token-at .token-at .ensures) (λ s. rw (ne-eqb _ _ (at-if1 .if1 .left), ne-eqb _ _ (c .if2 .left))) (λ s. refl)
 
 pub ref-index-spec : {M : Type 1} → statement M
 ref-index-spec =
     tie.close
     (tie.spec
-    token-at-requires
+    (λ c κs. search needs)
     sized-requires
     ref-scaled-requires
     returns

@@ -7,34 +7,33 @@ use borrow.Author.Needs.{needs}
 use Rattle.rule.proofs.references.reference.Statement.{statement}
 use Rattle.rule.proofs.references.reference.Tie as tie
 
-expect-requires : tie.Need-expect-requires
-expect-requires c κs = search needs
-
-enum-known-q : tie.Need-enum-known-q
-enum-known-q c = search needs
-
-enum-known-a : tie.Need-enum-known-a
-enum-known-a c = search needs
-
 ref-event-requires : tie.Need-ref-event-requires
 ref-event-requires c κs =
-    let a = c .before .before .before .before .before .before .args in
-    let h = c .before .before .before .before .before .before .pre in
-    let d = as-is (c .before .before .before .before .expect .ensures (now (a .names)) (now (a .buf))) (c .before .before .a .given .1) in
+    let at-a = c .before .before in
+    let at-expect = at-a .before .before in
+    let entry = at-expect .before .before in
+    let a = entry .args in
+    let h = entry .pre in
+    let d = as-is (at-expect .expect .ensures (now (a .names)) (now (a .buf))) (at-a .a .given .1) in
     let w = d .within in (w .1, h .1)
 
 returns : tie.Need-returns
 returns c =
-    let a = c .before .before .before .before .before .args in
-    stop (λ s. machine.ref-event (a .n) ∷ s) _ (as-is (c .before .before .before .expect .ensures (now (a .names)) (now (a .buf))) (c .before .q .given .1))
+    let at-expect = c .before .before .before in
+    let entry = at-expect .before .before in
+    let a = entry .args in
+    stop (λ s. machine.ref-event (a .n) ∷ s) _ (as-is (at-expect .expect .ensures (now (a .names)) (now (a .buf))) (c .before .q .given .1))
 
 returns-2 : tie.Need-returns-2
 returns-2 c =
-    let a = c .before .before .before .before .before .before .before .args in
-    let d = as-is (c .before .before .before .before .before .expect .ensures (now (a .names)) (now (a .buf))) (c .before .before .before .a .given .1) in
+    let at-a = c .before .before .before in
+    let at-expect = at-a .before .before in
+    let entry = at-expect .before .before in
+    let a = entry .args in
+    let d = as-is (at-expect .expect .ensures (now (a .names)) (now (a .buf))) (at-a .a .given .1) in
     let w = d .within in then d (c .ref-event .ensures) (omega arith)
 
 pub reference-spec : {M : Type 1} → statement M
 reference-spec =
     tie.close
-    (tie.spec expect-requires enum-known-q enum-known-a ref-event-requires returns returns-2)
+    (tie.spec (λ c κs. search needs) (λ c. search needs) (λ c. search needs) ref-event-requires returns returns-2)

@@ -11,36 +11,10 @@ use Rattle.rule.proofs.FrameMagnitudes.{pushed-capped}
 use Rattle.rule.proofs.sizes.product_top.Statement.{statement}
 use Rattle.rule.proofs.sizes.product_top.Tie as tie
 
-sub-a : tie.Need-sub-a
-sub-a c = search needs
-
-mul-a : tie.Need-mul-a
-mul-a c = search needs
-
-element-copy-out-a : tie.Need-element-copy-out-a
-element-copy-out-a c = search needs
-
-sub-b : tie.Need-sub-b
-sub-b c = search needs
-
-mul-b : tie.Need-mul-b
-mul-b c = search needs
-
-element-copy-out-b : tie.Need-element-copy-out-b
-element-copy-out-b c = search needs
-
-sub-push : tie.Need-sub-push
-sub-push c = search needs
-
-times-requires : tie.Need-times-requires
-times-requires c κs = search needs
-
-push-requires : tie.Need-push-requires
-push-requires c κs = search needs
-
 returns : tie.Need-returns
 returns c =
-    let a = c .before .before .before .before .before .args in
+    let entry = c .before .before .before .before .before in
+    let a = entry .args in
     let s = a .cells .now in
     let ms = stackOf 0 s (a .k - 2) in (
       c .push .ensures .0,
@@ -53,13 +27,13 @@ pub product-top-spec : {M : Type 1} → statement M
 product-top-spec =
     tie.close
     (tie.spec
-    sub-a
-    mul-a
-    element-copy-out-a
-    sub-b
-    mul-b
-    element-copy-out-b
-    sub-push
-    times-requires
-    push-requires
+    (λ c. search needs)
+    (λ c. search needs)
+    (λ c. search needs)
+    (λ c. search needs)
+    (λ c. search needs)
+    (λ c. search needs)
+    (λ c. search needs)
+    (λ c κs. search needs)
+    (λ c κs. search needs)
     returns)

@@ -11,15 +11,6 @@ use Rattle.rule.proofs.FrameStack.{stack-push}
 use Rattle.rule.proofs.sizes.push.Statement.{statement}
 use Rattle.rule.proofs.sizes.push.Tie as tie
 
-mul-cells : tie.Need-mul-cells
-mul-cells c = search needs
-
-element-write-cells : tie.Need-element-write-cells
-element-write-cells c = search needs
-
-add-t6 : tie.Need-add-t6
-add-t6 c = search needs
-
 returns : tie.Need-returns
 returns c =
     let a = c .before .args in (
@@ -31,4 +22,4 @@ returns-2 : tie.Need-returns-2
 returns-2 c = (c .before .pre .0, rw (lt-leb (c .before .args .m) magnitudeLimit (c .if1 .left)))
 
 pub push-spec : {M : Type 1} → statement M
-push-spec = tie.close (tie.spec mul-cells element-write-cells add-t6 returns returns-2)
+push-spec = tie.close (tie.spec (λ c. search needs) (λ c. search needs) (λ c. search needs) returns returns-2)

@@ -14,22 +14,11 @@ use Rattle.rule.proofs.FrameMagnitudes.{sized-keeping}
 use Rattle.rule.proofs.sizes.size_step.Statement.{statement}
 use Rattle.rule.proofs.sizes.size_step.Tie as tie
 
-own-requires : tie.Need-own-requires
-own-requires c κs = search needs
-
-push-requires : tie.Need-push-requires
-push-requires c κs = search needs
-
-push-requires-2 : tie.Need-push-requires-2
-push-requires-2 c κs = search needs
-
-push-requires-3 : tie.Need-push-requires-3
-push-requires-3 c κs = search needs
-
 product-top-requires : tie.Need-product-top-requires
 product-top-requires c κs =
-    let p = c .before .before .pre in
-    (p .0, (p .1 .0, subst (λ (o : Kind). EnoughSums o (c .before .before .args .k)) (kind-at (arithmetic multiply) (c .before .before .args .kind) (c .before .match .keys4)) (p .1 .1 .0)))
+    let entry = c .before .before in
+    let p = entry .pre in
+    (p .0, (p .1 .0, subst (λ (o : Kind). EnoughSums o (entry .args .k)) (kind-at (arithmetic multiply) (entry .args .kind) (c .before .match .keys4)) (p .1 .1 .0)))
 
 sum-top-requires : tie.Need-sum-top-requires
 sum-top-requires c κs =
@@ -39,27 +28,35 @@ sum-top-requires c κs =
 
 returns : tie.Need-returns
 returns c =
-    let a = c .before .before .before .before .args in
+    let at-match = c .before .before .before in
+    let entry = at-match .before in
+    let a = entry .args in
     let ms = stackOf 0 (a .cells .now) (a .k) in (
       c .push .ensures .0,
-      c .push .ensures .1 ∙ ap (λ (m : ℕ). pushed m ms) (c .before .own .ensures ∙ ap natAbs (toZ-ofZ w32 (a .value) (c .before .before .before .before .fits .value)))
-          ∙ sym (rw (kind-at (operand literal) (a .kind) (c .before .before .before .match .keys1))),
+      c .push .ensures .1 ∙ ap (λ (m : ℕ). pushed m ms) (c .before .own .ensures ∙ ap natAbs (toZ-ofZ w32 (a .value) (entry .fits .value)))
+          ∙ sym (rw (kind-at (operand literal) (a .kind) (at-match .match .keys1))),
     )
 
 returns-2 : tie.Need-returns-2
 returns-2 c =
-    let a = c .before .before .before .args in
-    (c .push2 .ensures .0, c .push2 .ensures .1 ∙ sym (rw (kind-at (operand instance) (a .kind) (c .before .before .match .keys2))))
+    let at-match = c .before .before in
+    let entry = at-match .before in
+    let a = entry .args in
+    (c .push2 .ensures .0, c .push2 .ensures .1 ∙ sym (rw (kind-at (operand instance) (a .kind) (at-match .match .keys2))))
 
 returns-3 : tie.Need-returns-3
 returns-3 c =
-    let a = c .before .before .before .args in
-    (c .push3 .ensures .0, c .push3 .ensures .1 ∙ sym (rw (kind-at (operand reference) (a .kind) (c .before .before .match .keys3))))
+    let at-match = c .before .before in
+    let entry = at-match .before in
+    let a = entry .args in
+    (c .push3 .ensures .0, c .push3 .ensures .1 ∙ sym (rw (kind-at (operand reference) (a .kind) (at-match .match .keys3))))
 
 returns-4 : tie.Need-returns-4
 returns-4 c =
-    let a = c .before .before .before .args in
-    (c .product-top .ensures .0, c .product-top .ensures .1 ∙ sym (rw (kind-at (arithmetic multiply) (a .kind) (c .before .before .match .keys4))))
+    let at-match = c .before .before in
+    let entry = at-match .before in
+    let a = entry .args in
+    (c .product-top .ensures .0, c .product-top .ensures .1 ∙ sym (rw (kind-at (arithmetic multiply) (a .kind) (at-match .match .keys4))))
 
 returns-5 : tie.Need-returns-5
 returns-5 c =
@@ -69,33 +66,37 @@ returns-5 c =
 
 returns-6 : tie.Need-returns-6
 returns-6 c =
-    let a = c .before .before .before .before .before .args in
-    (c .before .before .before .before .before .pre .0, rw (relation-at (a .kind) (omega arith) (omega arith)))
+    let entry = c .before .before .before .before .before in
+    let a = entry .args in
+    (entry .pre .0, rw (relation-at (a .kind) (omega arith) (omega arith)))
 
 returns-7 : tie.Need-returns-7
 returns-7 c =
-    let a = c .before .before .args in
+    let entry = c .before .before in
+    let a = entry .args in
     let r = c .before .match .rest in
-    (c .before .before .pre .0, sym (sized-keeping (kindOf (a .kind)) (a .value) _ (keeping-low (a .kind) (c .if1 .taken) (r .0 .0 .0 .1) (r .0 .0 .1) (r .0 .1))))
+    (entry .pre .0, sym (sized-keeping (kindOf (a .kind)) (a .value) _ (keeping-low (a .kind) (c .if1 .taken) (r .0 .0 .0 .1) (r .0 .0 .1) (r .0 .1))))
 
 returns-8 : tie.Need-returns-8
 returns-8 c =
-    let a = c .before .before .before .before .args in
-    (c .before .before .before .before .pre .0, sym (sized-keeping (kindOf (a .kind)) (a .value) _ (keeping-14 (a .kind) (omega (arith, c .before .before .before .match .rest .1)) (omega arith))))
+    let entry = c .before .before .before .before in
+    let a = entry .args in
+    (entry .pre .0, sym (sized-keeping (kindOf (a .kind)) (a .value) _ (keeping-14 (a .kind) (omega (arith, c .before .before .before .match .rest .1)) (omega arith))))
 
 returns-9 : tie.Need-returns-9
 returns-9 c =
-    let a = c .before .before .before .before .before .args in
-    (c .before .before .before .before .before .pre .0, sym (sized-keeping (kindOf (a .kind)) (a .value) _ (keeping-27 (a .kind) (omega arith) (omega arith))))
+    let entry = c .before .before .before .before .before in
+    let a = entry .args in
+    (entry .pre .0, sym (sized-keeping (kindOf (a .kind)) (a .value) _ (keeping-27 (a .kind) (omega arith) (omega arith))))
 
 pub size-step-spec : {M : Type 1} → statement M
 size-step-spec =
     tie.close
     (tie.spec
-    own-requires
-    push-requires
-    push-requires-2
-    push-requires-3
+    (λ c κs. search needs)
+    (λ c κs. search needs)
+    (λ c κs. search needs)
+    (λ c κs. search needs)
     product-top-requires
     sum-top-requires
     returns

@@ -29,25 +29,27 @@ frame-at-requires c κs = omega arith
 
 size-step-requires : tie.Need-size-step-requires Inv-loop μ-loop
 size-step-requires c κs =
-    let l = c .before .before .before .before .loop in
-    let x = c .before .before .frame-at in
-    let h = size-ready (c .before .before .before .before .before .before .args .frames .now) (l .cells) (l .i) (l .k) (x .result) (omega arith) (c .before .before .before .before .before .before .pre .0) (x .ensures) (l .inv .1 .1) in
+    let at-frame-at = c .before .before in
+    let at-loop = at-frame-at .before .before in
+    let entry = at-loop .before .before in
+    let l = at-loop .loop in
+    let x = at-frame-at .frame-at in
+    let h = size-ready (entry .args .frames .now) (l .cells) (l .i) (l .k) (x .result) (omega arith) (entry .pre .0) (x .ensures) (l .inv .1 .1) in
     (l .inv .1 .0, (omega (arith, h .0), h .1))
-
-enum-known-size : tie.Need-enum-known-size Inv-loop μ-loop
-enum-known-size c = search needs
-
-enum-told : tie.Need-enum-told Inv-loop μ-loop
-enum-told c = search needs
 
 returns : tie.Need-returns Inv-loop μ-loop
 unfolding sizesFit
 returns c =
-    let l = c .before .before .before .before .before .before .before .loop in
-    let s = c .before .before .before .before .before .before .before .before .before .args .frames .now in
-    let x = c .before .before .before .before .before .frame-at in
-    let g = c .before .before .size-step in
-    let v : loaded (g .last .1 .1 .0) (g .result) ≡ sizesAfter (kindOf (x .result .kind)) (x .result .value) (stackOf 0 (l .cells) (l .k)) = g .ensures .1 ∙ ap (λ (z : ℤ). sizesAfter (kindOf (x .result .kind)) z (stackOf 0 (l .cells) (l .k))) (toZ-ofZ w32 (x .result .value) (sfits-of (c .before .before .before .struct-told .given .1 .1 .1 .1 .0 .1))) in
+    let at-size-step = c .before .before in
+    let at-struct-told = at-size-step .before in
+    let at-frame-at = at-struct-told .before .before in
+    let at-loop = at-frame-at .before .before in
+    let entry = at-loop .before .before in
+    let l = at-loop .loop in
+    let s = entry .args .frames .now in
+    let x = at-frame-at .frame-at in
+    let g = at-size-step .size-step in
+    let v : loaded (g .last .1 .1 .0) (g .result) ≡ sizesAfter (kindOf (x .result .kind)) (x .result .value) (stackOf 0 (l .cells) (l .k)) = g .ensures .1 ∙ ap (λ (z : ℤ). sizesAfter (kindOf (x .result .kind)) z (stackOf 0 (l .cells) (l .k))) (toZ-ofZ w32 (x .result .value) (sfits-of (at-struct-told .struct-told .given .1 .1 .1 .1 .0 .1))) in
     let e : sizeAt s (l .i + 1) ≡ over = size-again s (l .cells) (g .last .1 .1 .0) (l .i) (l .k) (x .result) (g .result) (l .inv .1 .1) (x .ensures) v ∙ ap (loaded (g .last .1 .1 .0)) (c .enum-told .given .1) in
     sym (ap isFits (over-at s (l .i + 1) (frameCount s) (omega arith) e))
 
@@ -59,11 +61,16 @@ loop-less c = omega arith
 
 loop-again : tie.Need-loop-again Inv-loop μ-loop
 loop-again c =
-    let l = c .before .before .before .before .before .before .before .before .loop in
-    let s = c .before .before .before .before .before .before .before .before .before .before .args .frames .now in
-    let x = c .before .before .before .before .before .before .frame-at in
-    let g = c .before .before .before .size-step in
-    let v : loaded (g .last .1 .1 .0) (g .result) ≡ sizesAfter (kindOf (x .result .kind)) (x .result .value) (stackOf 0 (l .cells) (l .k)) = g .ensures .1 ∙ ap (λ (z : ℤ). sizesAfter (kindOf (x .result .kind)) z (stackOf 0 (l .cells) (l .k))) (toZ-ofZ w32 (x .result .value) (sfits-of (c .before .before .before .before .struct-told .given .1 .1 .1 .1 .0 .1))) in
+    let at-size-step = c .before .before .before in
+    let at-struct-told = at-size-step .before in
+    let at-frame-at = at-struct-told .before .before in
+    let at-loop = at-frame-at .before .before in
+    let entry = at-loop .before .before in
+    let l = at-loop .loop in
+    let s = entry .args .frames .now in
+    let x = at-frame-at .frame-at in
+    let g = at-size-step .size-step in
+    let v : loaded (g .last .1 .1 .0) (g .result) ≡ sizesAfter (kindOf (x .result .kind)) (x .result .value) (stackOf 0 (l .cells) (l .k)) = g .ensures .1 ∙ ap (λ (z : ℤ). sizesAfter (kindOf (x .result .kind)) z (stackOf 0 (l .cells) (l .k))) (toZ-ofZ w32 (x .result .value) (sfits-of (at-struct-told .struct-told .given .1 .1 .1 .1 .0 .1))) in
     (omega arith, (g .ensures .0, size-again s (l .cells) (g .last .1 .1 .0) (l .i) (l .k) (x .result) (g .result) (l .inv .1 .1) (x .ensures) v ∙ ap (loaded (g .last .1 .1 .0)) (c .before .size .given .1)))
 
 returns-2 : tie.Need-returns-2 Inv-loop μ-loop
@@ -83,8 +90,8 @@ sizes-fit-spec =
     loop-holds
     frame-at-requires
     size-step-requires
-    enum-known-size
-    enum-told
+    (λ c. search needs)
+    (λ c. search needs)
     returns
     add-i
     loop-less

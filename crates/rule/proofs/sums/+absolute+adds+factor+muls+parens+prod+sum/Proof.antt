@@ -138,272 +138,407 @@ sum-calls t = (prod-below t, prod.Post, adds-below t, adds.Post)
 absolute-expect-requires : (t : ℕ) → absolute-lts.Need-expect-requires (absolute-calls t) (absolute-at t) absolute.Post
 absolute-expect-requires t c κs = (c .before .pre .1, omega arith)
 
-absolute-enum-known-q : (t : ℕ) → absolute-lts.Need-enum-known-q (absolute-calls t) (absolute-at t) absolute.Post
-absolute-enum-known-q t c = search needs
-
-absolute-enum-known-a : (t : ℕ) → absolute-lts.Need-enum-known-a (absolute-calls t) (absolute-at t) absolute.Post
-absolute-enum-known-a t c = search needs
-
 absolute-parens-requires : (t : ℕ) → absolute-lts.Need-parens-requires (absolute-calls t) (absolute-at t) absolute.Post
-absolute-parens-requires t c κs = let d = as-is (c .before .before .before .before .expect .ensures (now (c .before .before .before .before .before .before .args .names)) (now (c .before .before .before .before .before .before .args .buf))) (c .before .before .a .given .1) in let w = d .within in omega arith
-
-absolute-enum-known-q-2 : (t : ℕ) → absolute-lts.Need-enum-known-q-2 (absolute-calls t) (absolute-at t) absolute.Post
-absolute-enum-known-q-2 t c = search needs
-
-absolute-enum-known-z : (t : ℕ) → absolute-lts.Need-enum-known-z (absolute-calls t) (absolute-at t) absolute.Post
-absolute-enum-known-z t c = search needs
-
-absolute-emit-kind-requires : (t : ℕ) → absolute-lts.Need-emit-kind-requires (absolute-calls t) (absolute-at t) absolute.Post
-absolute-emit-kind-requires t c κs = search needs
+absolute-parens-requires t c κs =
+    let at-a = c .before .before in
+    let at-expect = at-a .before .before in
+    let entry = at-expect .before .before in
+    let d = as-is (at-expect .expect .ensures (now (entry .args .names)) (now (entry .args .buf))) (at-a .a .given .1) in
+    let w = d .within in
+    omega arith
 
 absolute-returns : (t : ℕ) → absolute-lts.Need-returns (absolute-calls t) (absolute-at t) absolute.Post
-absolute-returns t c = stop (λ s. machine.sum (c .before .before .before .before .before .args .d) (want closeParen ∷ doing (out (alone Kind.absolute)) ∷ s)) _ (as-is (c .before .before .before .expect .ensures (now (c .before .before .before .before .before .args .names)) (now (c .before .before .before .before .before .args .buf))) (c .before .q .given .1))
+absolute-returns t c =
+    let at-expect = c .before .before .before in
+    let entry = at-expect .before .before in
+    stop (λ s. machine.sum (entry .args .d) (want closeParen ∷ doing (out (alone Kind.absolute)) ∷ s)) _ (as-is (at-expect .expect .ensures (now (entry .args .names)) (now (entry .args .buf))) (c .before .q .given .1))
 
 absolute-returns-2 : (t : ℕ) → absolute-lts.Need-returns-2 (absolute-calls t) (absolute-at t) absolute.Post
-absolute-returns-2 t c = let d = as-is (c .before .before .before .before .before .before .before .before .expect .ensures (now (c .before .before .before .before .before .before .before .before .before .before .args .names)) (now (c .before .before .before .before .before .before .before .before .before .before .args .buf))) (c .before .before .before .before .before .before .a .given .1) in let w = d .within in then d (stop (λ s. doing (out (alone Kind.absolute)) ∷ s) (c .before .before .before .before .before .before .before .before .before .before .args .at) (as-is (c .before .before .before .parens .ensures) (c .before .q2 .given .1))) (omega arith)
+absolute-returns-2 t c =
+    let at-parens = c .before .before .before in
+    let at-a = at-parens .before .before .before in
+    let at-expect = at-a .before .before in
+    let entry = at-expect .before .before in
+    let d = as-is (at-expect .expect .ensures (now (entry .args .names)) (now (entry .args .buf))) (at-a .a .given .1) in
+    let w = d .within in
+    then d (stop (λ s. doing (out (alone Kind.absolute)) ∷ s) (entry .args .at) (as-is (at-parens .parens .ensures) (c .before .q2 .given .1))) (omega arith)
 
 absolute-returns-3 : (t : ℕ) → absolute-lts.Need-returns-3 (absolute-calls t) (absolute-at t) absolute.Post
-absolute-returns-3 t c = let d = as-is (c .before .before .before .before .before .before .before .before .before .before .expect .ensures (now (c .before .before .before .before .before .before .before .before .before .before .before .before .args .names)) (now (c .before .before .before .before .before .before .before .before .before .before .before .before .args .buf))) (c .before .before .before .before .before .before .before .before .a .given .1) in let w = d .within in let e = as-is (c .before .before .before .before .before .parens .ensures) (c .before .before .before .z .given .1) in let x = e .within in then d (then-does (out (alone Kind.absolute)) e (c .emit-kind .ensures (now (c .before .before .before .before .before .before .before .before .before .before .before .before .args .text)) (now (c .before .before .before .before .before .before .before .before .before .before .before .before .args .names)))) (omega arith)
-
-adds-token-at-requires : (t : ℕ) → adds-lts.Need-token-at-requires (adds-calls t) (adds-at t) adds.Post
-adds-token-at-requires t c κs = search needs
-
-adds-sign-kind-requires : (t : ℕ) → adds-lts.Need-sign-kind-requires (adds-calls t) (adds-at t) adds.Post
-adds-sign-kind-requires t c κs = search needs
+absolute-returns-3 t c =
+    let at-z = c .before .before .before in
+    let at-parens = at-z .before .before in
+    let at-a = at-parens .before .before .before in
+    let at-expect = at-a .before .before in
+    let entry = at-expect .before .before in
+    let d = as-is (at-expect .expect .ensures (now (entry .args .names)) (now (entry .args .buf))) (at-a .a .given .1) in
+    let w = d .within in
+    let e = as-is (at-parens .parens .ensures) (at-z .z .given .1) in
+    let x = e .within in
+    then d (then-does (out (alone Kind.absolute)) e (c .emit-kind .ensures (now (entry .args .text)) (now (entry .args .names)))) (omega arith)
 
 adds-returns : (t : ℕ) → adds-lts.Need-returns (adds-calls t) (adds-at t) adds.Post
 unfolding finish
-adds-returns t c = same (c .before .before .before .before .pre .1) (c .before .before .token-at .ensures) (idle (omega arith) (c .before .before .before .before .pre .1) refl) (λ s. sign-pass _ _ _ _ _ _ _ (sym (c .before .sign-kind .ensures) ∙ c .if1 .taken)) (λ s. refl)
+adds-returns t c =
+    let at-token-at = c .before .before in
+    let entry = at-token-at .before .before in
+    same (entry .pre .1) (at-token-at .token-at .ensures) (idle (omega arith) (entry .pre .1) refl) (λ s. sign-pass _ _ _ _ _ _ _ (sym (c .before .sign-kind .ensures) ∙ c .if1 .taken)) (λ s. refl)
 
 adds-prod-requires : (t : ℕ) → adds-lts.Need-prod-requires (adds-calls t) (adds-at t) adds.Post
-adds-prod-requires t c κs = let nz : signByte (c .before .before .before .token-at .result .kind) ≡ 0 → ⊥ = λ e. c .before .if1 .left (c .before .before .sign-kind .ensures ∙ e) in let ne = sign-some (c .before .before .before .token-at .result .kind) nz in let v = beyond (now (c .before .before .before .before .before .args .text)) (c .before .before .before .before .before .args .at) (c .before .before .before .token-at .result) (c .before .before .before .before .before .pre .1) (c .before .before .before .token-at .ensures) ne in omega arith
-
-adds-enum-known-q : (t : ℕ) → adds-lts.Need-enum-known-q (adds-calls t) (adds-at t) adds.Post
-adds-enum-known-q t c = search needs
-
-adds-enum-known-a : (t : ℕ) → adds-lts.Need-enum-known-a (adds-calls t) (adds-at t) adds.Post
-adds-enum-known-a t c = search needs
-
-adds-emit-kind-requires : (t : ℕ) → adds-lts.Need-emit-kind-requires (adds-calls t) (adds-at t) adds.Post
-adds-emit-kind-requires t c κs = search needs
+adds-prod-requires t c κs =
+    let at-sign-kind = c .before .before in
+    let at-token-at = at-sign-kind .before in
+    let entry = at-token-at .before .before in
+    let nz : signByte (at-token-at .token-at .result .kind) ≡ 0 → ⊥ = λ e. c .before .if1 .left (at-sign-kind .sign-kind .ensures ∙ e) in
+    let ne = sign-some (at-token-at .token-at .result .kind) nz in
+    let v = beyond (now (entry .args .text)) (entry .args .at) (at-token-at .token-at .result) (entry .pre .1) (at-token-at .token-at .ensures) ne in
+    omega arith
 
 adds-adds-requires : (t : ℕ) → adds-lts.Need-adds-requires (adds-calls t) (adds-at t) adds.Post
-adds-adds-requires t c κs = let nz : signByte (c .before .before .before .before .before .before .before .before .before .before .token-at .result .kind) ≡ 0 → ⊥ = λ e. c .before .before .before .before .before .before .before .before .if1 .left (c .before .before .before .before .before .before .before .before .before .sign-kind .ensures ∙ e) in let ne = sign-some (c .before .before .before .before .before .before .before .before .before .before .token-at .result .kind) nz in let v = beyond (now (c .before .before .before .before .before .before .before .before .before .before .before .before .args .text)) (c .before .before .before .before .before .before .before .before .before .before .before .before .args .at) (c .before .before .before .before .before .before .before .before .before .before .token-at .result) (c .before .before .before .before .before .before .before .before .before .before .before .before .pre .1) (c .before .before .before .before .before .before .before .before .before .before .token-at .ensures) ne in let d = as-is (c .before .before .before .before .before .before .prod .ensures) (c .before .before .before .before .a .given .1) in let w = d .within in omega arith
+adds-adds-requires t c κs =
+    let at-a = c .before .before .before .before in
+    let at-prod = at-a .before .before in
+    let at-if1 = at-prod .before .before in
+    let at-sign-kind = at-if1 .before in
+    let at-token-at = at-sign-kind .before in
+    let entry = at-token-at .before .before in
+    let nz : signByte (at-token-at .token-at .result .kind) ≡ 0 → ⊥ = λ e. at-if1 .if1 .left (at-sign-kind .sign-kind .ensures ∙ e) in
+    let ne = sign-some (at-token-at .token-at .result .kind) nz in
+    let v = beyond (now (entry .args .text)) (entry .args .at) (at-token-at .token-at .result) (entry .pre .1) (at-token-at .token-at .ensures) ne in
+    let d = as-is (at-prod .prod .ensures) (at-a .a .given .1) in
+    let w = d .within in
+    omega arith
 
 adds-returns-2 : (t : ℕ) → adds-lts.Need-returns-2 (adds-calls t) (adds-at t) adds.Post
-adds-returns-2 t c = let nz : signByte (c .before .before .before .before .before .before .before .token-at .result .kind) ≡ 0 → ⊥ = λ e. c .before .before .before .before .before .if1 .left (c .before .before .before .before .before .before .sign-kind .ensures ∙ e) in let ne = sign-some (c .before .before .before .before .before .before .before .token-at .result .kind) nz in let v = beyond (now (c .before .before .before .before .before .before .before .before .before .args .text)) (c .before .before .before .before .before .before .before .before .before .args .at) (c .before .before .before .before .before .before .before .token-at .result) (c .before .before .before .before .before .before .before .before .before .pre .1) (c .before .before .before .before .before .before .before .token-at .ensures) ne in take (c .before .before .before .before .before .before .before .before .before .pre .1) (c .before .before .before .before .before .before .before .token-at .ensures) ne (stop (λ s. doing (out (plain (signByte (c .before .before .before .before .before .before .before .token-at .result .kind)))) ∷ machine.adds (c .before .before .before .before .before .before .before .before .before .args .d) ∷ s) _ (as-is (c .before .before .before .prod .ensures) (c .before .q .given .1))) (λ s. sign-step _ _ _ _ _ _ _ nz)
+adds-returns-2 t c =
+    let at-prod = c .before .before .before in
+    let at-if1 = at-prod .before .before in
+    let at-sign-kind = at-if1 .before in
+    let at-token-at = at-sign-kind .before in
+    let entry = at-token-at .before .before in
+    let nz : signByte (at-token-at .token-at .result .kind) ≡ 0 → ⊥ = λ e. at-if1 .if1 .left (at-sign-kind .sign-kind .ensures ∙ e) in
+    let ne = sign-some (at-token-at .token-at .result .kind) nz in
+    let v = beyond (now (entry .args .text)) (entry .args .at) (at-token-at .token-at .result) (entry .pre .1) (at-token-at .token-at .ensures) ne in
+    take (entry .pre .1) (at-token-at .token-at .ensures) ne (stop (λ s. doing (out (plain (signByte (at-token-at .token-at .result .kind)))) ∷ machine.adds (entry .args .d) ∷ s) _ (as-is (at-prod .prod .ensures) (c .before .q .given .1))) (λ s. sign-step _ _ _ _ _ _ _ nz)
 
 adds-returns-3 : (t : ℕ) → adds-lts.Need-returns-3 (adds-calls t) (adds-at t) adds.Post
-adds-returns-3 t c = let nz : signByte (c .before .before .before .before .before .before .before .before .before .before .before .token-at .result .kind) ≡ 0 → ⊥ = λ e. c .before .before .before .before .before .before .before .before .before .if1 .left (c .before .before .before .before .before .before .before .before .before .before .sign-kind .ensures ∙ e) in let ne = sign-some (c .before .before .before .before .before .before .before .before .before .before .before .token-at .result .kind) nz in let v = beyond (now (c .before .before .before .before .before .before .before .before .before .before .before .before .before .args .text)) (c .before .before .before .before .before .before .before .before .before .before .before .before .before .args .at) (c .before .before .before .before .before .before .before .before .before .before .before .token-at .result) (c .before .before .before .before .before .before .before .before .before .before .before .before .before .pre .1) (c .before .before .before .before .before .before .before .before .before .before .before .token-at .ensures) ne in let d = as-is (c .before .before .before .before .before .before .before .prod .ensures) (c .before .before .before .before .before .a .given .1) in let w = d .within in take (c .before .before .before .before .before .before .before .before .before .before .before .before .before .pre .1) (c .before .before .before .before .before .before .before .before .before .before .before .token-at .ensures) ne (then (then-does (out (plain (c .before .before .before .before .before .before .before .before .before .before .sign-kind .result))) d (c .before .before .emit-kind .ensures (now (c .before .before .before .before .before .before .before .before .before .before .before .before .before .args .text)) (now (c .before .before .before .before .before .before .before .before .before .before .before .before .before .args .names)))) (c .adds .ensures) (omega arith)) (λ s. rw (c .before .before .before .before .before .before .before .before .before .before .sign-kind .ensures) (sign-step _ _ _ _ _ _ _ nz))
-
-factor-token-at-requires : (t : ℕ) → factor-lts.Need-token-at-requires (factor-calls t) (factor-at t) factor.Post
-factor-token-at-requires t c κs = search needs
+adds-returns-3 t c =
+    let at-emit-kind = c .before .before in
+    let at-a = at-emit-kind .before .before .before in
+    let at-prod = at-a .before .before in
+    let at-if1 = at-prod .before .before in
+    let at-sign-kind = at-if1 .before in
+    let at-token-at = at-sign-kind .before in
+    let entry = at-token-at .before .before in
+    let nz : signByte (at-token-at .token-at .result .kind) ≡ 0 → ⊥ = λ e. at-if1 .if1 .left (at-sign-kind .sign-kind .ensures ∙ e) in
+    let ne = sign-some (at-token-at .token-at .result .kind) nz in
+    let v = beyond (now (entry .args .text)) (entry .args .at) (at-token-at .token-at .result) (entry .pre .1) (at-token-at .token-at .ensures) ne in
+    let d = as-is (at-prod .prod .ensures) (at-a .a .given .1) in
+    let w = d .within in
+    take (entry .pre .1) (at-token-at .token-at .ensures) ne (then (then-does (out (plain (at-sign-kind .sign-kind .result))) d (at-emit-kind .emit-kind .ensures (now (entry .args .text)) (now (entry .args .names)))) (c .adds .ensures) (omega arith)) (λ s. rw (at-sign-kind .sign-kind .ensures) (sign-step _ _ _ _ _ _ _ nz))
 
 factor-emit-literal-requires : (t : ℕ) → factor-lts.Need-emit-literal-requires (factor-calls t) (factor-at t) factor.Post
-factor-emit-literal-requires t c κs = let ne : c .before .before .before .token-at .result .kind ≡ 0 → ⊥ = λ e. omega arith in let i = inside (now (c .before .before .before .before .before .args .text)) (c .before .before .before .before .before .args .at) (c .before .before .before .token-at .result) (c .before .before .before .before .before .pre .1) (c .before .before .before .token-at .ensures) ne in i
+factor-emit-literal-requires t c κs =
+    let at-token-at = c .before .before .before in
+    let entry = at-token-at .before .before in
+    let ne : at-token-at .token-at .result .kind ≡ 0 → ⊥ = λ e. omega arith in
+    let i = inside (now (entry .args .text)) (entry .args .at) (at-token-at .token-at .result) (entry .pre .1) (at-token-at .token-at .ensures) ne in
+    i
 
 factor-returns : (t : ℕ) → factor-lts.Need-returns (factor-calls t) (factor-at t) factor.Post
 unfolding step startFactor
-factor-returns t c = let ne : c .before .before .before .before .token-at .result .kind ≡ 0 → ⊥ = λ e. omega arith in let v = beyond (now (c .before .before .before .before .before .before .args .text)) (c .before .before .before .before .before .before .args .at) (c .before .before .before .before .token-at .result) (c .before .before .before .before .before .before .pre .1) (c .before .before .before .before .token-at .ensures) ne in take (c .before .before .before .before .before .before .pre .1) (c .before .before .before .before .token-at .ensures) ne (idle (omega arith) (v .1) (c .emit-literal .ensures (now (c .before .before .before .before .before .before .args .names)))) (λ s. rw (c .before .before .if1 .taken))
-
-factor-emit-instance-requires : (t : ℕ) → factor-lts.Need-emit-instance-requires (factor-calls t) (factor-at t) factor.Post
-factor-emit-instance-requires t c κs = search needs
+factor-returns t c =
+    let at-if1 = c .before .before in
+    let at-token-at = at-if1 .before .before in
+    let entry = at-token-at .before .before in
+    let ne : at-token-at .token-at .result .kind ≡ 0 → ⊥ = λ e. omega arith in
+    let v = beyond (now (entry .args .text)) (entry .args .at) (at-token-at .token-at .result) (entry .pre .1) (at-token-at .token-at .ensures) ne in
+    take (entry .pre .1) (at-token-at .token-at .ensures) ne (idle (omega arith) (v .1) (c .emit-literal .ensures (now (entry .args .names)))) (λ s. rw (at-if1 .if1 .taken))
 
 factor-returns-2 : (t : ℕ) → factor-lts.Need-returns-2 (factor-calls t) (factor-at t) factor.Post
 unfolding step startFactor
-factor-returns-2 t c = let ne : c .before .before .before .before .before .before .token-at .result .kind ≡ 0 → ⊥ = λ e. omega arith in let v = beyond (now (c .before .before .before .before .before .before .before .before .args .text)) (c .before .before .before .before .before .before .before .before .args .at) (c .before .before .before .before .before .before .token-at .result) (c .before .before .before .before .before .before .before .before .pre .1) (c .before .before .before .before .before .before .token-at .ensures) ne in take (c .before .before .before .before .before .before .before .before .pre .1) (c .before .before .before .before .before .before .token-at .ensures) ne (idle (omega arith) (v .1) (c .emit-instance .ensures (now (c .before .before .before .before .before .before .before .before .args .text)) (now (c .before .before .before .before .before .before .before .before .args .names)))) (λ s. rw (c .before .before .if2 .taken))
+factor-returns-2 t c =
+    let at-if2 = c .before .before in
+    let at-token-at = at-if2 .before .before .before .before in
+    let entry = at-token-at .before .before in
+    let ne : at-token-at .token-at .result .kind ≡ 0 → ⊥ = λ e. omega arith in
+    let v = beyond (now (entry .args .text)) (entry .args .at) (at-token-at .token-at .result) (entry .pre .1) (at-token-at .token-at .ensures) ne in
+    take (entry .pre .1) (at-token-at .token-at .ensures) ne (idle (omega arith) (v .1) (c .emit-instance .ensures (now (entry .args .text)) (now (entry .args .names)))) (λ s. rw (at-if2 .if2 .taken))
 
 factor-named-requires : (t : ℕ) → factor-lts.Need-named-requires (factor-calls t) (factor-at t) factor.Post
-factor-named-requires t c κs = let ne : c .before .before .before .before .before .before .token-at .result .kind ≡ 0 → ⊥ = λ e. omega arith in let i = inside (now (c .before .before .before .before .before .before .before .before .args .text)) (c .before .before .before .before .before .before .before .before .args .at) (c .before .before .before .before .before .before .token-at .result) (c .before .before .before .before .before .before .before .before .pre .1) (c .before .before .before .before .before .before .token-at .ensures) ne in i
+factor-named-requires t c κs =
+    let at-token-at = c .before .before .before .before .before .before in
+    let entry = at-token-at .before .before in
+    let ne : at-token-at .token-at .result .kind ≡ 0 → ⊥ = λ e. omega arith in
+    let i = inside (now (entry .args .text)) (entry .args .at) (at-token-at .token-at .result) (entry .pre .1) (at-token-at .token-at .ensures) ne in
+    i
 
 factor-reference-requires : (t : ℕ) → factor-lts.Need-reference-requires (factor-calls t) (factor-at t) factor.Post
-factor-reference-requires t c κs = let ne : c .before .before .before .before .before .before .before .before .token-at .result .kind ≡ 0 → ⊥ = λ e. omega arith in let v = beyond (now (c .before .before .before .before .before .before .before .before .before .before .args .text)) (c .before .before .before .before .before .before .before .before .before .before .args .at) (c .before .before .before .before .before .before .before .before .token-at .result) (c .before .before .before .before .before .before .before .before .before .before .pre .1) (c .before .before .before .before .before .before .before .before .token-at .ensures) ne in let i = inside (now (c .before .before .before .before .before .before .before .before .before .before .args .text)) (c .before .before .before .before .before .before .before .before .before .before .args .at) (c .before .before .before .before .before .before .before .before .token-at .result) (c .before .before .before .before .before .before .before .before .before .before .pre .1) (c .before .before .before .before .before .before .before .before .token-at .ensures) ne in (v .1, i)
+factor-reference-requires t c κs =
+    let at-token-at = c .before .before .before .before .before .before .before .before in
+    let entry = at-token-at .before .before in
+    let ne : at-token-at .token-at .result .kind ≡ 0 → ⊥ = λ e. omega arith in
+    let v = beyond (now (entry .args .text)) (entry .args .at) (at-token-at .token-at .result) (entry .pre .1) (at-token-at .token-at .ensures) ne in
+    let i = inside (now (entry .args .text)) (entry .args .at) (at-token-at .token-at .result) (entry .pre .1) (at-token-at .token-at .ensures) ne in
+    (v .1, i)
 
 factor-returns-3 : (t : ℕ) → factor-lts.Need-returns-3 (factor-calls t) (factor-at t) factor.Post
 unfolding step startFactor
-factor-returns-3 t c = let ne : c .before .before .before .before .before .before .before .before .before .token-at .result .kind ≡ 0 → ⊥ = λ e. omega arith in let v = beyond (now (c .before .before .before .before .before .before .before .before .before .before .before .args .text)) (c .before .before .before .before .before .before .before .before .before .before .before .args .at) (c .before .before .before .before .before .before .before .before .before .token-at .result) (c .before .before .before .before .before .before .before .before .before .before .before .pre .1) (c .before .before .before .before .before .before .before .before .before .token-at .ensures) ne in take (c .before .before .before .before .before .before .before .before .before .before .before .pre .1) (c .before .before .before .before .before .before .before .before .before .token-at .ensures) ne (least (omega arith) (rw (c .before .before .named .ensures (now (c .before .before .before .before .before .before .before .before .before .before .before .args .buf))) at (c .reference .ensures))) (λ s. rw (c .before .before .before .if3 .taken))
-
-factor-deeper-requires : (t : ℕ) → factor-lts.Need-deeper-requires (factor-calls t) (factor-at t) factor.Post
-factor-deeper-requires t c κs = search needs
-
-factor-entered-requires : (t : ℕ) → factor-lts.Need-entered-requires (factor-calls t) (factor-at t) factor.Post
-factor-entered-requires t c κs = search needs
+factor-returns-3 t c =
+    let at-named = c .before .before in
+    let at-if3 = at-named .before in
+    let at-token-at = at-if3 .before .before .before .before .before .before in
+    let entry = at-token-at .before .before in
+    let ne : at-token-at .token-at .result .kind ≡ 0 → ⊥ = λ e. omega arith in
+    let v = beyond (now (entry .args .text)) (entry .args .at) (at-token-at .token-at .result) (entry .pre .1) (at-token-at .token-at .ensures) ne in
+    take (entry .pre .1) (at-token-at .token-at .ensures) ne (least (omega arith) (rw (at-named .named .ensures (now (entry .args .buf))) at (c .reference .ensures))) (λ s. rw (at-if3 .if3 .taken))
 
 factor-parens-requires : (t : ℕ) → factor-lts.Need-parens-requires (factor-calls t) (factor-at t) factor.Post
-factor-parens-requires t c κs = let ne : c .before .before .before .before .before .before .before .before .before .before .before .token-at .result .kind ≡ 0 → ⊥ = λ e. omega arith in let v = beyond (now (c .before .before .before .before .before .before .before .before .before .before .before .before .before .args .text)) (c .before .before .before .before .before .before .before .before .before .before .before .before .before .args .at) (c .before .before .before .before .before .before .before .before .before .before .before .token-at .result) (c .before .before .before .before .before .before .before .before .before .before .before .before .before .pre .1) (c .before .before .before .before .before .before .before .before .before .before .before .token-at .ensures) ne in omega arith
+factor-parens-requires t c κs =
+    let at-token-at = c .before .before .before .before .before .before .before .before .before .before .before in
+    let entry = at-token-at .before .before in
+    let ne : at-token-at .token-at .result .kind ≡ 0 → ⊥ = λ e. omega arith in
+    let v = beyond (now (entry .args .text)) (entry .args .at) (at-token-at .token-at .result) (entry .pre .1) (at-token-at .token-at .ensures) ne in
+    omega arith
 
 factor-returns-4 : (t : ℕ) → factor-lts.Need-returns-4 (factor-calls t) (factor-at t) factor.Post
 unfolding step startFactor
-factor-returns-4 t c = let ne : c .before .before .before .before .before .before .before .before .before .before .before .before .token-at .result .kind ≡ 0 → ⊥ = λ e. omega arith in let v = beyond (now (c .before .before .before .before .before .before .before .before .before .before .before .before .before .before .args .text)) (c .before .before .before .before .before .before .before .before .before .before .before .before .before .before .args .at) (c .before .before .before .before .before .before .before .before .before .before .before .before .token-at .result) (c .before .before .before .before .before .before .before .before .before .before .before .before .before .before .pre .1) (c .before .before .before .before .before .before .before .before .before .before .before .before .token-at .ensures) ne in take (c .before .before .before .before .before .before .before .before .before .before .before .before .before .before .pre .1) (c .before .before .before .before .before .before .before .before .before .before .before .before .token-at .ensures) ne (least (omega arith) (rw (c .before .before .entered .ensures (now (c .before .before .before .before .before .before .before .before .before .before .before .before .before .before .args .text)) (now (c .before .before .before .before .before .before .before .before .before .before .before .before .before .before .args .names)) (now (c .before .before .before .before .before .before .before .before .before .before .before .before .before .before .args .buf))) at (c .parens .ensures))) (λ s. rw (c .before .before .before .if4 .taken, ← c .before .before .before .before .before .deeper .ensures))
-
-factor-entered-requires-2 : (t : ℕ) → factor-lts.Need-entered-requires-2 (factor-calls t) (factor-at t) factor.Post
-factor-entered-requires-2 t c κs = search needs
+factor-returns-4 t c =
+    let at-entered = c .before .before in
+    let at-if4 = at-entered .before in
+    let at-deeper = at-if4 .before .before in
+    let at-token-at = at-deeper .before .before .before .before .before .before .before in
+    let entry = at-token-at .before .before in
+    let ne : at-token-at .token-at .result .kind ≡ 0 → ⊥ = λ e. omega arith in
+    let v = beyond (now (entry .args .text)) (entry .args .at) (at-token-at .token-at .result) (entry .pre .1) (at-token-at .token-at .ensures) ne in
+    take (entry .pre .1) (at-token-at .token-at .ensures) ne (least (omega arith) (rw (at-entered .entered .ensures (now (entry .args .text)) (now (entry .args .names)) (now (entry .args .buf))) at (c .parens .ensures))) (λ s. rw (at-if4 .if4 .taken, ← at-deeper .deeper .ensures))
 
 factor-absolute-requires : (t : ℕ) → factor-lts.Need-absolute-requires (factor-calls t) (factor-at t) factor.Post
-factor-absolute-requires t c κs = let ne : c .before .before .before .before .before .before .before .before .before .before .before .before .before .token-at .result .kind ≡ 0 → ⊥ = λ e. omega arith in let v = beyond (now (c .before .before .before .before .before .before .before .before .before .before .before .before .before .before .before .args .text)) (c .before .before .before .before .before .before .before .before .before .before .before .before .before .before .before .args .at) (c .before .before .before .before .before .before .before .before .before .before .before .before .before .token-at .result) (c .before .before .before .before .before .before .before .before .before .before .before .before .before .before .before .pre .1) (c .before .before .before .before .before .before .before .before .before .before .before .before .before .token-at .ensures) ne in omega arith
+factor-absolute-requires t c κs =
+    let at-token-at = c .before .before .before .before .before .before .before .before .before .before .before .before .before in
+    let entry = at-token-at .before .before in
+    let ne : at-token-at .token-at .result .kind ≡ 0 → ⊥ = λ e. omega arith in
+    let v = beyond (now (entry .args .text)) (entry .args .at) (at-token-at .token-at .result) (entry .pre .1) (at-token-at .token-at .ensures) ne in
+    omega arith
 
 factor-returns-5 : (t : ℕ) → factor-lts.Need-returns-5 (factor-calls t) (factor-at t) factor.Post
 unfolding step startFactor
-factor-returns-5 t c = let ne : c .before .before .before .before .before .before .before .before .before .before .before .before .before .before .token-at .result .kind ≡ 0 → ⊥ = λ e. omega arith in let v = beyond (now (c .before .before .before .before .before .before .before .before .before .before .before .before .before .before .before .before .args .text)) (c .before .before .before .before .before .before .before .before .before .before .before .before .before .before .before .before .args .at) (c .before .before .before .before .before .before .before .before .before .before .before .before .before .before .token-at .result) (c .before .before .before .before .before .before .before .before .before .before .before .before .before .before .before .before .pre .1) (c .before .before .before .before .before .before .before .before .before .before .before .before .before .before .token-at .ensures) ne in take (c .before .before .before .before .before .before .before .before .before .before .before .before .before .before .before .before .pre .1) (c .before .before .before .before .before .before .before .before .before .before .before .before .before .before .token-at .ensures) ne (least (omega arith) (rw (c .before .before .entered2 .ensures (now (c .before .before .before .before .before .before .before .before .before .before .before .before .before .before .before .before .args .text)) (now (c .before .before .before .before .before .before .before .before .before .before .before .before .before .before .before .before .args .names)) (now (c .before .before .before .before .before .before .before .before .before .before .before .before .before .before .before .before .args .buf))) at (c .absolute .ensures))) (λ s. rw (c .before .before .before .if5 .taken, ← c .before .before .before .before .before .before .before .deeper .ensures))
+factor-returns-5 t c =
+    let at-entered2 = c .before .before in
+    let at-if5 = at-entered2 .before in
+    let at-deeper = at-if5 .before .before .before .before in
+    let at-token-at = at-deeper .before .before .before .before .before .before .before in
+    let entry = at-token-at .before .before in
+    let ne : at-token-at .token-at .result .kind ≡ 0 → ⊥ = λ e. omega arith in
+    let v = beyond (now (entry .args .text)) (entry .args .at) (at-token-at .token-at .result) (entry .pre .1) (at-token-at .token-at .ensures) ne in
+    take (entry .pre .1) (at-token-at .token-at .ensures) ne (least (omega arith) (rw (at-entered2 .entered2 .ensures (now (entry .args .text)) (now (entry .args .names)) (now (entry .args .buf))) at (c .absolute .ensures))) (λ s. rw (at-if5 .if5 .taken, ← at-deeper .deeper .ensures))
 
 factor-returns-6 : (t : ℕ) → factor-lts.Need-returns-6 (factor-calls t) (factor-at t) factor.Post
 unfolding step startFactor finish
-factor-returns-6 t c = fail (c .before .before .before .before .before .before .before .before .before .before .before .before .before .pre .1) (c .before .before .before .before .before .before .before .before .before .before .before .token-at .ensures) (λ s. rw (ne-eqb _ _ (c .before .before .before .before .before .before .before .before .before .if1 .left), ne-eqb _ _ (c .before .before .before .before .before .before .before .if2 .left), ne-eqb _ _ (c .before .before .before .before .before .if3 .left), ne-eqb _ _ (c .before .before .if4 .left), ne-eqb _ _ (c .if5 .left))) (λ s. refl)
-
-muls-token-at-requires : (t : ℕ) → muls-lts.Need-token-at-requires (muls-calls t) (muls-at t) muls.Post
-muls-token-at-requires t c κs = search needs
+factor-returns-6 t c =
+    let at-if4 = c .before .before in
+    let at-if3 = at-if4 .before .before .before in
+    let at-if2 = at-if3 .before .before in
+    let at-if1 = at-if2 .before .before in
+    let at-token-at = at-if1 .before .before in
+    let entry = at-token-at .before .before in
+    fail (entry .pre .1) (at-token-at .token-at .ensures) (λ s. rw (ne-eqb _ _ (at-if1 .if1 .left), ne-eqb _ _ (at-if2 .if2 .left), ne-eqb _ _ (at-if3 .if3 .left), ne-eqb _ _ (at-if4 .if4 .left), ne-eqb _ _ (c .if5 .left))) (λ s. refl)
 
 muls-returns : (t : ℕ) → muls-lts.Need-returns (muls-calls t) (muls-at t) muls.Post
 unfolding step finish
-muls-returns t c = same (c .before .before .before .before .pre .1) (c .before .before .token-at .ensures) (idle (omega arith) (c .before .before .before .before .pre .1) refl) (λ s. rw (ne-eqb _ _ (c .if1 .taken))) (λ s. refl)
+muls-returns t c =
+    let at-token-at = c .before .before in
+    let entry = at-token-at .before .before in
+    same (entry .pre .1) (at-token-at .token-at .ensures) (idle (omega arith) (entry .pre .1) refl) (λ s. rw (ne-eqb _ _ (c .if1 .taken))) (λ s. refl)
 
 muls-factor-requires : (t : ℕ) → muls-lts.Need-factor-requires (muls-calls t) (muls-at t) muls.Post
-muls-factor-requires t c κs = let ne : c .before .before .before .token-at .result .kind ≡ 0 → ⊥ = λ e. omega arith in let v = beyond (now (c .before .before .before .before .before .args .text)) (c .before .before .before .before .before .args .at) (c .before .before .before .token-at .result) (c .before .before .before .before .before .pre .1) (c .before .before .before .token-at .ensures) ne in omega arith
-
-muls-enum-known-q : (t : ℕ) → muls-lts.Need-enum-known-q (muls-calls t) (muls-at t) muls.Post
-muls-enum-known-q t c = search needs
-
-muls-enum-known-a : (t : ℕ) → muls-lts.Need-enum-known-a (muls-calls t) (muls-at t) muls.Post
-muls-enum-known-a t c = search needs
-
-muls-emit-kind-requires : (t : ℕ) → muls-lts.Need-emit-kind-requires (muls-calls t) (muls-at t) muls.Post
-muls-emit-kind-requires t c κs = search needs
+muls-factor-requires t c κs =
+    let at-token-at = c .before .before .before in
+    let entry = at-token-at .before .before in
+    let ne : at-token-at .token-at .result .kind ≡ 0 → ⊥ = λ e. omega arith in
+    let v = beyond (now (entry .args .text)) (entry .args .at) (at-token-at .token-at .result) (entry .pre .1) (at-token-at .token-at .ensures) ne in
+    omega arith
 
 muls-muls-requires : (t : ℕ) → muls-lts.Need-muls-requires (muls-calls t) (muls-at t) muls.Post
-muls-muls-requires t c κs = let ne : c .before .before .before .before .before .before .before .before .before .before .token-at .result .kind ≡ 0 → ⊥ = λ e. omega arith in let v = beyond (now (c .before .before .before .before .before .before .before .before .before .before .before .before .args .text)) (c .before .before .before .before .before .before .before .before .before .before .before .before .args .at) (c .before .before .before .before .before .before .before .before .before .before .token-at .result) (c .before .before .before .before .before .before .before .before .before .before .before .before .pre .1) (c .before .before .before .before .before .before .before .before .before .before .token-at .ensures) ne in let d = as-is (c .before .before .before .before .before .before .factor .ensures) (c .before .before .before .before .a .given .1) in let w = d .within in omega arith
+muls-muls-requires t c κs =
+    let at-a = c .before .before .before .before in
+    let at-factor = at-a .before .before in
+    let at-token-at = at-factor .before .before .before .before in
+    let entry = at-token-at .before .before in
+    let ne : at-token-at .token-at .result .kind ≡ 0 → ⊥ = λ e. omega arith in
+    let v = beyond (now (entry .args .text)) (entry .args .at) (at-token-at .token-at .result) (entry .pre .1) (at-token-at .token-at .ensures) ne in
+    let d = as-is (at-factor .factor .ensures) (at-a .a .given .1) in
+    let w = d .within in
+    omega arith
 
 muls-returns-2 : (t : ℕ) → muls-lts.Need-returns-2 (muls-calls t) (muls-at t) muls.Post
 unfolding step
-muls-returns-2 t c = let ne : c .before .before .before .before .before .before .before .token-at .result .kind ≡ 0 → ⊥ = λ e. omega arith in let v = beyond (now (c .before .before .before .before .before .before .before .before .before .args .text)) (c .before .before .before .before .before .before .before .before .before .args .at) (c .before .before .before .before .before .before .before .token-at .result) (c .before .before .before .before .before .before .before .before .before .pre .1) (c .before .before .before .before .before .before .before .token-at .ensures) ne in take (c .before .before .before .before .before .before .before .before .before .pre .1) (c .before .before .before .before .before .before .before .token-at .ensures) ne (stop (λ s. doing (out (alone (Kind.arithmetic Arithmetic.multiply))) ∷ machine.muls (c .before .before .before .before .before .before .before .before .before .args .d) ∷ s) _ (as-is (c .before .before .before .factor .ensures) (c .before .q .given .1))) (λ s. rw (c .before .before .before .before .before .if1 .left))
+muls-returns-2 t c =
+    let at-factor = c .before .before .before in
+    let at-if1 = at-factor .before .before in
+    let at-token-at = at-if1 .before .before in
+    let entry = at-token-at .before .before in
+    let ne : at-token-at .token-at .result .kind ≡ 0 → ⊥ = λ e. omega arith in
+    let v = beyond (now (entry .args .text)) (entry .args .at) (at-token-at .token-at .result) (entry .pre .1) (at-token-at .token-at .ensures) ne in
+    take (entry .pre .1) (at-token-at .token-at .ensures) ne (stop (λ s. doing (out (alone (Kind.arithmetic Arithmetic.multiply))) ∷ machine.muls (entry .args .d) ∷ s) _ (as-is (at-factor .factor .ensures) (c .before .q .given .1))) (λ s. rw (at-if1 .if1 .left))
 
 muls-returns-3 : (t : ℕ) → muls-lts.Need-returns-3 (muls-calls t) (muls-at t) muls.Post
 unfolding step
-muls-returns-3 t c = let ne : c .before .before .before .before .before .before .before .before .before .before .before .token-at .result .kind ≡ 0 → ⊥ = λ e. omega arith in let v = beyond (now (c .before .before .before .before .before .before .before .before .before .before .before .before .before .args .text)) (c .before .before .before .before .before .before .before .before .before .before .before .before .before .args .at) (c .before .before .before .before .before .before .before .before .before .before .before .token-at .result) (c .before .before .before .before .before .before .before .before .before .before .before .before .before .pre .1) (c .before .before .before .before .before .before .before .before .before .before .before .token-at .ensures) ne in let d = as-is (c .before .before .before .before .before .before .before .factor .ensures) (c .before .before .before .before .before .a .given .1) in let w = d .within in take (c .before .before .before .before .before .before .before .before .before .before .before .before .before .pre .1) (c .before .before .before .before .before .before .before .before .before .before .before .token-at .ensures) ne (then (then-does (out (alone (Kind.arithmetic Arithmetic.multiply))) d (c .before .before .emit-kind .ensures (now (c .before .before .before .before .before .before .before .before .before .before .before .before .before .args .text)) (now (c .before .before .before .before .before .before .before .before .before .before .before .before .before .args .names)))) (c .muls .ensures) (omega arith)) (λ s. rw (c .before .before .before .before .before .before .before .before .before .if1 .left))
+muls-returns-3 t c =
+    let at-emit-kind = c .before .before in
+    let at-a = at-emit-kind .before .before .before in
+    let at-factor = at-a .before .before in
+    let at-if1 = at-factor .before .before in
+    let at-token-at = at-if1 .before .before in
+    let entry = at-token-at .before .before in
+    let ne : at-token-at .token-at .result .kind ≡ 0 → ⊥ = λ e. omega arith in
+    let v = beyond (now (entry .args .text)) (entry .args .at) (at-token-at .token-at .result) (entry .pre .1) (at-token-at .token-at .ensures) ne in
+    let d = as-is (at-factor .factor .ensures) (at-a .a .given .1) in
+    let w = d .within in
+    take (entry .pre .1) (at-token-at .token-at .ensures) ne (then (then-does (out (alone (Kind.arithmetic Arithmetic.multiply))) d (at-emit-kind .emit-kind .ensures (now (entry .args .text)) (now (entry .args .names)))) (c .muls .ensures) (omega arith)) (λ s. rw (at-if1 .if1 .left))
 
 parens-sum-requires : (t : ℕ) → parens-lts.Need-sum-requires (parens-calls t) (parens-at t) parens.Post
 parens-sum-requires t c κs = omega arith
 
-parens-enum-known-q : (t : ℕ) → parens-lts.Need-enum-known-q (parens-calls t) (parens-at t) parens.Post
-parens-enum-known-q t c = search needs
-
-parens-enum-known-a : (t : ℕ) → parens-lts.Need-enum-known-a (parens-calls t) (parens-at t) parens.Post
-parens-enum-known-a t c = search needs
-
 parens-expect-requires : (t : ℕ) → parens-lts.Need-expect-requires (parens-calls t) (parens-at t) parens.Post
-parens-expect-requires t c κs = let d = as-is (c .before .before .before .sum .ensures) (c .before .a .given .1) in let w = d .within in (w .1, omega arith)
+parens-expect-requires t c κs =
+    let at-sum = c .before .before .before in
+    let d = as-is (at-sum .sum .ensures) (c .before .a .given .1) in
+    let w = d .within in
+    (w .1, omega arith)
 
 parens-returns : (t : ℕ) → parens-lts.Need-returns (parens-calls t) (parens-at t) parens.Post
-parens-returns t c = stop (λ s. want closeParen ∷ s) _ (as-is (c .before .before .before .sum .ensures) (c .before .q .given .1))
+parens-returns t c =
+    let at-sum = c .before .before .before in
+    stop (λ s. want closeParen ∷ s) _ (as-is (at-sum .sum .ensures) (c .before .q .given .1))
 
 parens-returns-2 : (t : ℕ) → parens-lts.Need-returns-2 (parens-calls t) (parens-at t) parens.Post
-parens-returns-2 t c = let d = as-is (c .before .before .before .before .sum .ensures) (c .before .before .a .given .1) in let w = d .within in then d (c .expect .ensures _ _) (omega arith)
+parens-returns-2 t c =
+    let at-a = c .before .before in
+    let at-sum = at-a .before .before in
+    let d = as-is (at-sum .sum .ensures) (at-a .a .given .1) in
+    let w = d .within in
+    then d (c .expect .ensures _ _) (omega arith)
 
 prod-factor-requires : (t : ℕ) → prod-lts.Need-factor-requires (prod-calls t) (prod-at t) prod.Post
 prod-factor-requires t c κs = omega arith
 
-prod-enum-known-q : (t : ℕ) → prod-lts.Need-enum-known-q (prod-calls t) (prod-at t) prod.Post
-prod-enum-known-q t c = search needs
-
-prod-enum-known-a : (t : ℕ) → prod-lts.Need-enum-known-a (prod-calls t) (prod-at t) prod.Post
-prod-enum-known-a t c = search needs
-
 prod-muls-requires : (t : ℕ) → prod-lts.Need-muls-requires (prod-calls t) (prod-at t) prod.Post
-prod-muls-requires t c κs = let d = as-is (c .before .before .before .before .factor .ensures) (c .before .before .a .given .1) in let w = d .within in omega arith
+prod-muls-requires t c κs =
+    let at-a = c .before .before in
+    let at-factor = at-a .before .before in
+    let d = as-is (at-factor .factor .ensures) (at-a .a .given .1) in
+    let w = d .within in
+    omega arith
 
 prod-returns : (t : ℕ) → prod-lts.Need-returns (prod-calls t) (prod-at t) prod.Post
-prod-returns t c = stop (λ s. machine.muls (c .before .before .before .before .before .before .args .d) ∷ s) _ (as-is (c .before .before .before .factor .ensures) (c .before .q .given .1))
+prod-returns t c =
+    let at-factor = c .before .before .before in
+    let entry = at-factor .before .before .before in
+    stop (λ s. machine.muls (entry .args .d) ∷ s) _ (as-is (at-factor .factor .ensures) (c .before .q .given .1))
 
 prod-returns-2 : (t : ℕ) → prod-lts.Need-returns-2 (prod-calls t) (prod-at t) prod.Post
-prod-returns-2 t c = let d = as-is (c .before .before .before .before .before .factor .ensures) (c .before .before .before .a .given .1) in let w = d .within in then d (c .muls .ensures) (omega arith)
+prod-returns-2 t c =
+    let at-a = c .before .before .before in
+    let at-factor = at-a .before .before in
+    let d = as-is (at-factor .factor .ensures) (at-a .a .given .1) in
+    let w = d .within in
+    then d (c .muls .ensures) (omega arith)
 
 sum-prod-requires : (t : ℕ) → sum-lts.Need-prod-requires (sum-calls t) (sum-at t) sum.Post
 sum-prod-requires t c κs = omega arith
 
-sum-enum-known-q : (t : ℕ) → sum-lts.Need-enum-known-q (sum-calls t) (sum-at t) sum.Post
-sum-enum-known-q t c = search needs
-
-sum-enum-known-a : (t : ℕ) → sum-lts.Need-enum-known-a (sum-calls t) (sum-at t) sum.Post
-sum-enum-known-a t c = search needs
-
 sum-adds-requires : (t : ℕ) → sum-lts.Need-adds-requires (sum-calls t) (sum-at t) sum.Post
-sum-adds-requires t c κs = let d = as-is (c .before .before .before .before .prod .ensures) (c .before .before .a .given .1) in let w = d .within in omega arith
+sum-adds-requires t c κs =
+    let at-a = c .before .before in
+    let at-prod = at-a .before .before in
+    let d = as-is (at-prod .prod .ensures) (at-a .a .given .1) in
+    let w = d .within in
+    omega arith
 
 sum-returns : (t : ℕ) → sum-lts.Need-returns (sum-calls t) (sum-at t) sum.Post
-sum-returns t c = stop (λ s. machine.adds (c .before .before .before .before .before .before .args .d) ∷ s) _ (as-is (c .before .before .before .prod .ensures) (c .before .q .given .1))
+sum-returns t c =
+    let at-prod = c .before .before .before in
+    let entry = at-prod .before .before .before in
+    stop (λ s. machine.adds (entry .args .d) ∷ s) _ (as-is (at-prod .prod .ensures) (c .before .q .given .1))
 
 sum-returns-2 : (t : ℕ) → sum-lts.Need-returns-2 (sum-calls t) (sum-at t) sum.Post
-sum-returns-2 t c = let d = as-is (c .before .before .before .before .before .prod .ensures) (c .before .before .before .a .given .1) in let w = d .within in then d (c .adds .ensures) (omega arith)
+sum-returns-2 t c =
+    let at-a = c .before .before .before in
+    let at-prod = at-a .before .before in
+    let d = as-is (at-prod .prod .ensures) (at-a .a .given .1) in
+    let w = d .within in
+    then d (c .adds .ensures) (omega arith)
 
 pub +absolute+adds+factor+muls+parens+prod+sum-spec : {M : Type 1} → statement M
 +absolute+adds+factor+muls+parens+prod+sum-spec =
     close μ-absolute μ-adds μ-factor μ-muls μ-parens μ-prod μ-sum
     (λ t. absolute-lts.spec (absolute-calls t) (absolute-at t) absolute.Post
     (absolute-expect-requires t)
-    (absolute-enum-known-q t)
-    (absolute-enum-known-a t)
+    (λ c. search needs)
+    (λ c. search needs)
     (absolute-parens-requires t)
-    (absolute-enum-known-q-2 t)
-    (absolute-enum-known-z t)
-    (absolute-emit-kind-requires t)
+    (λ c. search needs)
+    (λ c. search needs)
+    (λ c κs. search needs)
     (absolute-returns t)
     (absolute-returns-2 t)
     (absolute-returns-3 t))
     (λ t. adds-lts.spec (adds-calls t) (adds-at t) adds.Post
-    (adds-token-at-requires t)
-    (adds-sign-kind-requires t)
+    (λ c κs. search needs)
+    (λ c κs. search needs)
     (adds-returns t)
     (adds-prod-requires t)
-    (adds-enum-known-q t)
-    (adds-enum-known-a t)
-    (adds-emit-kind-requires t)
+    (λ c. search needs)
+    (λ c. search needs)
+    (λ c κs. search needs)
     (adds-adds-requires t)
     (adds-returns-2 t)
     (adds-returns-3 t))
     (λ t. factor-lts.spec (factor-calls t) (factor-at t) factor.Post
-    (factor-token-at-requires t)
+    (λ c κs. search needs)
     (factor-emit-literal-requires t)
     (factor-returns t)
-    (factor-emit-instance-requires t)
+    (λ c κs. search needs)
     (factor-returns-2 t)
     (factor-named-requires t)
     (factor-reference-requires t)
     (factor-returns-3 t)
-    (factor-deeper-requires t)
-    (factor-entered-requires t)
+    (λ c κs. search needs)
+    (λ c κs. search needs)
     (factor-parens-requires t)
     (factor-returns-4 t)
-    (factor-entered-requires-2 t)
+    (λ c κs. search needs)
     (factor-absolute-requires t)
     (factor-returns-5 t)
     (factor-returns-6 t))
     (λ t. muls-lts.spec (muls-calls t) (muls-at t) muls.Post
-    (muls-token-at-requires t)
+    (λ c κs. search needs)
     (muls-returns t)
     (muls-factor-requires t)
-    (muls-enum-known-q t)
-    (muls-enum-known-a t)
-    (muls-emit-kind-requires t)
+    (λ c. search needs)
+    (λ c. search needs)
+    (λ c κs. search needs)
     (muls-muls-requires t)
     (muls-returns-2 t)
     (muls-returns-3 t))
     (λ t. parens-lts.spec (parens-calls t) (parens-at t) parens.Post
     (parens-sum-requires t)
-    (parens-enum-known-q t)
-    (parens-enum-known-a t)
+    (λ c. search needs)
+    (λ c. search needs)
     (parens-expect-requires t)
     (parens-returns t)
     (parens-returns-2 t))
     (λ t. prod-lts.spec (prod-calls t) (prod-at t) prod.Post
     (prod-factor-requires t)
-    (prod-enum-known-q t)
-    (prod-enum-known-a t)
+    (λ c. search needs)
+    (λ c. search needs)
     (prod-muls-requires t)
     (prod-returns t)
     (prod-returns-2 t))
     (λ t. sum-lts.spec (sum-calls t) (sum-at t) sum.Post
     (sum-prod-requires t)
-    (sum-enum-known-q t)
-    (sum-enum-known-a t)
+    (λ c. search needs)
+    (λ c. search needs)
     (sum-adds-requires t)
     (sum-returns t)
     (sum-returns-2 t))

@@ -6,9 +6,6 @@ use borrow.Author.Needs.{needs}
 use Rattle.rule.proofs.tokens.mark_of.Statement.{statement}
 use Rattle.rule.proofs.tokens.mark_of.Tie as tie
 
-class-of-requires : tie.Need-class-of-requires
-class-of-requires c κs = search needs
-
 returns : tie.Need-returns
 unfolding longestMark
 returns c = simp (c .before .match .keys1, eq-eqb _ _ (c .if1 .taken))
@@ -58,16 +55,22 @@ unfolding longestMark
 returns-12 c = simp (c .before .match .keys6, ne-eqb _ _ (c .if6 .left))
 
 returns-13 : tie.Need-returns-13
-returns-13 c = mark-alone _ _ (c .before .before .before .fits .b .fits) _ (c .before .class-of .ensures) (c .before .before .match .rest .0 .0 .0 .0 .0 .1) (c .before .before .match .rest .0 .0 .0 .0 .1) (c .before .before .match .rest .0 .0 .0 .1) (c .before .before .match .rest .0 .0 .1) (c .before .before .match .rest .0 .1) (c .before .before .match .rest .1) (c .if7 .taken)
+returns-13 c =
+    let at-match = c .before .before in
+    let at-fits = at-match .before in
+    mark-alone _ _ (at-fits .fits .b .fits) _ (c .before .class-of .ensures) (at-match .match .rest .0 .0 .0 .0 .0 .1) (at-match .match .rest .0 .0 .0 .0 .1) (at-match .match .rest .0 .0 .0 .1) (at-match .match .rest .0 .0 .1) (at-match .match .rest .0 .1) (at-match .match .rest .1) (c .if7 .taken)
 
 returns-14 : tie.Need-returns-14
-returns-14 c = mark-none _ _ (c .before .before .before .fits .b .fits) _ (c .before .class-of .ensures) (c .before .before .match .rest .0 .0 .0 .0 .0 .1) (c .before .before .match .rest .0 .0 .0 .0 .1) (c .before .before .match .rest .0 .0 .0 .1) (c .before .before .match .rest .0 .0 .1) (c .before .before .match .rest .0 .1) (c .before .before .match .rest .1) (c .if7 .left)
+returns-14 c =
+    let at-match = c .before .before in
+    let at-fits = at-match .before in
+    mark-none _ _ (at-fits .fits .b .fits) _ (c .before .class-of .ensures) (at-match .match .rest .0 .0 .0 .0 .0 .1) (at-match .match .rest .0 .0 .0 .0 .1) (at-match .match .rest .0 .0 .0 .1) (at-match .match .rest .0 .0 .1) (at-match .match .rest .0 .1) (at-match .match .rest .1) (c .if7 .left)
 
 pub mark-of-spec : {M : Type 1} → statement M
 mark-of-spec =
     tie.close
     (tie.spec
-    class-of-requires
+    (λ c κs. search needs)
     returns
     returns-2
     returns-3

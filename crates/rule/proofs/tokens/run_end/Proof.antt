@@ -15,29 +15,25 @@ Inv-loop text at class i₀ i = (i ≤ length text) × (i + span class (drop i t
 abbrev μ-loop : tie.MeasureT-loop
 μ-loop text at class i₀ i = length text - i
 
-loop-holds : tie.Need-loop-holds Inv-loop μ-loop
-loop-holds c = search needs
-
-shared-slice-read-class-of : tie.Need-shared-slice-read-class-of Inv-loop μ-loop
-shared-slice-read-class-of c = search needs
-
-class-of-requires : tie.Need-class-of-requires Inv-loop μ-loop
-class-of-requires c κs = search needs
-
 returns : tie.Need-returns Inv-loop μ-loop
-returns c = omega (arith, c .before .before .before .before .loop .inv .1, span-stop (c .before .before .before .before .before .before .args .class) (c .before .before .before .before .before .before .args .text .now) (c .before .before .before .before .loop .i) (c .before .before .before .loop-test .taken) (λ e. c .if1 .taken (c .before .class-of .ensures ∙ e)))
-
-add-i : tie.Need-add-i Inv-loop μ-loop
-add-i c = search needs
-
-loop-less : tie.Need-loop-less Inv-loop μ-loop
-loop-less c = search needs
+returns c =
+    let at-loop-test = c .before .before .before in
+    let at-loop = at-loop-test .before in
+    let entry = at-loop .before .before in
+    omega (arith, at-loop .loop .inv .1, span-stop (entry .args .class) (entry .args .text .now) (at-loop .loop .i) (at-loop-test .loop-test .taken) (λ e. c .if1 .taken (c .before .class-of .ensures ∙ e)))
 
 loop-again : tie.Need-loop-again Inv-loop μ-loop
-loop-again c = omega (arith, c .before .before .before .before .loop .inv .1, span-more (c .before .before .before .before .before .before .args .class) (c .before .before .before .before .before .before .args .text .now) (c .before .before .before .before .loop .i) (c .before .before .before .loop-test .taken) (sym (c .before .class-of .ensures) ∙ c .if1 .left))
+loop-again c =
+    let at-loop-test = c .before .before .before in
+    let at-loop = at-loop-test .before in
+    let entry = at-loop .before .before in
+    omega (arith, at-loop .loop .inv .1, span-more (entry .args .class) (entry .args .text .now) (at-loop .loop .i) (at-loop-test .loop-test .taken) (sym (c .before .class-of .ensures) ∙ c .if1 .left))
 
 returns-2 : tie.Need-returns-2 Inv-loop μ-loop
-returns-2 c = omega (arith, c .before .loop .inv .1, span-end (c .before .before .before .args .class) (c .before .before .before .args .text .now) (c .before .loop .i) (c .loop-test .left))
+returns-2 c =
+    let at-loop = c .before in
+    let entry = at-loop .before .before in
+    omega (arith, at-loop .loop .inv .1, span-end (entry .args .class) (entry .args .text .now) (at-loop .loop .i) (c .loop-test .left))
 
 pub run-end-spec : {M : Type 1} → statement M
 run-end-spec =
@@ -45,11 +41,11 @@ run-end-spec =
     (tie.spec
     Inv-loop
     μ-loop
-    loop-holds
-    shared-slice-read-class-of
-    class-of-requires
+    (λ c. search needs)
+    (λ c. search needs)
+    (λ c κs. search needs)
     returns
-    add-i
-    loop-less
+    (λ c. search needs)
+    (λ c. search needs)
     loop-again
     returns-2)

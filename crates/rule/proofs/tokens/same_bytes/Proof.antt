@@ -21,26 +21,23 @@ returns c = sym (same-longer _ _ (c .if1 .taken))
 loop-holds : tie.Need-loop-holds Inv-loop μ-loop
 loop-holds c = (omega arith, refl)
 
-shared-slice-read-if2 : tie.Need-shared-slice-read-if2 Inv-loop μ-loop
-shared-slice-read-if2 c = search needs
-
-shared-slice-read-if2-2 : tie.Need-shared-slice-read-if2-2 Inv-loop μ-loop
-shared-slice-read-if2-2 c = search needs
-
 returns-2 : tie.Need-returns-2 Inv-loop μ-loop
-returns-2 c = sym (same-differ _ _ _ (c .before .before .before .loop-test .taken) (omega arith) (c .if2 .taken)) ∙ c .before .before .before .before .loop .inv .1
-
-add-i : tie.Need-add-i Inv-loop μ-loop
-add-i c = search needs
-
-loop-less : tie.Need-loop-less Inv-loop μ-loop
-loop-less c = search needs
+returns-2 c =
+    let at-loop-test = c .before .before .before in
+    let at-loop = at-loop-test .before in
+    sym (same-differ _ _ _ (at-loop-test .loop-test .taken) (omega arith) (c .if2 .taken)) ∙ at-loop .loop .inv .1
 
 loop-again : tie.Need-loop-again Inv-loop μ-loop
-loop-again c = (omega arith, sym (same-more _ _ _ (c .before .before .before .loop-test .taken) (omega arith) (c .if2 .left)) ∙ c .before .before .before .before .loop .inv .1)
+loop-again c =
+    let at-loop-test = c .before .before .before in
+    let at-loop = at-loop-test .before in
+    (omega arith, sym (same-more _ _ _ (at-loop-test .loop-test .taken) (omega arith) (c .if2 .left)) ∙ at-loop .loop .inv .1)
 
 returns-3 : tie.Need-returns-3 Inv-loop μ-loop
-returns-3 c = sym (same-end (c .before .before .before .args .a .now) (c .before .before .before .args .b .now) (c .before .loop .i) (omega arith) (omega arith)) ∙ c .before .loop .inv .1
+returns-3 c =
+    let at-loop = c .before in
+    let entry = at-loop .before .before in
+    sym (same-end (entry .args .a .now) (entry .args .b .now) (at-loop .loop .i) (omega arith) (omega arith)) ∙ at-loop .loop .inv .1
 
 pub same-bytes-spec : {M : Type 1} → statement M
 same-bytes-spec =
@@ -50,10 +47,10 @@ same-bytes-spec =
     μ-loop
     returns
     loop-holds
-    shared-slice-read-if2
-    shared-slice-read-if2-2
+    (λ c. search needs)
+    (λ c. search needs)
     returns-2
-    add-i
-    loop-less
+    (λ c. search needs)
+    (λ c. search needs)
     loop-again
     returns-3)

@@ -27,22 +27,31 @@ frame-at-requires : tie.Need-frame-at-requires Inv-loop μ-loop
 frame-at-requires c κs = omega arith
 
 shared-slice-read-step : tie.Need-shared-slice-read-step Inv-loop μ-loop
-shared-slice-read-step c = omega (arith, c .before .before .before .before .before .before .pre .marked)
+shared-slice-read-step c =
+    let entry = c .before .before .before .before .before .before in
+    omega (arith, entry .pre .marked)
 
 mul-step : tie.Need-mul-step Inv-loop μ-loop
-mul-step c = omega (arith, c .before .before .before .before .before .before .pre .noted)
+mul-step c =
+    let entry = c .before .before .before .before .before .before in
+    omega (arith, entry .pre .noted)
 
 shared-slice-copy-out-step : tie.Need-shared-slice-copy-out-step Inv-loop μ-loop
-shared-slice-copy-out-step c = omega (arith, c .before .before .before .before .before .before .pre .noted)
+shared-slice-copy-out-step c =
+    let entry = c .before .before .before .before .before .before in
+    omega (arith, entry .pre .noted)
 
 step-requires : tie.Need-step-requires Inv-loop μ-loop
 step-requires c κs =
-    let s = c .before .before .before .before .before .before .before .before .before in
+    let at-step-arg = c .before .before in
+    let at-frame-at = at-step-arg .before .before in
+    let at-loop = at-frame-at .before .before in
+    let s = at-loop .before .before .before in
     let a = s .args in
-    let l = c .before .before .before .before .before .before .loop in
+    let l = at-loop .loop in
     let z = getD (a .notes .now) (l .k) (pos 0) in
-    rw (toZ-ofZ w32 z (sfits-of (c .before .before .step-arg .given)))
-    (begun (a .frames .now) (a .i .0) (a .marks .now) (a .notes .now) (s .pre) (l .sums) (l .conds) (l .top) (l .k) (l .inv .1) (c .before .before .before .before .frame-at .result) (c .before .before .before .before .frame-at .ensures) (natAbs-le z (c .before .before .step-arg .given)) (omega arith))
+    rw (toZ-ofZ w32 z (sfits-of (at-step-arg .step-arg .given)))
+    (begun (a .frames .now) (a .i .0) (a .marks .now) (a .notes .now) (s .pre) (l .sums) (l .conds) (l .top) (l .k) (l .inv .1) (at-frame-at .frame-at .result) (at-frame-at .frame-at .ensures) (natAbs-le z (at-step-arg .step-arg .given)) (omega arith))
 
 add-k : tie.Need-add-k Inv-loop μ-loop
 add-k c = omega arith
@@ -52,30 +61,25 @@ loop-less c = omega arith
 
 loop-again : tie.Need-loop-again Inv-loop μ-loop
 loop-again c =
-    let s = c .before .before .before .before .before .before .before .before .before .before in
+    let at-step-arg = c .before .before .before in
+    let at-frame-at = at-step-arg .before .before in
+    let at-loop = at-frame-at .before .before in
+    let s = at-loop .before .before .before in
     let a = s .args in
-    let l = c .before .before .before .before .before .before .before .loop in
+    let l = at-loop .loop in
     let g = c .step in
     let z = getD (a .notes .now) (l .k) (pos 0) in (
       omega arith,
-      again (a .frames .now) (a .i .0) (a .marks .now) (a .notes .now) (s .pre) (l .sums) (l .conds) (l .top) (l .k) (l .inv .1) (c .before .before .before .before .before .frame-at .result) (c .before .before .before .before .before .frame-at .ensures) (natAbs-le z (c .before .before .before .step-arg .given)) _ _ _ (g .ensures .0 .0) (g .ensures .0 .1)
-          (rw (toZ-ofZ w32 z (sfits-of (c .before .before .before .step-arg .given))) at (g .ensures .1)),
+      again (a .frames .now) (a .i .0) (a .marks .now) (a .notes .now) (s .pre) (l .sums) (l .conds) (l .top) (l .k) (l .inv .1) (at-frame-at .frame-at .result) (at-frame-at .frame-at .ensures) (natAbs-le z (at-step-arg .step-arg .given)) _ _ _ (g .ensures .0 .0) (g .ensures .0 .1)
+          (rw (toZ-ofZ w32 z (sfits-of (at-step-arg .step-arg .given))) at (g .ensures .1)),
     )
-
-array-read-decoded : tie.Need-array-read-decoded Inv-loop μ-loop
-array-read-decoded c = search needs
-
-decoded-requires : tie.Need-decoded-requires Inv-loop μ-loop
-decoded-requires c κs = search needs
-
-judged-requires : tie.Need-judged-requires Inv-loop μ-loop
-judged-requires c κs = search needs
 
 returns : tie.Need-returns Inv-loop μ-loop
 returns c =
-    let s = c .before .before .before .before .before .before in
+    let at-loop = c .before .before .before in
+    let s = at-loop .before .before .before in
     let a = s .args in
-    let l = c .before .before .before .loop in
+    let l = at-loop .loop in
     c .judged .ensures ∙ ap (judgedBy (l .top .pending) (l .top .present)) (c .before .decoded .ensures)
     ∙ last (a .frames .now) (a .i .0) (a .marks .now) (a .notes .now) (s .pre) (l .sums) (l .conds) (l .top) (l .k) (l .inv .1) (omega arith)
 
@@ -94,7 +98,7 @@ judge-spec =
     add-k
     loop-less
     loop-again
-    array-read-decoded
-    decoded-requires
-    judged-requires
+    (λ c. search needs)
+    (λ c κs. search needs)
+    (λ c κs. search needs)
     returns)

@@ -15,15 +15,6 @@ use Rattle.verdict.specs.declared.Truth.the-variants.{Unknown}
 use Rattle.verdict.proofs.evaluate.put_relation.Statement.{statement}
 use Rattle.verdict.proofs.evaluate.put_relation.Tie as tie
 
-relate-requires : tie.Need-relate-requires
-relate-requires c κs = search needs
-
-of-relation-requires : tie.Need-of-relation-requires
-of-relation-requires c κs = search needs
-
-put-cond-requires : tie.Need-put-cond-requires
-put-cond-requires c κs = search needs
-
 returns : tie.Need-returns
 returns c =
     let s = c .before .before .before .before .before in
@@ -40,4 +31,4 @@ returns c =
 
 pub put-relation-spec : {M : Type 1} → statement M
 put-relation-spec =
-    tie.close (tie.spec relate-requires of-relation-requires put-cond-requires returns)
+    tie.close (tie.spec (λ c κs. search needs) (λ c κs. search needs) (λ c κs. search needs) returns)

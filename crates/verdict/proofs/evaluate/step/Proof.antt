@@ -17,21 +17,6 @@ use Rattle.verdict.proofs.ByKind.{past, none-low, step-at}
 use Rattle.verdict.proofs.evaluate.step.Statement.{statement}
 use Rattle.verdict.proofs.evaluate.step.Tie as tie
 
-widen-requires : tie.Need-widen-requires
-widen-requires c κs = search needs
-
-put-sum-requires : tie.Need-put-sum-requires
-put-sum-requires c κs = search needs
-
-cast-put-sum : tie.Need-cast-put-sum
-cast-put-sum c = search needs
-
-put-sum-requires-2 : tie.Need-put-sum-requires-2
-put-sum-requires-2 c κs = search needs
-
-put-reference-requires : tie.Need-put-reference-requires
-put-reference-requires c κs = search needs
-
 size-sum-requires : tie.Need-size-sum-requires
 size-sum-requires c κs =
     let s = c .before .before in
@@ -60,57 +45,64 @@ put-relation-requires c κs =
 
 join-conds-requires : tie.Need-join-conds-requires
 join-conds-requires c κs =
-    let s = c .before .before .before .before .before .before .before .before in
+    let at-match = c .before .before .before .before .before .before .before in
+    let s = at-match .before in
     let a = s .args in
-    let h = past 0x31 (a .x .kind) (omega arith) (c .before .before .before .before .before .before .before .match .rest .1) in
+    let h = past 0x31 (a .x .kind) (omega arith) (at-match .match .rest .1) in
     (s .pre .long-c, (s .pre .room-c, rw (connective-at (a .x .kind) h (omega arith)) at (s .pre .ready-c)))
 
 returns : tie.Need-returns
 returns c =
-    let s = c .before .before .before .before .before in
+    let at-struct-told = c .before .before in
+    let at-match = at-struct-told .before .before in
+    let s = at-match .before in
     let a = s .args in
     let p = passOf (a .sums .now) (a .conds .now) (a .top) in
     let w = c .before .widen in
-    let e = toZ-ofZ w64 (w .result) (sfits-of (w .ok)) ∙ w .ensures ∙ toZ-ofZ w32 (a .x .value) (sfits-of (c .before .before .struct-told .given .1 .1 .1 .1 .0 .1)) in (
+    let e = toZ-ofZ w64 (w .result) (sfits-of (w .ok)) ∙ w .ensures ∙ toZ-ofZ w32 (a .x .value) (sfits-of (at-struct-told .struct-told .given .1 .1 .1 .1 .0 .1)) in (
       (c .put-sum .ensures .0, s .pre .long-c),
-      step-at (operand literal) (a .x .kind) (a .x .value) (a .i .0) (a .mark) (a .note) p _ (c .before .before .before .before .match .keys1) (ap (withSums p) (c .put-sum .ensures .1 ∙ ap (λ (z : ℤ). z ∷ p .sums) e)),
+      step-at (operand literal) (a .x .kind) (a .x .value) (a .i .0) (a .mark) (a .note) p _ (at-match .match .keys1) (ap (withSums p) (c .put-sum .ensures .1 ∙ ap (λ (z : ℤ). z ∷ p .sums) e)),
     )
 
 returns-2 : tie.Need-returns-2
 returns-2 c =
-    let s = c .before .before .before .before in
+    let at-match = c .before .before .before in
+    let s = at-match .before in
     let a = s .args in
     let p = passOf (a .sums .now) (a .conds .now) (a .top) in
     let e = toZ-pos w64 {n = a .i .0} (omega arith) in (
       (c .put-sum2 .ensures .0, s .pre .long-c),
-      step-at (operand instance) (a .x .kind) (a .x .value) (a .i .0) (a .mark) (a .note) p _ (c .before .before .before .match .keys2) (ap (withSums p) (c .put-sum2 .ensures .1 ∙ ap (λ (z : ℤ). z ∷ p .sums) e)),
+      step-at (operand instance) (a .x .kind) (a .x .value) (a .i .0) (a .mark) (a .note) p _ (at-match .match .keys2) (ap (withSums p) (c .put-sum2 .ensures .1 ∙ ap (λ (z : ℤ). z ∷ p .sums) e)),
     )
 
 returns-3 : tie.Need-returns-3
 returns-3 c =
-    let s = c .before .before .before in
+    let at-match = c .before .before in
+    let s = at-match .before in
     let a = s .args in
     let p = passOf (a .sums .now) (a .conds .now) (a .top) in (
       (c .put-reference .ensures .0, s .pre .long-c),
-      step-at (operand reference) (a .x .kind) (a .x .value) (a .i .0) (a .mark) (a .note) p _ (c .before .before .match .keys3) (c .put-reference .ensures .1 (a .conds .now) ∙ ap (withReference p (a .mark)) (toZ-ofZ w32 (a .note) (s .fits .note))),
+      step-at (operand reference) (a .x .kind) (a .x .value) (a .i .0) (a .mark) (a .note) p _ (at-match .match .keys3) (c .put-reference .ensures .1 (a .conds .now) ∙ ap (withReference p (a .mark)) (toZ-ofZ w32 (a .note) (s .fits .note))),
     )
 
 returns-4 : tie.Need-returns-4
 returns-4 c =
-    let s = c .before .before .before in
+    let at-match = c .before .before in
+    let s = at-match .before in
     let a = s .args in
     let p = passOf (a .sums .now) (a .conds .now) (a .top) in (
       (c .size-sum .ensures .0, s .pre .long-c),
-      step-at absolute (a .x .kind) (a .x .value) (a .i .0) (a .mark) (a .note) p _ (c .before .before .match .keys4) (ap (withSums p) (c .size-sum .ensures .1)),
+      step-at absolute (a .x .kind) (a .x .value) (a .i .0) (a .mark) (a .note) p _ (at-match .match .keys4) (ap (withSums p) (c .size-sum .ensures .1)),
     )
 
 returns-5 : tie.Need-returns-5
 returns-5 c =
-    let s = c .before .before .before in
+    let at-match = c .before .before in
+    let s = at-match .before in
     let a = s .args in
     let p = passOf (a .sums .now) (a .conds .now) (a .top) in (
       (s .pre .long, c .not-cond .ensures .0),
-      step-at negation (a .x .kind) (a .x .value) (a .i .0) (a .mark) (a .note) p _ (c .before .before .match .keys5) (ap (withConds p) (c .not-cond .ensures .1)),
+      step-at negation (a .x .kind) (a .x .value) (a .i .0) (a .mark) (a .note) p _ (at-match .match .keys5) (ap (withConds p) (c .not-cond .ensures .1)),
     )
 
 returns-6 : tie.Need-returns-6
@@ -131,10 +123,11 @@ returns-7 c =
 
 returns-8 : tie.Need-returns-8
 returns-8 c =
-    let s = c .before .before .before .before .before .before .before .before .before in
+    let at-match = c .before .before .before .before .before .before .before .before in
+    let s = at-match .before in
     let a = s .args in
     let p = passOf (a .sums .now) (a .conds .now) (a .top) in
-    let h = past 0x31 (a .x .kind) (omega arith) (c .before .before .before .before .before .before .before .before .match .rest .1) in (
+    let h = past 0x31 (a .x .kind) (omega arith) (at-match .match .rest .1) in (
       (s .pre .long, c .join-conds .ensures .0),
       rw (connective-at (a .x .kind) h (omega arith)) (ap (withConds p) (c .join-conds .ensures .1)),
     )
@@ -148,9 +141,10 @@ returns-9 c =
 
 returns-10 : tie.Need-returns-10
 returns-10 c =
-    let s = c .before .before .before .before in
+    let at-match = c .before .before .before in
+    let s = at-match .before in
     let a = s .args in
-    let r = c .before .before .before .match .rest in
+    let r = at-match .match .rest in
     absurd (rw (none-15 (a .x .kind) (past 0x14 (a .x .kind) (c .before .if2 .left) (r .0 .1)) (c .if3 .taken)) at (s .pre .ready))
 
 returns-11 : tie.Need-returns-11
@@ -169,11 +163,11 @@ pub step-spec : {M : Type 1} → statement M
 step-spec =
     tie.close
     (tie.spec
-    widen-requires
-    put-sum-requires
-    cast-put-sum
-    put-sum-requires-2
-    put-reference-requires
+    (λ c κs. search needs)
+    (λ c κs. search needs)
+    (λ c. search needs)
+    (λ c κs. search needs)
+    (λ c κs. search needs)
     size-sum-requires
     not-cond-requires
     join-sums-requires

@@ -7,16 +7,12 @@ use Rattle.verdict.specs.declared.Judgement.the-variants.{Unsettled}
 use Rattle.verdict.proofs.judgements.judged.Statement.{statement}
 use Rattle.verdict.proofs.judgements.judged.Tie as tie
 
-settled-requires : tie.Need-settled-requires
-settled-requires c κs = search needs
-
-verdict-of-requires : tie.Need-verdict-of-requires
-verdict-of-requires c κs = search needs
-
 returns : tie.Need-returns
 returns c =
-    let t = c .before .before .before .args .t in
-    c .verdict-of .ensures ∙ ap (λ (b : Bool). cond b (verdict (verdictOf t)) Unsettled) (sym (c .before .if1 .taken) ∙ c .before .before .settled .ensures)
+    let at-settled = c .before .before in
+    let entry = at-settled .before in
+    let t = entry .args .t in
+    c .verdict-of .ensures ∙ ap (λ (b : Bool). cond b (verdict (verdictOf t)) Unsettled) (sym (c .before .if1 .taken) ∙ at-settled .settled .ensures)
 
 returns-2 : tie.Need-returns-2
 returns-2 c =
@@ -24,4 +20,4 @@ returns-2 c =
     ap (λ (b : Bool). cond b (verdict (verdictOf t)) Unsettled) (sym (c .if1 .left) ∙ c .before .settled .ensures)
 
 pub judged-spec : {M : Type 1} → statement M
-judged-spec = tie.close (tie.spec settled-requires verdict-of-requires returns returns-2)
+judged-spec = tie.close (tie.spec (λ c κs. search needs) (λ c κs. search needs) returns returns-2)

@@ -8,18 +8,6 @@ use Rattle.verdict.proofs.ByKind.{else-implies}
 use Rattle.verdict.proofs.kleene.connect.Statement.{statement}
 use Rattle.verdict.proofs.kleene.connect.Tie as tie
 
-both-requires : tie.Need-both-requires
-both-requires c κs = search needs
-
-either-requires : tie.Need-either-requires
-either-requires c κs = search needs
-
-negated-requires : tie.Need-negated-requires
-negated-requires c κs = search needs
-
-either-requires-2 : tie.Need-either-requires-2
-either-requires-2 c κs = search needs
-
 returns : tie.Need-returns
 returns c =
     let s = c .before .before in
@@ -32,18 +20,19 @@ returns-2 c =
 
 returns-3 : tie.Need-returns-3
 returns-3 c =
-    let s = c .before .before .before in
+    let at-match = c .before .before in
+    let s = at-match .before in
     c .either2 .ensures ∙ ap (λ (t : Truth). orK t (s .args .q)) (c .before .negated .ensures)
-    ∙ ap (λ (j : Connective). connected j (s .args .p) (s .args .q)) (sym (else-implies (s .args .kind) (c .before .before .match .rest .0 .1) (c .before .before .match .rest .1)))
+    ∙ ap (λ (j : Connective). connected j (s .args .p) (s .args .q)) (sym (else-implies (s .args .kind) (at-match .match .rest .0 .1) (at-match .match .rest .1)))
 
 pub connect-spec : {M : Type 1} → statement M
 connect-spec =
     tie.close
     (tie.spec
-    both-requires
-    either-requires
-    negated-requires
-    either-requires-2
+    (λ c κs. search needs)
+    (λ c κs. search needs)
+    (λ c κs. search needs)
+    (λ c κs. search needs)
     returns
     returns-2
     returns-3)

@@ -52,7 +52,8 @@ add-at c =
 
 cast-t11 : tie.Need-cast-t11
 cast-t11 c =
-    let a = c .before .before .args in
+    let entry = c .before .before in
+    let a = entry .args in
     let m = a .factor * a .i .0 in
     let z = pos m +ℤ a .offset in
     rw (same (c .before))
@@ -65,7 +66,8 @@ returns c =
 
 returns-2 : tie.Need-returns-2
 returns-2 c =
-    let a = c .before .before .args in
+    let entry = c .before .before in
+    let a = entry .args in
     rw (same (c .before)) (meant-at (occurrence (a .factor) (a .offset) (a .i .0)) (rw (same (c .before)) at (c .if1 .left)))
 
 pub occurrence-of-spec : {M : Type 1} → statement M

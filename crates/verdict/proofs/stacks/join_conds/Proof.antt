@@ -14,42 +14,11 @@ use Rattle.verdict.specs.declared.Truth.{Truth}
 use Rattle.verdict.proofs.stacks.join_conds.Statement.{statement}
 use Rattle.verdict.proofs.stacks.join_conds.Tie as tie
 
-sub-decoded : tie.Need-sub-decoded
-sub-decoded c = search needs
-
-element-copy-out-decoded : tie.Need-element-copy-out-decoded
-element-copy-out-decoded c = search needs
-
-decoded-requires : tie.Need-decoded-requires
-decoded-requires c κs = search needs
-
-sub-decoded-2 : tie.Need-sub-decoded-2
-sub-decoded-2 c = search needs
-
-element-copy-out-decoded-2 : tie.Need-element-copy-out-decoded-2
-element-copy-out-decoded-2 c = search needs
-
-decoded-requires-2 : tie.Need-decoded-requires-2
-decoded-requires-2 c κs = search needs
-
-connect-requires : tie.Need-connect-requires
-connect-requires c κs = search needs
-
-code-requires : tie.Need-code-requires
-code-requires c κs = search needs
-
-sub-conds : tie.Need-sub-conds
-sub-conds c = search needs
-
-element-write-conds : tie.Need-element-write-conds
-element-write-conds c = search needs
-
-sub-result : tie.Need-sub-result
-sub-result c = search needs
-
 returns : tie.Need-returns
 returns c =
-    let st = c .before .before .before .before .before .before in
+    let at-decoded2 = c .before .before in
+    let at-decoded = at-decoded2 .before .before in
+    let st = at-decoded .before .before in
     let s = st .args .conds .now in
     let k = st .args .c in
     let f = connected (connectiveAt (st .args .kind)) in
@@ -57,7 +26,7 @@ returns c =
     let y = truthOf (getD s (k - 1) 0) in
     let e : truthOf (c .code .result) ≡ f x y =
     c .code .ensures ∙ c .before .connect .ensures
-    ∙ ap (λ (t : Truth). f t (c .before .before .decoded2 .result)) (c .before .before .before .before .decoded .ensures) ∙ ap (f x) (c .before .before .decoded2 .ensures) in (
+    ∙ ap (λ (t : Truth). f t (at-decoded2 .decoded2 .result)) (at-decoded .decoded .ensures) ∙ ap (f x) (at-decoded2 .decoded2 .ensures) in (
       length-set s (k - 2) (c .code .result) ∙ st .pre .0,
       ap (map truthOf) (stack-fold 0 s k (c .code .result) (omega arith) (omega arith))
           ∙ ap (λ (t : Truth). t ∷ truthsOf s (k - 2)) e
@@ -68,15 +37,15 @@ pub join-conds-spec : {M : Type 1} → statement M
 join-conds-spec =
     tie.close
     (tie.spec
-    sub-decoded
-    element-copy-out-decoded
-    decoded-requires
-    sub-decoded-2
-    element-copy-out-decoded-2
-    decoded-requires-2
-    connect-requires
-    code-requires
-    sub-conds
-    element-write-conds
-    sub-result
+    (λ c. search needs)
+    (λ c. search needs)
+    (λ c κs. search needs)
+    (λ c. search needs)
+    (λ c. search needs)
+    (λ c κs. search needs)
+    (λ c κs. search needs)
+    (λ c κs. search needs)
+    (λ c. search needs)
+    (λ c. search needs)
+    (λ c. search needs)
     returns)

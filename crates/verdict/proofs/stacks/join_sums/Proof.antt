@@ -17,24 +17,6 @@ use Rattle.verdict.proofs.Numbers.{small-fits}
 use Rattle.verdict.proofs.stacks.join_sums.Statement.{statement}
 use Rattle.verdict.proofs.stacks.join_sums.Tie as tie
 
-sub-a : tie.Need-sub-a
-sub-a c = search needs
-
-mul-a : tie.Need-mul-a
-mul-a c = search needs
-
-element-copy-out-a : tie.Need-element-copy-out-a
-element-copy-out-a c = search needs
-
-sub-b : tie.Need-sub-b
-sub-b c = search needs
-
-mul-b : tie.Need-mul-b
-mul-b c = search needs
-
-element-copy-out-b : tie.Need-element-copy-out-b
-element-copy-out-b c = search needs
-
 compute-requires : tie.Need-compute-requires
 compute-requires c κs =
     let st = c .before .before in
@@ -44,21 +26,10 @@ compute-requires c κs =
     rw (toZ-ofZ w64 (getD s (k - 2) (pos 0)) (sfits-of (c .before .a .given)), toZ-ofZ w64 (getD s (k - 1) (pos 0)) (sfits-of (c .b .given)))
     (small-fits _ (b .0))
 
-sub-v : tie.Need-sub-v
-sub-v c = search needs
-
-mul-v : tie.Need-mul-v
-mul-v c = search needs
-
-element-set-from-v : tie.Need-element-set-from-v
-element-set-from-v c = search needs
-
-sub-result : tie.Need-sub-result
-sub-result c = search needs
-
 returns : tie.Need-returns
 returns c =
-    let st = c .before .before .before in
+    let at-a = c .before .before in
+    let st = at-a .before in
     let s = st .args .sums .now in
     let k = st .args .k in
     let f = computed (arithmeticAt (st .args .kind)) in
@@ -66,7 +37,7 @@ returns c =
     let y = getD s (k - 1) (pos 0) in
     let e : toZ w64 (ofZ w64 (c .compute .result)) ≡ f x y =
     toZ-ofZ w64 (c .compute .result) (sfits-of (c .compute .ok)) ∙ c .compute .ensures
-    ∙ rw (toZ-ofZ w64 x (sfits-of (c .before .before .a .given)), toZ-ofZ w64 y (sfits-of (c .before .b .given))) in (
+    ∙ rw (toZ-ofZ w64 x (sfits-of (at-a .a .given)), toZ-ofZ w64 y (sfits-of (c .before .b .given))) in (
       length-set s (k - 2) (toZ w64 (ofZ w64 (c .compute .result))) ∙ st .pre .0,
       ap (λ (v : ℤ). stackOf (pos 0) (set s (k - 2) v) (k - 1)) e
           ∙ stack-fold (pos 0) s k (f x y) (omega arith) (omega arith)
@@ -77,15 +48,15 @@ pub join-sums-spec : {M : Type 1} → statement M
 join-sums-spec =
     tie.close
     (tie.spec
-    sub-a
-    mul-a
-    element-copy-out-a
-    sub-b
-    mul-b
-    element-copy-out-b
+    (λ c. search needs)
+    (λ c. search needs)
+    (λ c. search needs)
+    (λ c. search needs)
+    (λ c. search needs)
+    (λ c. search needs)
     compute-requires
-    sub-v
-    mul-v
-    element-set-from-v
-    sub-result
+    (λ c. search needs)
+    (λ c. search needs)
+    (λ c. search needs)
+    (λ c. search needs)
     returns)
