@@ -12,6 +12,7 @@ mod examples;
 mod logs;
 mod opening;
 mod places;
+mod promises;
 mod refusals;
 mod states;
 mod tariff;
