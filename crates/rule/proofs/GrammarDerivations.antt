@@ -14,15 +14,15 @@ use Rattle.rule.specs.declared.parts.Sign.the-variants.{Plus, Minus}
 use Rattle.rule.specs.declared.parts.Scale.{Scale}
 use Rattle.rule.specs.declared.parts.Scale.the-variants.{Once, Times}
 use Rattle.rule.specs.declared.parts.Shift.the-variants.{Unshifted, By}
-use Rattle.rule.specs.Token.{indexKind, barsKind, ampersandsKind, arrowKind, absKind}
-use Rattle.rule.specs.Class.{openBracket, openParen, star, bang, closeParen, openBrace, closeBrace, closeBracket}
+use Rattle.rule.specs.Token.{indexKind, barsKind, ampersandsKind, arrowKind, absKind, nameKind, numberKind, unequalKind, atMostKind, atLeastKind}
+use Rattle.rule.specs.Class.{openBracket, openParen, star, bang, closeParen, openBrace, closeBrace, closeBracket, equalMark, lessMark, minusMark, moreMark, plusMark}
 use Rattle.rule.specs.Grammar.{Word, mark, name, number, Rel, equal, unequal, less, at-most, more, at-least, relMark, signMark, wordOf}
 use Rattle.rule.specs.Frames.{Arithmetic, Connective, Kind}
 use Rattle.rule.specs.Draft.{lit, index-var, ref, alone, relationOf, signOf}
 use Rattle.rule.specs.Machine.{Act, declare, uses, sized, enter, out, deeper, Sym, unit, ands, ors, arrow, factor, muls, adds, rel, want, name-of, names-of, ref-event, ref-index, ref-shift, ref-by, doing, prod, sum, conj, condition, start, Next, stuck, on, startFactor, step}
 
 abbrev pub isLeaf : ℕ → Bool
-isLeaf k = cond (eqb k 1) true (eqb k 2)
+isLeaf k = cond (eqb k nameKind) true (eqb k numberKind)
 
 -- ---- words and kinds
 abbrev Marks : Word → ℕ → Type 0
@@ -32,13 +32,13 @@ Marks (number q) k = ⊥
 
 abbrev Matches : Word → ℕ → Place → Type 0
 Matches (mark j) k p = k ≡ j
-Matches (name q) k p = (k ≡ 1) × (p ≡ q)
-Matches (number q) k p = (k ≡ 2) × (p ≡ q)
+Matches (name q) k p = (k ≡ nameKind) × (p ≡ q)
+Matches (number q) k p = (k ≡ numberKind) × (p ≡ q)
 
 matches-own : (k : ℕ) (p : Place) → Matches (wordOf k p) k p
-matches-own k p = go (eqb k 1) (eqb k 2) refl refl
+matches-own k p = go (eqb k nameKind) (eqb k numberKind) refl refl
   where
-    go : (x y : Bool) → eqb k 1 ≡ x → eqb k 2 ≡ y → Matches (cond x (name p) (cond y (number p) (mark k))) k p
+    go : (x y : Bool) → eqb k nameKind ≡ x → eqb k numberKind ≡ y → Matches (cond x (name p) (cond y (number p) (mark k))) k p
     go true y e f = (eqb-true _ _ e, refl)
     go false true e f = (eqb-true _ _ f, refl)
     go false false e f = refl
@@ -47,7 +47,7 @@ matches : (k : ℕ) (p : Place) {w : Word} → wordOf k p ≡ w → Matches w k 
 matches k p e = subst (λ (x : Word). Matches x k p) e (matches-own k p)
 
 plain-word : (k : ℕ) (p : Place) → isLeaf k ≡ false → wordOf k p ≡ mark k
-plain-word k p e = go (eqb k 1) (eqb k 2) e
+plain-word k p e = go (eqb k nameKind) (eqb k numberKind) e
   where
     go : (x y : Bool) → cond x true y ≡ false → cond x (name p) (cond y (number p) (mark k)) ≡ mark k
     go true y e = absurd (no-way e)
@@ -204,11 +204,11 @@ module _ (M : Type 0) (act : Act → M → M) where
   fine-factor : (d : ℕ) (s : List Sym) (m : M) (k : ℕ) (p : Place) → Fine (factor d ∷ s) m k p (startFactor M act d m k p s)
   unfolding startFactor step
   fine-factor d s m k p =
-      choose F k 2 (λ e g. (g, λ ws m′ h. rw e (literal p h)))
-      (choose F k 5 (λ e g. (g, λ ws m′ h. rw e (var h)))
-      (choose F k 40 (λ e g. (good-sum (deeper d) (want closeParen ∷ s) ((λ m p. refl), (λ m p. refl), (λ m p. refl)) (refl, g), λ ws m′ h. rw e (parens h)))
-      (choose F k 6 (λ e g. ((refl, good-sum (deeper d) (want closeParen ∷ doing (out (alone Kind.absolute)) ∷ s) ((λ m p. refl), (λ m p. refl), (λ m p. refl)) (refl, g)), λ ws m′ h. rw e (absolute h)))
-      (choose F k 1 (λ e g. ((refl, g), λ ws m′ h. rw e (reference p h))) tt))))
+      choose F k numberKind (λ e g. (g, λ ws m′ h. rw e (literal p h)))
+      (choose F k indexKind (λ e g. (g, λ ws m′ h. rw e (var h)))
+      (choose F k openParen (λ e g. (good-sum (deeper d) (want closeParen ∷ s) ((λ m p. refl), (λ m p. refl), (λ m p. refl)) (refl, g), λ ws m′ h. rw e (parens h)))
+      (choose F k absKind (λ e g. ((refl, good-sum (deeper d) (want closeParen ∷ doing (out (alone Kind.absolute)) ∷ s) ((λ m p. refl), (λ m p. refl), (λ m p. refl)) (refl, g)), λ ws m′ h. rw e (absolute h)))
+      (choose F k nameKind (λ e g. ((refl, g), λ ws m′ h. rw e (reference p h))) tt))))
     where
       F : Next M → Type 0
       F = Fine (factor d ∷ s) m k p
@@ -217,36 +217,36 @@ module _ (M : Type 0) (act : Act → M → M) where
   unfolding step
   fine [] m k p = tt
   fine (unit d ∷ s) m k p =
-      choose (Fine (unit d ∷ s) m k p) k 33 (λ e g. ((acted (out (alone Kind.negation)) s (g .0), g .1), λ ws m′ h. rw e (not h)))
-      (choose (Fine (unit d ∷ s) m k p) k 123 (λ e g. (good-cond (deeper d) (want closeBrace ∷ s) ((λ m p. refl), (λ m p. refl), (λ m p. refl)) (λ m p. refl) (λ m p. refl) (λ m p. refl) (refl, g .1), λ ws m′ h. rw e (group h)))
+      choose (Fine (unit d ∷ s) m k p) k bang (λ e g. ((acted (out (alone Kind.negation)) s (g .0), g .1), λ ws m′ h. rw e (not h)))
+      (choose (Fine (unit d ∷ s) m k p) k openBrace (λ e g. (good-cond (deeper d) (want closeBrace ∷ s) ((λ m p. refl), (λ m p. refl), (λ m p. refl)) (λ m p. refl) (λ m p. refl) (λ m p. refl) (refl, g .1), λ ws m′ h. rw e (group h)))
       (pass (unit d ∷ s) (sum d (rel d ∷ s)) m m k p (startFactor M act d m k p (muls d ∷ adds d ∷ rel d ∷ s)) (λ g. good-sum d (rel d ∷ s) ((λ m p. refl), (λ m p. refl), (λ m p. refl)) g) (λ ws m′ h. relation h) (fine-factor d (muls d ∷ adds d ∷ rel d ∷ s) m k p)))
   fine (ands d ∷ s) m k p =
-      choose (Fine (ands d ∷ s) m k p) k 132 (λ e g. ((acted (out (alone (Kind.connective Connective.and))) (ands d ∷ s) ((λ m p. g .0 .0 m p), (λ m p. g .0 .1 m p), (λ m p. g .0 .2 m p)), g), λ ws m′ h. rw e (and-more h)))
+      choose (Fine (ands d ∷ s) m k p) k ampersandsKind (λ e g. ((acted (out (alone (Kind.connective Connective.and))) (ands d ∷ s) ((λ m p. g .0 .0 m p), (λ m p. g .0 .1 m p), (λ m p. g .0 .2 m p)), g), λ ws m′ h. rw e (and-more h)))
       (pass (ands d ∷ s) s m m k p (step M act s m k p) (λ g. g .2) (λ ws m′ h. and-none h) (fine s m k p))
   fine (ors d ∷ s) m k p =
-      choose (Fine (ors d ∷ s) m k p) k 131
+      choose (Fine (ors d ∷ s) m k p) k barsKind
       (λ e g. let a : Arith (doing (out (alone (Kind.connective Connective.or))) ∷ ors d ∷ s) = ((λ m p. g .0 .0 _ p), (λ m p. g .0 .1 _ p), (λ m p. g .0 .2 _ p)) in
       ((((λ m p. a .0 m p), (λ m p. a .1 m p), (λ m p. a .2 m p)), (a, (λ m p. g .1 _ p), g)), λ ws m′ h. rw e (or-more h)))
       (pass (ors d ∷ s) s m m k p (step M act s m k p) (λ g. g .3) (λ ws m′ h. or-none h) (fine s m k p))
   fine (arrow d ∷ s) m k p =
-      choose (Fine (arrow d ∷ s) m k p) k 130
+      choose (Fine (arrow d ∷ s) m k p) k arrowKind
       (λ e g. (good-cond (deeper d) (doing (out (alone (Kind.connective Connective.implies))) ∷ s) ((λ m p. g .0 .0 _ p), (λ m p. g .0 .1 _ p), (λ m p. g .0 .2 _ p)) (λ m p. g .1 _ p) (λ m p. g .2 _ p) (λ m p. g .3 _ p) (g .4), λ ws m′ h. rw e (implies h)))
       (pass (arrow d ∷ s) s m m k p (step M act s m k p) (λ g. g .4) (λ ws m′ h. implies-none h) (fine s m k p))
   fine (factor d ∷ s) m k p = fine-factor d s m k p
   fine (muls d ∷ s) m k p =
-      choose (Fine (muls d ∷ s) m k p) k 42 (λ e g. (g, λ ws m′ h. rw e (mul-more h)))
+      choose (Fine (muls d ∷ s) m k p) k star (λ e g. (g, λ ws m′ h. rw e (mul-more h)))
       (pass (muls d ∷ s) s m m k p (step M act s m k p) (λ g. g .1) (λ ws m′ h. mul-none h) (fine s m k p))
   fine (adds d ∷ s) m k p =
-      choose (Fine (adds d ∷ s) m k p) k 43 (λ e g. (((λ m p. g .0 .0 _ p), g), λ ws m′ h. rw e (add-more Plus h)))
-      (choose (Fine (adds d ∷ s) m k p) k 45 (λ e g. (((λ m p. g .0 .0 _ p), g), λ ws m′ h. rw e (add-more Minus h)))
+      choose (Fine (adds d ∷ s) m k p) k plusMark (λ e g. (((λ m p. g .0 .0 _ p), g), λ ws m′ h. rw e (add-more Plus h)))
+      (choose (Fine (adds d ∷ s) m k p) k minusMark (λ e g. (((λ m p. g .0 .0 _ p), g), λ ws m′ h. rw e (add-more Minus h)))
       (pass (adds d ∷ s) s m m k p (step M act s m k p) (λ g. g .1) (λ ws m′ h. add-none h) (fine s m k p)))
   fine (rel d ∷ s) m k p =
-      choose F k 61 (λ e g. (after _ g, λ ws m′ h. rw e (compare equal h)))
-      (choose F k 133 (λ e g. (after _ g, λ ws m′ h. rw e (compare unequal h)))
-      (choose F k 60 (λ e g. (after _ g, λ ws m′ h. rw e (compare less h)))
-      (choose F k 134 (λ e g. (after _ g, λ ws m′ h. rw e (compare at-most h)))
-      (choose F k 62 (λ e g. (after _ g, λ ws m′ h. rw e (compare more h)))
-      (choose F k 135 (λ e g. (after _ g, λ ws m′ h. rw e (compare at-least h))) tt)))))
+      choose F k equalMark (λ e g. (after _ g, λ ws m′ h. rw e (compare equal h)))
+      (choose F k unequalKind (λ e g. (after _ g, λ ws m′ h. rw e (compare unequal h)))
+      (choose F k lessMark (λ e g. (after _ g, λ ws m′ h. rw e (compare less h)))
+      (choose F k atMostKind (λ e g. (after _ g, λ ws m′ h. rw e (compare at-most h)))
+      (choose F k moreMark (λ e g. (after _ g, λ ws m′ h. rw e (compare more h)))
+      (choose F k atLeastKind (λ e g. (after _ g, λ ws m′ h. rw e (compare at-least h))) tt)))))
     where
       F : Next M → Type 0
       F = Fine (rel d ∷ s) m k p
@@ -254,19 +254,19 @@ module _ (M : Type 0) (act : Act → M → M) where
       after : (a : Act) → Arith s × Good s → Good (sum d (doing a ∷ s))
       after a g = good-sum d (doing a ∷ s) (acted a s (g .0)) (g .1)
   fine (want x ∷ s) m k p = choose (Fine (want x ∷ s) m k p) k x (λ e g. (g .1, λ ws m′ h. rw (e, plain-word x p (g .0)) (token h))) tt
-  fine (name-of r ∷ s) m k p = choose (Fine (name-of r ∷ s) m k p) k 1 (λ e g. (g, λ ws m′ h. rw e (named p h))) tt
+  fine (name-of r ∷ s) m k p = choose (Fine (name-of r ∷ s) m k p) k nameKind (λ e g. (g, λ ws m′ h. rw e (named p h))) tt
   fine (names-of r ∷ s) m k p =
-      choose (Fine (names-of r ∷ s) m k p) k 1 (λ e g. (g, λ ws m′ h. rw e (name-more p h)))
+      choose (Fine (names-of r ∷ s) m k p) k nameKind (λ e g. (g, λ ws m′ h. rw e (name-more p h)))
       (pass (names-of r ∷ s) s m m k p (step M act s m k p) (λ g. g .1) (λ ws m′ h. name-none h) (fine s m k p))
-  fine (ref-event n ∷ s) m k p = choose (Fine (ref-event n ∷ s) m k p) k 1 (λ e g. ((refl, ((λ m p. refl), (λ m p. refl), (refl, (refl, g)))), λ ws m′ h. rw e (event p h))) tt
+  fine (ref-event n ∷ s) m k p = choose (Fine (ref-event n ∷ s) m k p) k nameKind (λ e g. ((refl, ((λ m p. refl), (λ m p. refl), (refl, (refl, g)))), λ ws m′ h. rw e (event p h))) tt
   fine (ref-index n x ∷ s) m k p =
-      choose (Fine (ref-index n x ∷ s) m k p) k 2 (λ e g. ((refl, (refl, g)), λ ws m′ h. rw e (scaled p h)))
-      (choose (Fine (ref-index n x ∷ s) m k p) k 5 (λ e g. (g, λ ws m′ h. rw e (unscaled h))) tt)
+      choose (Fine (ref-index n x ∷ s) m k p) k numberKind (λ e g. ((refl, (refl, g)), λ ws m′ h. rw e (scaled p h)))
+      (choose (Fine (ref-index n x ∷ s) m k p) k indexKind (λ e g. (g, λ ws m′ h. rw e (unscaled h))) tt)
   fine (ref-shift n x f ∷ s) m k p =
-      choose (Fine (ref-shift n x f ∷ s) m k p) k 43 (λ e g. (g .2, λ ws m′ h. rw e (shifted Plus h)))
-      (choose (Fine (ref-shift n x f ∷ s) m k p) k 45 (λ e g. (g .2, λ ws m′ h. rw e (shifted Minus h)))
+      choose (Fine (ref-shift n x f ∷ s) m k p) k plusMark (λ e g. (g .2, λ ws m′ h. rw e (shifted Plus h)))
+      (choose (Fine (ref-shift n x f ∷ s) m k p) k minusMark (λ e g. (g .2, λ ws m′ h. rw e (shifted Minus h)))
       (pass (ref-shift n x f ∷ s) s m (act (out (ref n x f Unshifted)) m) k p (step M act s (act (out (ref n x f Unshifted)) m) k p) (λ g. g .2) (λ ws m′ h. shift-none h) (fine s (act (out (ref n x f Unshifted)) m) k p)))
-  fine (ref-by n x f q ∷ s) m k p = choose (Fine (ref-by n x f q ∷ s) m k p) k 2 (λ e g. (g, λ ws m′ h. rw e (by-number p h))) tt
+  fine (ref-by n x f q ∷ s) m k p = choose (Fine (ref-by n x f q ∷ s) m k p) k numberKind (λ e g. (g, λ ws m′ h. rw e (by-number p h))) tt
   fine (doing a ∷ s) m k p = pass (doing a ∷ s) s m (act a m) k p (step M act s (act a m) k p) (λ g. g) (λ ws m′ h. does h) (fine s (act a m) k p)
 
   -- ---- completeness of a step: what the grammar allows, the machine takes

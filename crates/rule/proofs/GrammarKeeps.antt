@@ -3,7 +3,8 @@ use mathlib.Core.Path.{_≡_, refl}
 use mathlib.Core.List.{List, [], _∷_}
 use Prim.Native.Nat.{ℕ}
 use Rattle.rule.specs.Frames.{Kind}
-use Rattle.rule.specs.Token.{nameKind, numberKind}
+use Rattle.rule.specs.Token.{nameKind, numberKind, indexKind, absKind, arrowKind, barsKind, ampersandsKind}
+use Rattle.rule.specs.Class.{bang, openBrace, openParen, star}
 use Rattle.rule.specs.Grammar.{relMark, rels, signMark, signs, byMark, place}
 use Rattle.rule.specs.Draft.{Draft, lit, index-var, ref, alone, relationOf, signOf}
 use Rattle.rule.specs.Machine.{Act, declare, uses, sized, enter, out, deeper, Sym, unit, ands, ors, arrow, factor, muls, adds, rel, want, name-of, names-of, ref-event, ref-index, ref-shift, ref-by, doing, prod, sum, Next, stuck, on, MachineAnswer, accepted, refused, resume, startFactor, step, finish, run}
@@ -67,34 +68,34 @@ module _ (M : Type 0) (act : Act → M → M) (P : M → Type 0) where
     factor-keeps : (d : ℕ) (s : List Sym) (m : M) → Outs s → P m → Ok (startFactor M act d m k p s)
     unfolding startFactor
     factor-keeps d s m o h =
-        choose Ok k 2 (λ e. (o, keep (out (lit p)) tt _ (keep (sized OfLiteral p) (e, refl) m h)))
-        (choose Ok k 5 (λ e. (o, keep (out index-var) tt m h))
-        (choose Ok k 40 (λ e. (o, keep (enter (deeper d)) tt m h))
-        (choose Ok k 6 (λ e. ((tt, o), keep (enter (deeper d)) tt m h))
-        (choose Ok k 1 (λ e. (o, keep (uses Note p) (e, refl) m h)) tt))))
+        choose Ok k numberKind (λ e. (o, keep (out (lit p)) tt _ (keep (sized OfLiteral p) (e, refl) m h)))
+        (choose Ok k indexKind (λ e. (o, keep (out index-var) tt m h))
+        (choose Ok k openParen (λ e. (o, keep (enter (deeper d)) tt m h))
+        (choose Ok k absKind (λ e. ((tt, o), keep (enter (deeper d)) tt m h))
+        (choose Ok k nameKind (λ e. (o, keep (uses Note p) (e, refl) m h)) tt))))
 
     step-keeps : (s : List Sym) (m : M) → Outs s → P m → Ok (step M act s m k p)
     unfolding step
     step-keeps [] m o h = tt
     step-keeps (unit d ∷ s) m o h =
-        choose Ok k 33 (λ e. ((tt, o), keep (enter (deeper d)) tt m h))
-        (choose Ok k 123 (λ e. (o, keep (enter (deeper d)) tt m h)) (factor-keeps d (muls d ∷ adds d ∷ rel d ∷ s) m o h))
-    step-keeps (ands d ∷ s) m o h = choose Ok k 132 (λ e. ((tt, o), h)) (step-keeps s m o h)
-    step-keeps (ors d ∷ s) m o h = choose Ok k 131 (λ e. ((tt, o), h)) (step-keeps s m o h)
-    step-keeps (arrow d ∷ s) m o h = choose Ok k 130 (λ e. ((tt, o), keep (enter (deeper d)) tt m h)) (step-keeps s m o h)
+        choose Ok k bang (λ e. ((tt, o), keep (enter (deeper d)) tt m h))
+        (choose Ok k openBrace (λ e. (o, keep (enter (deeper d)) tt m h)) (factor-keeps d (muls d ∷ adds d ∷ rel d ∷ s) m o h))
+    step-keeps (ands d ∷ s) m o h = choose Ok k ampersandsKind (λ e. ((tt, o), h)) (step-keeps s m o h)
+    step-keeps (ors d ∷ s) m o h = choose Ok k barsKind (λ e. ((tt, o), h)) (step-keeps s m o h)
+    step-keeps (arrow d ∷ s) m o h = choose Ok k arrowKind (λ e. ((tt, o), keep (enter (deeper d)) tt m h)) (step-keeps s m o h)
     step-keeps (factor d ∷ s) m o h = factor-keeps d s m o h
-    step-keeps (muls d ∷ s) m o h = choose Ok k 42 (λ e. ((tt, o), h)) (step-keeps s m o h)
+    step-keeps (muls d ∷ s) m o h = choose Ok k star (λ e. ((tt, o), h)) (step-keeps s m o h)
     step-keeps (adds d ∷ s) m o h =
         mark-keeps Ok signMark k (λ g. on (prod d (doing (out (alone (Kind.arithmetic (signOf g)))) ∷ adds d ∷ s)) m) (step M act s m k p) signs (λ g. ((tt, o), h)) (step-keeps s m o h)
     step-keeps (rel d ∷ s) m o h = mark-keeps Ok relMark k (λ c. on (sum d (doing (out (alone (Kind.relation (relationOf c)))) ∷ s)) m) stuck rels (λ c. ((tt, o), h)) tt
     step-keeps (want x ∷ s) m o h = choose Ok k x (λ e. (o, h)) tt
-    step-keeps (name-of r ∷ s) m o h = choose Ok k 1 (λ e. (o, keep (declare r p) (e, refl) m h)) tt
-    step-keeps (names-of r ∷ s) m o h = choose Ok k 1 (λ e. (o, keep (declare r p) (e, refl) m h)) (step-keeps s m o h)
-    step-keeps (ref-event e ∷ s) m o h = choose Ok k 1 (λ q. (o, keep (uses Event p) (q, refl) m h)) tt
-    step-keeps (ref-index e i ∷ s) m o h = choose Ok k 2 (λ q. (o, keep (sized OfFactor p) (q, refl) m h)) (choose Ok k 5 (λ q. (o, h)) tt)
+    step-keeps (name-of r ∷ s) m o h = choose Ok k nameKind (λ e. (o, keep (declare r p) (e, refl) m h)) tt
+    step-keeps (names-of r ∷ s) m o h = choose Ok k nameKind (λ e. (o, keep (declare r p) (e, refl) m h)) (step-keeps s m o h)
+    step-keeps (ref-event e ∷ s) m o h = choose Ok k nameKind (λ q. (o, keep (uses Event p) (q, refl) m h)) tt
+    step-keeps (ref-index e i ∷ s) m o h = choose Ok k numberKind (λ q. (o, keep (sized OfFactor p) (q, refl) m h)) (choose Ok k indexKind (λ q. (o, h)) tt)
     step-keeps (ref-shift e i f ∷ s) m o h =
         mark-keeps Ok signMark k (λ g. on (ref-by e i f g ∷ s) m) (step M act s (act (out (ref e i f Unshifted)) m) k p) signs (λ g. (o, h)) (step-keeps s _ o (keep (out (ref e i f Unshifted)) tt m h))
-    step-keeps (ref-by e i f g ∷ s) m o h = choose Ok k 2 (λ q. (o, keep (out (ref e i f (By g p))) tt _ (keep (sized OfOffset p) (q, refl) m h))) tt
+    step-keeps (ref-by e i f g ∷ s) m o h = choose Ok k numberKind (λ q. (o, keep (out (ref e i f (By g p))) tt _ (keep (sized OfOffset p) (q, refl) m h))) tt
     step-keeps (doing a ∷ s) m o h = step-keeps s _ (o .1) (keep a (out-at k p a (o .0)) m h)
 
   -- of an answer: its memory, or its place
