@@ -14,7 +14,7 @@ use Rattle.rule.specs.Build.{treeOf}
 use Rattle.rule.specs.Check.{checkedOf}
 use Rattle.rule.proofs.Laws.{latency}
 use Rattle.checker.specs.Base.{ofEvent, referenced, smallest, base}
-use Rattle.checker.specs.State.{zeroState, freshState}
+use Rattle.checker.specs.State.{withTally, zeroState, freshState}
 use Rattle.checker.specs.StateTest.{rulePasses, countPasses, allTo, tallyPasses, statePasses}
 use Rattle.checker.specs.Tariff.{bandsFrom, bandsOf, riseFrom, bandsFit, inRange, pricesFit, priceOf, priceSum, surcharged, centsOf}
 use Rattle.checker.specs.Tariff.{cents, turned, chargeDef}
@@ -137,27 +137,21 @@ greatest = ap (λ (sum : ℕ). surcharged sum 100) (sum-none 10000 1009999)
 abbrev state : ℕ → ℕ → ℕ → State
 state held failed unknown =
     let s = freshState (bytesOf (postfix latency)) 1 in
-    record {
-      frames = s .frames;
-      len = s .len;
-      width = s .width;
-      counts = s .counts;
-      next = record { 0 = held + failed + unknown };
-      totals = record { held = held; failed = failed; unknown = unknown };
-    }
+    withTally s
+    (record { counts = s .counts; next = held + failed + unknown; totals = record { held = held; failed = failed; unknown = unknown } })
 
 -- the true and the unknown don't count
 beside-others : chargeDef (state 3 12 1) example ≡ cents 546
-unfolding bandsFrom riseFrom bandsFit inRange pricesFit priceOf priceSum surcharged chargeDef kindOf referenceCount orderOf sizesFit treeOf checkedOf ofEvent referenced smallest base freshState rulePasses countPasses allTo tallyPasses statePasses
+unfolding bandsFrom riseFrom bandsFit inRange pricesFit priceOf priceSum surcharged chargeDef kindOf referenceCount orderOf sizesFit treeOf checkedOf ofEvent referenced smallest base freshState withTally rulePasses countPasses allTo tallyPasses statePasses
 beside-others = refl
 
 -- the greatest charge, and one violation more than a state can have
 most-charged : chargeDef (state 0 1009999 0) noBand ≡ cents 20199980000
-unfolding bandsFrom riseFrom bandsFit inRange pricesFit kindOf referenceCount orderOf sizesFit treeOf checkedOf ofEvent referenced smallest base freshState rulePasses countPasses allTo tallyPasses statePasses
+unfolding bandsFrom riseFrom bandsFit inRange pricesFit kindOf referenceCount orderOf sizesFit treeOf checkedOf ofEvent referenced smallest base freshState withTally rulePasses countPasses allTo tallyPasses statePasses
 most-charged = charged-by (state 0 1009999 0) noBand refl refl refl ∙ ap cents greatest
 
 one-too-many : chargeDef (state 0 1010000 0) noBand ≡ turned 12 0
-unfolding bandsFrom riseFrom bandsFit inRange pricesFit kindOf referenceCount orderOf sizesFit treeOf checkedOf ofEvent referenced smallest base freshState rulePasses countPasses allTo tallyPasses statePasses
+unfolding bandsFrom riseFrom bandsFit inRange pricesFit kindOf referenceCount orderOf sizesFit treeOf checkedOf ofEvent referenced smallest base freshState withTally rulePasses countPasses allTo tallyPasses statePasses
 one-too-many = turned-12 (state 0 1010000 0) noBand refl refl refl
 
 -- "With 45 cents to 10, 30 to 100, 12 beyond and 7 percent, 12 violations cost 546 cents"

@@ -7,15 +7,6 @@ use Rattle.log.proofs.Losses.{answer-of-bad, answer-of-event}
 use Rattle.log.proofs.earlier.loss.Statement.{statement}
 use Rattle.log.proofs.earlier.loss.Tie as tie
 
-enum-known-read : tie.Need-enum-known-read
-enum-known-read c = search needs
-
-enum-known-read-2 : tie.Need-enum-known-read-2
-enum-known-read-2 c = search needs
-
-loss-of-requires : tie.Need-loss-of-requires
-loss-of-requires c κs = search needs
-
 returns : tie.Need-returns
 unfolding lineTold lowerTold
 returns c = answer-of-bad (c .before .read .given .1)
@@ -26,4 +17,4 @@ returns-2 c = c .loss-of .ensures ∙ answer-of-event (c .before .before .read2 
 
 pub loss-spec : {M : Type 1} → statement M
 loss-spec =
-    tie.close (tie.spec enum-known-read enum-known-read-2 loss-of-requires returns returns-2)
+    tie.close (tie.spec (λ c. search needs) (λ c. search needs) (λ c κs. search needs) returns returns-2)
