@@ -10,7 +10,8 @@ const KEPT: usize = 35;
 // Puts as much of a part as there is room for behind the bytes that are held, and answers how many then are.
 pub fn keep(carry: &mut [u8], held: usize, part: &[u8]) -> usize
     requires { ⌜ (held ≤ keptLimit) × (length (now carry) ≡ keptLimit) ⌝ }
-    ensures { λ r. ⌜ (r ≤ keptLimit) × (take r (now (carry .exit)) ≡ heldWith (take held (now (carry .entry))) (now (part .entry))) ⌝ }
+    ensures { λ r. ⌜ (r ≤ keptLimit)
+        × (take r (now (carry .exit)) ≡ heldWith (take held (now (carry .entry))) (now (part .entry))) ⌝ }
 {
     let mut n = held;
     let mut i = 0;

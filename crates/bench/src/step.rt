@@ -15,7 +15,8 @@ ghost use Rattle.checker.specs.Limits.{reportLeast};
 ghost use Rattle.checker.specs.Answer.{feedTold};
 ghost use Rattle.checker.specs.Ready.{Ready};
 ghost use Rattle.bench.specs.Print.{hexLine, reportPart};
-ghost use Rattle.bench.specs.Progress.{emptyReport, pullOf, isVerdict, pulledOnce, pulls, pullLimit, countedBy, fedLine, afterLine};
+ghost use Rattle.bench.specs.Progress.{emptyReport, pullOf, isVerdict, pulledOnce, pulls, pullLimit, countedBy};
+ghost use Rattle.bench.specs.Progress.{fedLine, afterLine};
 ghost use Rattle.bench.specs.Carried.{outBytes, progressOf, roomy, Ends, Running, Stepped};
 
 // With so many bytes waiting there is room for every line.

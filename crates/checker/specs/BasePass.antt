@@ -50,7 +50,7 @@ pub record Passable (s : List ℕ) (p : ℕ) : Type 0 where
   pub accepted : checkedOf s ≡ Accepted
   pub instance-in : p ≤ instanceLimit
 
--- a count by the event's low: "a count over 1,000,000 .. a nonzero count of an unreferenced event, or a count above base plus W"
+-- a count by the event's base: "a count over 1,000,000 .. a nonzero count of an unreferenced event, or a count above base plus W"
 abbrev pub countFits : ℕ → ℕ → ℕ → Bool
 countFits w low c = leb c lineLimit && cond (eqb low noBase) (eqb c 0) (leb c (low + w))
 

@@ -111,7 +111,8 @@ pub struct ReadResult {
 // An answer to reading.
 pub fn reading(a: Reading) -> ReadResult
     ensures { λ r. ⌜ (r .answer ≡ answerNumber (readAnswer a))
-        × ((r .number ≡ numberOf (readAnswer a)) × ((r .place ≡ placeOf (readAnswer a)) × (r .frames ≡ framesOf (readAnswer a)))) ⌝ }
+        × ((r .number ≡ numberOf (readAnswer a)) × ((r .place ≡ placeOf (readAnswer a))
+        × (r .frames ≡ framesOf (readAnswer a)))) ⌝ }
 {
     match a {
         Reading::Frames(n) => ReadResult {

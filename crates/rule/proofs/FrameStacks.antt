@@ -14,7 +14,7 @@ use Rattle.rule.specs.Frames.{Kind, operand, arithmetic, absolute, relat
 use Rattle.rule.specs.Tree.{grown}
 use Rattle.rule.specs.Order.{stepped, stepBy, frameStep, Prefix, viable, stuck, orderAt, orderNext, prefixAt, InOrder}
 use Rattle.rule.specs.Sizes.{Sizes, fits, over, topped, operandSize, sizesAfter, sizeNext, sizeAt}
-use Rattle.rule.specs.Stack.{stackOf, SumsFor, CondsFor, EnoughSums, ReadyC, Bounded}
+use Rattle.rule.specs.Stack.{stackOf, SumsFor, CondsFor, EnoughSums, EnoughConds, Bounded}
 use Rattle.rule.specs.declared.Frame.{Frame}
 use Rattle.rule.specs.declared.order.Shape.{Shape}
 use Rattle.rule.specs.declared.order.Shape.the-variants.{Bad}
@@ -40,7 +40,7 @@ module _ (i c k : ℕ) where
 pub record Found (x : Frame) (p : Prefix) : Type 0 where
   pub fields : T (fieldsOf (kindOf (x .kind)) x)
   pub sums : EnoughSums (kindOf (x .kind)) (sumsOf p)
-  pub conds : ReadyC (kindOf (x .kind)) (condsOf p)
+  pub conds : EnoughConds (kindOf (x .kind)) (condsOf p)
 
 found-next : (i : ℕ) (x : Frame) (p : Prefix) → Live (orderNext i x p) → Found x p
 found-next i x (viable c k) l =

@@ -46,8 +46,8 @@ abbrev pub EnoughSums : Kind → ℕ → Type 0
 EnoughSums o = SumsFor (effect o)
 
 -- and of conditions
-abbrev pub ReadyC : Kind → ℕ → Type 0
-ReadyC o = CondsFor (effect o)
+abbrev pub EnoughConds : Kind → ℕ → Type 0
+EnoughConds o = CondsFor (effect o)
 
 -- every magnitude is within the limit
 abbrev pub Bounded : List ℕ → Type 0

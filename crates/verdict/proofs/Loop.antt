@@ -9,7 +9,7 @@ use lib.ListN.{length, getD}
 use Rattle.rule.specs.Limits.{referenceMagnitude}
 use Rattle.rule.specs.Frames.{kindOf, frameAt, frameCount}
 use Rattle.rule.specs.Order.{prefixAt}
-use Rattle.rule.specs.Stack.{EnoughSums, ReadyC}
+use Rattle.rule.specs.Stack.{EnoughSums, EnoughConds}
 use Rattle.rule.specs.declared.Frame.{Frame}
 use Rattle.rule.proofs.Laws.{sumsOf, condsOf, sums-le, conds-le, one-left, found, stack-length, passed}
 use Rattle.verdict.specs.Marks.{Judgeable}
@@ -57,7 +57,7 @@ module _ (s : List ℕ) (i : ℕ) (marks : List ℕ) (notes : List ℤ) (j : Jud
         room = omega (arith, a .whole .most);
         room-c = omega (arith, a .whole .most);
         ready = subst (λ (x : ℕ). EnoughSums (kindOf (frameAt s k .kind)) x) (sym e) (q .sums);
-        ready-c = subst (λ (x : ℕ). ReadyC (kindOf (frameAt s k .kind)) x) (sym f) (q .conds);
+        ready-c = subst (λ (x : ℕ). EnoughConds (kindOf (frameAt s k .kind)) x) (sym f) (q .conds);
         small = subst (λ (p : Pass). Small (passBy (kindOf (frameAt s k .kind)) (frameAt s k .value) i (getD marks k 0) (getD notes k (pos 0)) p .sums)) (h .pass)
             (small-at s i marks notes (suc k) le (a .sizes) (sizes-next s i marks notes k (j .instance-in) hn (h .within)));
       }

@@ -9,7 +9,7 @@ use lib.IntN.{ℤ, pos, natAbs}
 use lib.ListN.{length}
 use Rattle.rule.specs.Limits.{frameLimit, magnitudeLimit}
 use Rattle.rule.specs.Frames.{Kind}
-use Rattle.rule.specs.Stack.{stackOf, EnoughSums, ReadyC}
+use Rattle.rule.specs.Stack.{stackOf, EnoughSums, EnoughConds}
 use Rattle.verdict.specs.Pass.{Pass}
 use Rattle.verdict.specs.declared.Truth.{Truth}
 use Rattle.verdict.specs.declared.Truth.the-variants.{True, False, Unknown}
@@ -46,5 +46,5 @@ pub record Begun (o : Kind) (sums : List ℤ) (conds : List ℕ) (t : Top) (next
   pub room : t .sums < frameLimit
   pub room-c : t .conds < frameLimit
   pub ready : EnoughSums o (t .sums)
-  pub ready-c : ReadyC o (t .conds)
+  pub ready-c : EnoughConds o (t .conds)
   pub small : Small (next .sums)
