@@ -7,6 +7,7 @@ use native.Mathlib.Nat.{mul-le-mul}
 use native.Mathlib.Numerals.{add-one}
 use native.Mathlib.Omega.{arith}
 use borrow.Author.Tests.{eqb-true, eqb-false, eq-eqb, ne-eqb, leb-true}
+use Rattle.numbers.proofs.Bools.{and-false}
 use lib.Dec.{eqb, leb}
 use lib.IntN.{ℤ, pos, negsuc, natAbs, _+ℤ_}
 use lib.ListN.{length, getD, set, take, replicate, length-set}
@@ -176,10 +177,6 @@ unfolding allTo
 all-same zero f g h = refl
 all-same (suc n) f g h = rw (h n (omega arith), all-same n f g (λ e l. h e (omega arith)))
 
-and-no : (a : Bool) → (a && false) ≡ false
-and-no true = refl
-and-no false = refl
-
 pub tally-same : {s : List ℕ} → Bytes s → checkedOf s ≡ Accepted → (w : ℕ) (counts : List ℕ) (p : ℕ) (totals : Totals)
     → tallyFits s w counts p totals ≡ tallyPasses (references (treeOf s)) w (record { counts = counts; next = p; totals = totals })
 unfolding tallyFits tallyPasses countPasses
@@ -199,7 +196,7 @@ tally-same {s} b q w counts p totals = go (leb p instanceLimit) refl
         → (x && (allTo eventLimit (λ e. countFits w (getD (basesOf s p) e 0) (getD counts e 0)) && eqb (sumOf totals) p))
         ≡ (allTo eventLimit (countPasses refs w t) && (x && eqb (sumOf totals) p))
     go true d = ap (λ (a : Bool). a && eqb (sumOf totals) p) (all (leb-true p instanceLimit d))
-    go false d = sym (and-no (allTo eventLimit (countPasses refs w t)))
+    go false d = sym (and-false (allTo eventLimit (countPasses refs w t)))
 
 -- ---- a loop over all events
 pub allTo-more : (n : ℕ) (f : ℕ → Bool) → allTo n f ≡ true → f n ≡ true → allTo (suc n) f ≡ true
@@ -213,4 +210,4 @@ allTo-false (suc n) f k h q = go (eqb k n) refl (λ l. allTo-false n f k l q)
   where
     go : (t : Bool) → eqb k n ≡ t → (k < n → allTo n f ≡ false) → (f n && allTo n f) ≡ false
     go true d i = let e : f n ≡ false = ap f (sym (eqb-true k n d)) ∙ q in rw e
-    go false d i = let l : k < n = omega (arith, eqb-false k n d) in rw (i l) (and-no (f n))
+    go false d i = let l : k < n = omega (arith, eqb-false k n d) in rw (i l) (and-false (f n))

@@ -11,7 +11,7 @@ use Rattle.checker.specs.declared.Opened.{Opened}
 use Rattle.checker.specs.declared.Fed.{Fed}
 use Rattle.checker.specs.declared.Pulled.{Pulled}
 use Rattle.checker.specs.declared.State.{State}
-use Rattle.dillplatter.specs.Told.{checked, answerNumber, numberOf, placeOf, CallNumbers, callOutcome, inNumbers, openNumbers, feedNumbers, pullNumbers}
+use Rattle.dillplatter.specs.Told.{checked, answerNumber, numberOf, placeOf, callOutcome, inNumbers, openNumbers, feedNumbers, pullNumbers}
 use Rattle.dillplatter.specs.declared.told.AnswerNumbers.{AnswerNumbers}
 use Rattle.dillplatter.specs.declared.CallResult.{CallResult}
 

@@ -6,7 +6,7 @@ use mathlib.Core.Logic.{_↔_, _⊎_, inl, inr, ⊎-elim}
 use Prim.Native.Nat.{ℕ, _+_, _*_, _/_, _≤_, _<_}
 use native.Mathlib.Omega.{arith}
 use borrow.Author.Tests.{eqb-true}
-use lib.IntN.{ℤ, pos, negsuc, natAbs}
+use lib.IntN.{ℤ, pos, negsuc}
 use lib.ListN.{replicate}
 use lib.Signed.{leZ, leZ-yes}
 use mir.Syntax.{w16, w32}
@@ -14,6 +14,7 @@ use mir.Val.{SFits, toZ, ofZ}
 use mir.Facts.{toZ-ofZ, fits-ofZ, sfits-widen}
 use Rattle.numbers.specs.Word.{bigEndian}
 use Rattle.numbers.proofs.Bools.{T-true, and-true, true-and}
+use Rattle.numbers.proofs.Ints.{natAbs-zero}
 use Rattle.log.specs.Digit.{digitValue, capital}
 use Rattle.log.specs.Line.{digitsAtFront, byteAt, noteAt, badPlaceOf, badPlace, line, refused, lineOf, AreDigits, AllDigits, BadPlace}
 use Rattle.log.specs.Earlier.{oldDigits, lineDigits, oldNoteFrom, oldNoteAt, oldLineOf, digitsOf, oldNote, newNote, oldLine, newLine}
@@ -114,10 +115,6 @@ pub zeros-read : lineOf (replicate lineDigits 0) ≡ refused 15 0
 unfolding digitValue digitsAtFront badPlace lineOf
 zeros-read = refl
 
-pub zero-note : (z : ℤ) → natAbs z ≡ 0 → z ≡ pos 0
-zero-note (pos n) e = ap pos e
-zero-note (negsuc n) e = absurd (omega arith)
-
 nothing-lost : (a b c : ℤ) → holds16 a ≡ true → holds16 b ≡ true → holds16 c ≡ true → lossOf a b c (pos 0) ≡ done
 unfolding lossOf
 nothing-lost a b c h i j = rw (h, i, j) refl
@@ -183,7 +180,7 @@ module _ (s : List ℕ) where
   unfolding raisedDef
   down-up e =
       let w = lowerable s e in
-      let fourth : noteAt s 3 ≡ pos 0 = zero-note (noteAt s 3) (eqb-true _ _ (w .fourth)) in
+      let fourth : noteAt s 3 ≡ pos 0 = natAbs-zero (noteAt s 3) (eqb-true _ _ (w .fourth)) in
       let read =
       old-back (byteAt s 0) (noteAt s 0) (noteAt s 1) (noteAt s 2) (byte-small s 34 (w .digits .1) 0 (omega arith))
       (narrow-fits (noteAt s 0) (w .first)) (narrow-fits (noteAt s 1) (w .second)) (narrow-fits (noteAt s 2) (w .third)) in
@@ -223,7 +220,7 @@ module _ (s : List ℕ) where
       ↔ AllDigits s × (noteAt s 3 ≡ pos 0) × In16 (noteAt s 0) × In16 (noteAt s 1) × In16 (noteAt s 2)
   lowers-exactly = (
     λ e. let w = lowerable s e in
-        let fourth = zero-note (noteAt s 3) (eqb-true _ _ (w .fourth)) in
+        let fourth = natAbs-zero (noteAt s 3) (eqb-true _ _ (w .fourth)) in
         (w .digits, fourth, within-16 (w .first), within-16 (w .second), within-16 (w .third)),
     λ h. let none = nothing-lost (noteAt s 0) (noteAt s 1) (noteAt s 2) (held-16 (h .2)) (held-16 (h .3)) (held-16 (h .4)) in
         ap (λ (r : Converted). r .answer) (lowered-of-digits s (h .0))

@@ -1,10 +1,11 @@
 -- Laws of the answer to a line that is brought down. Assumes nothing.
 use mathlib.Core.Path.{_≡_, refl, sym, ap, _∙_}
-use mathlib.Core.Bool.{Bool, true, false, not, true≢false}
+use mathlib.Core.Bool.{Bool, true, false, not}
 use mathlib.Core.List.{List}
 use Prim.Native.Nat.{ℕ}
 use native.Mathlib.Omega.{arith}
 use lib.Dec.{eqb}
+use borrow.Author.Tests.{not-true, not-false}
 use lib.IntN.{ℤ, natAbs}
 use lib.ListN.{replicate}
 use Rattle.log.specs.Line.{LineAnswer, line, refused, lineTold}
@@ -13,30 +14,22 @@ use Rattle.log.specs.declared.line.Line.{Line}
 use Rattle.log.specs.declared.line.Line.the-variants as lines
 use Rattle.log.specs.declared.line.Notes.{Notes}
 
-is-true : (x : Bool) → not x ≡ false → x ≡ true
-is-true true h = refl
-is-true false h = absurd (true≢false h)
-
-is-false : (x : Bool) → not x ≡ true → x ≡ false
-is-false true h = absurd (true≢false (sym h))
-is-false false h = refl
-
 -- ---- the tests in their order: what is answered where each fails first
 module _ (w x y z : Bool) where
   pub fourth-lost : not w ≡ true → turned 24 0 ≡ lossBy w x y z
-  fourth-lost h = rw (is-false w h)
+  fourth-lost h = rw (not-true w h)
 
   pub first-lost : not w ≡ false → not x ≡ true → turned 25 (notePlace 0) ≡ lossBy w x y z
-  first-lost h i = rw (is-true w h, is-false x i)
+  first-lost h i = rw (not-false w h, not-true x i)
 
   pub second-lost : not w ≡ false → not x ≡ false → not y ≡ true → turned 25 (notePlace 1) ≡ lossBy w x y z
-  second-lost h i j = rw (is-true w h, is-true x i, is-false y j)
+  second-lost h i j = rw (not-false w h, not-false x i, not-true y j)
 
   pub third-lost : not w ≡ false → not x ≡ false → not y ≡ false → not z ≡ true → turned 25 (notePlace 2) ≡ lossBy w x y z
-  third-lost h i j k = rw (is-true w h, is-true x i, is-true y j, is-false z k)
+  third-lost h i j k = rw (not-false w h, not-false x i, not-false y j, not-true z k)
 
   pub nothing-lost : not w ≡ false → not x ≡ false → not y ≡ false → not z ≡ false → done ≡ lossBy w x y z
-  nothing-lost h i j k = rw (is-true w h, is-true x i, is-true y j, is-true z k)
+  nothing-lost h i j k = rw (not-false w h, not-false x i, not-false y j, not-false z k)
 
 -- each test made of its note
 pub loss-of : (a b c d : ℤ) {w x y z : Bool} → w ≡ eqb (natAbs d) 0 → x ≡ holds16 a → y ≡ holds16 b → z ≡ holds16 c

@@ -6,6 +6,7 @@ use mathlib.Core.Logic.{_↔_, ⊎-elim}
 use Prim.Native.Nat.{ℕ, zero, suc, _<_}
 use native.Mathlib.Omega.{arith}
 use borrow.Author.Tests.{eqb-true, ne-eqb}
+use Rattle.numbers.proofs.Ints.{natAbs-zero}
 use lib.Dec.{eqb}
 use lib.IntN.{pos, natAbs}
 use Rattle.log.specs.Line.{byteAt, noteAt, badPlace, AllDigits}
@@ -14,7 +15,7 @@ use Rattle.log.specs.Earlier.{PlaceOf25, LowerRefused, not-a-line, fourt
 use Rattle.log.proofs.Exactly.{either, placed, place-unique}
 use Rattle.log.proofs.Losses.{answer-unless}
 use Rattle.log.proofs.Converting.{lowered-of-digits, lowered-of-other}
-use Rattle.log.proofs.Conversions.{clash, numbers, within-16, held-16, zero-note}
+use Rattle.log.proofs.Conversions.{clash, numbers, within-16, held-16}
 
 module _ (s : List ℕ) where
   -- ---- the tests of a line of digits
@@ -54,7 +55,7 @@ module _ (s : List ℕ) where
 
   wide-at : {q n p : ℕ} → AllDigits s → eqb (natAbs (noteAt s 3)) 0 ≡ true → turned 25 q ≡ turned n p → PlaceOf25 s q
       → LowerRefused s n p
-  wide-at {q} h a e w = refused-as e (wide q h (zero-note (noteAt s 3) (eqb-true _ _ a)) w)
+  wide-at {q} h a e w = refused-as e (wide q h (natAbs-zero (noteAt s 3) (eqb-true _ _ a)) w)
 
   by-tests : AllDigits s → {n p : ℕ} (w x y z : Bool) → eqb (natAbs (noteAt s 3)) 0 ≡ w → holds16 (noteAt s 0) ≡ x
       → holds16 (noteAt s 1) ≡ y → holds16 (noteAt s 2) ≡ z → lossBy w x y z ≡ turned n p → LowerRefused s n p
@@ -96,7 +97,7 @@ module _ (s : List ℕ) where
 
   back : {n p : ℕ} → LowerRefused s n p → loweredDef s .answer ≡ turned n p
   back (not-a-line p h q) = answer-other h ∙ ap (turned 15) (place-unique s (badPlace s) p (placed s) q)
-  back (fourth h f) = answer-by h ∙ rw (ne-eqb (natAbs (noteAt s 3)) 0 (λ e. f (zero-note (noteAt s 3) e))) refl
+  back (fourth h f) = answer-by h ∙ rw (ne-eqb (natAbs (noteAt s 3)) 0 (λ e. f (natAbs-zero (noteAt s 3) e))) refl
   back (wide p h z w) = wide-back h z w
 
   pub lower-refused : (n p : ℕ) → loweredDef s .answer ≡ turned n p ↔ LowerRefused s n p

@@ -1,5 +1,5 @@
 -- Laws of the integers that the library lacks. Assumes nothing.
-use mathlib.Core.Path.{_≡_, refl, sym, _∙_}
+use mathlib.Core.Path.{_≡_, refl, sym, ap, _∙_}
 use mathlib.Core.Bool.{true, false, _&&_}
 use Prim.Native.Nat.{ℕ, zero, suc, _-_, _^_, _≤_, _<_}
 use native.Mathlib.Nat.{le-refl}
@@ -33,6 +33,10 @@ near-zero n (negsuc m) =
       | yes h ↦ rw (lt-leb m n h, lt-leb (suc m) (suc n) (omega arith))
       | no h ↦ rw (le-leb m n (omega arith), le-leb (suc m) (suc n) (omega arith))
     ]
+
+pub natAbs-zero : (z : ℤ) → natAbs z ≡ 0 → z ≡ pos 0
+natAbs-zero (pos n) e = ap pos e
+natAbs-zero (negsuc n) e = absurd (omega arith)
 
 pub natAbs-neg : (a : ℤ) → natAbs (negℤ a) ≡ natAbs a
 natAbs-neg (pos zero) = refl

@@ -9,7 +9,7 @@ use native.Mathlib.Omega.{arith}
 use lib.Dec.{T, eqb}
 use borrow.Author.Tests.{eqb-true}
 use Rattle.numbers.proofs.Ranges.{each, all-from, tested}
-use Rattle.rule.specs.Frames.{Source, literal, instance, reference, Arithmetic, add, subtract, multiply, Relation, equal, unequal, less, atMost, more, atLeast, Connective, and, or, implies, Kind, operand, arithmetic, absolute, relation, negation, connective, none, kindByte, kinds, kindIn, kindOf, arithmeticAt, relationAt, connectiveAt, fieldsOf, bareFields}
+use Rattle.rule.specs.Frames.{Source, literal, instance, reference, add, subtract, multiply, equal, unequal, less, atMost, more, atLeast, and, or, implies, Kind, operand, arithmetic, absolute, relation, negation, connective, none, kindByte, kinds, kindIn, kindOf, arithmeticAt, relationAt, connectiveAt, fieldsOf, bareFields}
 use Rattle.rule.specs.declared.Frame.{Frame}
 
 -- ---- the byte of a kind has that kind

@@ -12,7 +12,7 @@ use lib.Signed.{leZ}
 use mir.Syntax.{w32}
 use mir.Val.{SFits}
 use Rattle.numbers.proofs.Bools.{and-l, and-r, T-true}
-use Rattle.numbers.proofs.Ints.{not-negative}
+use Rattle.numbers.proofs.Ints.{natAbs-zero, not-negative}
 use Rattle.rule.specs.Limits.{eventLimit, noteLimit, factorLimit, offsetLimit, literalLimit}
 use Rattle.rule.specs.Frames.{Source, Arithmetic, Relation, Connective, Kind, kindByte, kindOf, sumOf, condOf, relates, frame, bare, frameAt, frameCount, unused, literalFields, referenceFields, bareFields}
 use Rattle.rule.specs.Tree.{Sum, literal, instance, reference, arithmetic, abs, Cond, relation, not, connective, LimitsR, LimitsS, Limits, postfixS, postfix}
@@ -252,10 +252,6 @@ module _ (pre : List Frame) (c k : ℕ) (x : Frame) (c′ k′ : ℕ) where
 frame-is : {k l e f n m g h : ℕ} {v w : ℤ} → k ≡ l → e ≡ f → n ≡ m → g ≡ h → v ≡ w → frame k e n g v ≡ frame l f m h w
 frame-is p q r t u = cc
 
-size-zero : (z : ℤ) → natAbs z ≡ 0 → z ≡ pos 0
-size-zero (pos n) e = ap pos e
-size-zero (negsuc n) e = absurd (let h : suc n ≡ 0 = e in omega arith)
-
 module _ (x : Frame) (t : T (unused x)) where
   no-event : x .event ≡ 0
   no-event = eqb→eq (x .event) 0 (and-l (eqb (x .event) 0) (eqb (x .note) 0) (and-l (eqb (x .event) 0 && eqb (x .note) 0) (eqb (x .factor) 0) t))
@@ -269,7 +265,7 @@ module _ (x : Frame) (t : T (unused x)) where
 is-bare : (o : Kind) (x : Frame) → x .kind ≡ kindByte o → T (bareFields x) → bare o ≡ x
 is-bare o x e t =
     let u = and-l (unused x) (eqb (natAbs (x .value)) 0) t in
-    let v : x .value ≡ pos 0 = size-zero (x .value) (eqb→eq (natAbs (x .value)) 0 (and-r (unused x) (eqb (natAbs (x .value)) 0) t)) in
+    let v : x .value ≡ pos 0 = natAbs-zero (x .value) (eqb→eq (natAbs (x .value)) 0 (and-r (unused x) (eqb (natAbs (x .value)) 0) t)) in
     frame-is (sym e) (sym (no-event x u)) (sym (no-note x u)) (sym (no-factor x u)) (sym v)
 
 pub literal-value : (x : Frame) → T (literalFields x) → x .value ≡ pos (natAbs (x .value))

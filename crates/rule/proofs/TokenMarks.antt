@@ -6,7 +6,7 @@ use Prim.Native.Nat.{ℕ, _≤_, _<_}
 use native.Mathlib.Omega.{arith}
 use borrow.Author.Tests.{eq-eqb, ne-eqb, eqb-true, eqb-false, lt-leb}
 use lib.Dec.{T, leb, ltb, eqb, ltb→lt}
-use Rattle.numbers.proofs.Bools.{and-l, and-r}
+use Rattle.numbers.proofs.Bools.{and-l, and-r, and-false}
 use Rattle.numbers.proofs.Ranges.{tested}
 use Rattle.rule.specs.Class.{mark, among, oneByteMarks, classOf}
 use Rattle.rule.specs.Token.{arrowKind, barsKind, ampersandsKind, unequalKind, atMostKind, atLeastKind, foreignKind, oneByteMark, twoByteMark, longestMark, markWidth}
@@ -82,10 +82,6 @@ one-low b e =
     (ltb→lt 6 b (and-l (ltb 6 b) (ltb b 130) t), ltb→lt b 130 (and-r (ltb 6 b) (ltb b 130) t))
 
 -- a mark byte with 0 after it, as at the end of a text, is a token of one byte
-and-false : (t : Bool) → (t && false) ≡ false
-and-false true = refl
-and-false false = refl
-
 pub width-alone : (b : ℕ) → markWidth (longestMark b 0) ≡ 1
 unfolding longestMark markWidth
 width-alone b = simp and-false (go (among oneByteMarks b) refl)

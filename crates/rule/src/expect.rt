@@ -2,7 +2,6 @@
 use crate::memory::Registers;
 use crate::memory::Step;
 use crate::tokens::token_at;
-ghost use mathlib.Core.Path.{_≡_};
 ghost use mathlib.Core.List.{List, _∷_};
 ghost use Prim.Native.Nat.{ℕ, _+_, _≤_, _<_};
 ghost use lib.ListN.{length};

@@ -15,7 +15,6 @@ use crate::tokens::INDEX_KIND;
 use crate::tokens::NAME_KIND;
 use crate::tokens::NUMBER_KIND;
 use crate::tokens::token_at;
-ghost use mathlib.Core.Path.{_≡_};
 ghost use mathlib.Core.List.{List, _∷_};
 ghost use Prim.Native.Nat.{ℕ, _+_, _≤_};
 ghost use lib.ListN.{length};

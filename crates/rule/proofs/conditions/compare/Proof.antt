@@ -1,9 +1,8 @@
 use mathlib.Core.Path.{_≡_, refl, sym, _∙_}
 use native.Mathlib.Omega.{arith}
 use mathlib.Core.List.{_∷_}
-use Prim.Native.Nat.{_-_}
 use denote.Ref.{now}
-use Rattle.rule.specs.Machine.{step, finish, out, doing}
+use Rattle.rule.specs.Machine.{finish, out, doing}
 use Rattle.rule.specs.Draft.{plain}
 use Rattle.rule.proofs.ReaderParts.{stop, then-does, as-is, least, fail, take, beyond}
 use Rattle.rule.specs.ReadsPart.{relByte}

@@ -1,6 +1,5 @@
 use native.Mathlib.Omega.{arith}
 use mathlib.Core.List.{_∷_}
-use Prim.Native.Nat.{_-_}
 use Rattle.rule.specs.Machine as machine
 use Rattle.rule.proofs.ReaderParts.{then, stop, as-is}
 use borrow.Author.Needs.{needs}

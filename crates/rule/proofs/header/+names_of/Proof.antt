@@ -1,7 +1,7 @@
 use borrow.Author.Tests.{ne-eqb}
 use mathlib.Core.Path.{_≡_, refl}
 use native.Mathlib.Omega.{arith}
-use Prim.Native.Nat.{ℕ, _<_, _+_, _-_}
+use Prim.Native.Nat.{ℕ, _<_, _-_}
 use lib.ListN.{length}
 use denote.Ref.{now}
 use Rattle.rule.specs.Machine.{step, finish}

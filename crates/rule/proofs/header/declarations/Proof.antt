@@ -1,6 +1,5 @@
 use native.Mathlib.Omega.{arith}
 use mathlib.Core.List.{[], _∷_}
-use Prim.Native.Nat.{_-_}
 use denote.Ref.{now}
 use Rattle.rule.specs.Class.{semicolon}
 use Rattle.rule.specs.Machine.{want}

@@ -1,7 +1,6 @@
 use borrow.Author.Tests.{ne-eqb}
 use mathlib.Core.Path.{_≡_, refl}
 use native.Mathlib.Omega.{arith}
-use Prim.Native.Nat.{_-_}
 use denote.Ref.{now}
 use Rattle.rule.specs.Machine.{step, finish}
 use Rattle.rule.proofs.ReaderParts.{idle, fail, take, beyond, inside}

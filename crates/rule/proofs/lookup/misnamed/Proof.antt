@@ -2,7 +2,6 @@ use denote.Ref.{now}
 use mathlib.Core.Path.{sym, _∙_}
 use borrow.Author.Tests.{le-leb, lt-leb}
 use Rattle.rule.specs.Name.{longName}
-use lib.Dec.{leb}
 use borrow.Author.Needs.{needs}
 use Rattle.rule.proofs.lookup.misnamed.Statement.{statement}
 use Rattle.rule.proofs.lookup.misnamed.Tie as tie

@@ -1,5 +1,5 @@
 -- `rule::sizes::times` meets its contract. Assumes nothing.
-use Prim.Native.Nat.{_≤_, _<_, _-_, _*_}
+use Prim.Native.Nat.{_≤_, _<_, _*_}
 use native.Mathlib.Nat.{mul-zero, le-div-iff-mul-le, div-lt-iff-lt-mul}
 use native.Mathlib.Omega.{arith}
 use borrow.Author.Needs.{needs}
@@ -8,17 +8,11 @@ use Rattle.rule.specs.Limits.{magnitudeLimit}
 use Rattle.rule.proofs.sizes.times.Statement.{statement}
 use Rattle.rule.proofs.sizes.times.Tie as tie
 
-div-if2 : tie.Need-div-if2
-div-if2 c = search needs
-
 mul-result : tie.Need-mul-result
 mul-result c =
     let a = c .before .before .args in
     let h : a .a * a .b ≤ magnitudeLimit = le-div-iff-mul-le {k = a .b} (omega arith) .0 (c .if2 .taken) in
     omega arith
-
-add-result : tie.Need-add-result
-add-result c = search needs
 
 returns : tie.Need-returns
 returns c = rw (c .if1 .taken, mul-zero)
@@ -36,4 +30,4 @@ returns-3 c =
     rw (lt-leb (a .a * a .b) magnitudeLimit h)
 
 pub times-spec : {M : Type 1} → statement M
-times-spec = tie.close (tie.spec div-if2 mul-result add-result returns returns-2 returns-3)
+times-spec = tie.close (tie.spec (λ c. search needs) mul-result (λ c. search needs) returns returns-2 returns-3)

@@ -1,5 +1,5 @@
 -- `verdict::arithmetic::compute` meets its contract. Assumes nothing.
-use mathlib.Core.Path.{_≡_, sym, ap, _∙_}
+use mathlib.Core.Path.{sym, ap, _∙_}
 use mir.ValLaws.{toZ-ofZ}
 use mir.Syntax.{w64}
 use Rattle.rule.specs.Frames.{Arithmetic, arithmeticAt}
