@@ -75,8 +75,8 @@ kept-on a t =
       | no h ↦ ap (λ (s : List ℕ). take keptLimit (s ++ t)) (take-all keptLimit a (omega arith))
     ]
 
-kept-next : (h : List ℕ) (b : ℕ) (t : List ℕ) → take keptLimit (heldWith h (b ∷ []) ++ t) ≡ take keptLimit (h ++ (b ∷ t))
-kept-next h b t = kept-on (h ++ (b ∷ [])) t ∙ ap (take keptLimit) (append-assoc h (b ∷ []) t)
+held-with-next : (h : List ℕ) (b : ℕ) (t : List ℕ) → take keptLimit (heldWith h (b ∷ []) ++ t) ≡ take keptLimit (h ++ (b ∷ t))
+held-with-next h b t = kept-on (h ++ (b ∷ [])) t ∙ ap (take keptLimit) (append-assoc h (b ∷ []) t)
 
 kept-short : (s : List ℕ) → length (take keptLimit s) ≤ keptLimit
 kept-short s = omega (arith, length-take keptLimit s)
@@ -93,7 +93,7 @@ split-line x h (b ∷ r) l = go (eqb b 10) l (split-line x (heldWith h (b ∷ []
   where
     whole : (t : List ℕ) → afterLine x (heldWith h (b ∷ []) ++ t) ≡ afterLine x (h ++ (b ∷ t))
     whole t =
-        sym (after-kept x (heldWith h (b ∷ []) ++ t)) ∙ ap (afterLine x) (kept-next h b t) ∙ after-kept x (h ++ (b ∷ t))
+        sym (after-kept x (heldWith h (b ∷ []) ++ t)) ∙ ap (afterLine x) (held-with-next h b t) ∙ after-kept x (h ++ (b ∷ t))
 
     go : (t : Bool) → cond t 0 (suc (toLF r)) < suc (length r)
         → (toLF r < length r → afterBytes (holding x (heldWith h (b ∷ []))) r ≡ afterBytes (holding (afterLine x (heldWith h (b ∷ []) ++ take (toLF r) r)) []) (drop (suc (toLF r)) r))
@@ -112,7 +112,7 @@ split-none x h (b ∷ r) l e = go (eqb b 10) e (split-none x (heldWith h (b ∷ 
     go : (t : Bool) → cond t 0 (suc (toLF r)) ≡ suc (length r) → (toLF r ≡ length r → afterBytes (holding x (heldWith h (b ∷ []))) r ≡ holding x (heldWith (heldWith h (b ∷ [])) r))
         → afterBytes (cond t (holding (afterLine x h) []) (holding x (heldWith h (b ∷ [])))) r ≡ holding x (heldWith h (b ∷ r))
     go true m i = absurd (omega arith)
-    go false m i = i (omega arith) ∙ ap (holding x) (kept-next h b r)
+    go false m i = i (omega arith) ∙ ap (holding x) (held-with-next h b r)
 
 -- ---- what was written before stays in front
 abbrev beforeOpen : List ℕ → Chunked → Chunked

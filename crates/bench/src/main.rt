@@ -80,7 +80,8 @@ fn chunk(
     requires { ⌜ Holding (now frames) r (now carry) (now window) (now out) ⌝ }
     ensures { λ q. ⌜ Ready (now (frames .entry)) (q .fields) (now (window .exit))
         × ((q .full ≤ outBytes) × ((q .held ≤ keptLimit)
-        × AfterChunked (afterBytes (chunkedOf (now (frames .entry)) r (now (carry .entry)) (now (window .entry)) (now (out .entry)))
+        × AfterChunked (afterBytes
+        (chunkedOf (now (frames .entry)) r (now (carry .entry)) (now (window .entry)) (now (out .entry)))
         (now (s .entry))) (chunkedOf (now (frames .entry)) q (now (carry .exit)) (now (window .exit)) (now (out .exit))))) ⌝ }
 {
     let mut q = r;
@@ -174,7 +175,8 @@ fn finish(r: Run, out: &mut [u8])
 
 // A checker's whole run over the log.
 fn run_log(frames: &[u8], fields: Fields, carry: &mut [u8], window: &mut [i32], out: &mut [u8])
-    requires { ⌜ Ready (now frames) fields (now window) × ((length (now carry) ≡ keptLimit) × (length (now out) ≡ outBytes)) ⌝ }
+    requires { ⌜ Ready (now frames) fields (now window)
+        × ((length (now carry) ≡ keptLimit) × (length (now out) ≡ outBytes)) ⌝ }
 {
     let counts = Counts {
         accepted: 0,

@@ -78,7 +78,8 @@ fn pull_into(frames: &[u8], r: Run, window: &[i32], out: &mut [u8], report: &mut
     ensures { λ q. ⌜ Stepped (now (frames .entry)) q (now (window .entry)) (now (out .exit))
         (pulledOnce (progressOf (now (frames .entry)) r (now (window .entry)) (now (out .entry))))
         × ((q .held ≡ r .held)
-        × (q .more ≡ isVerdict (pullOf (progressOf (now (frames .entry)) r (now (window .entry)) (now (out .entry))) .answer))) ⌝ }
+        × (q .more ≡ isVerdict
+        (pullOf (progressOf (now (frames .entry)) r (now (window .entry)) (now (out .entry))) .answer))) ⌝ }
 {
     let fields = r.fields;
     let full = r.full;
@@ -102,7 +103,8 @@ fn pull_once(frames: &[u8], r: Run, window: &[i32], out: &mut [u8]) -> Run
     ensures { λ q. ⌜ Stepped (now (frames .entry)) q (now (window .entry)) (now (out .exit))
         (pulledOnce (progressOf (now (frames .entry)) r (now (window .entry)) (now (out .entry))))
         × ((q .held ≡ r .held)
-        × (q .more ≡ isVerdict (pullOf (progressOf (now (frames .entry)) r (now (window .entry)) (now (out .entry))) .answer))) ⌝ }
+        × (q .more ≡ isVerdict
+        (pullOf (progressOf (now (frames .entry)) r (now (window .entry)) (now (out .entry))) .answer))) ⌝ }
 {
     let mut report = [0u8; 166];
     pull_into(frames, r, window, out, &mut report)

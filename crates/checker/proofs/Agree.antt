@@ -11,7 +11,7 @@ use Rattle.checker.specs.Base.{firstFor}
 use Rattle.checker.specs.Calls.{Call, outs, end, checker}
 use Rattle.checker.specs.Machine.{atFirst, machineFor}
 use Rattle.checker.specs.Demand.{Unrefused, fresh, verdicts}
-use Rattle.checker.proofs.Final.{said, said-stays, final, verdict-one, span-at}
+use Rattle.checker.proofs.Final.{said, said-stays, final, verdict-one, instances-from-at}
 
 module _ {frames : List ℕ} {w w′ : ℕ} {win win′ : List ℤ} (o : Unrefused frames w win) (o′ : Unrefused frames w′ win′) (cs cs′ : List Call) where
   pub agree : MoreLines (end (machineFor frames w) cs (atFirst frames) .lists) (end (machineFor frames w′) cs′ (atFirst frames) .lists) → (i : ℕ)
@@ -22,7 +22,7 @@ module _ {frames : List ℕ} {w w′ : ℕ} {win win′ : List ℤ} (o : Unrefus
       let vs′ = verdicts (outs checker cs′ (fresh frames w′ win′)) in
       let m = end (machineFor frames w) cs (atFirst frames) in
       let m′ = end (machineFor frames w′) cs′ (atFirst frames) in
-      let a = span-at vs (firstFor frames) (said frames m) i (final o cs) h in
-      let a′ = span-at vs′ (firstFor frames) (said frames m′) i (final o′ cs′) h′ in
+      let a = instances-from-at vs (firstFor frames) (said frames m) i (final o cs) h in
+      let a′ = instances-from-at vs′ (firstFor frames) (said frames m′) i (final o′ cs′) h′ in
       verdict-one (getD vs i Unknown) (getD vs′ i Unknown)
       (sym (said-stays frames m m′ (firstFor frames + i) (getD vs i Unknown) more (sym a)) ∙ sym a′)

@@ -136,12 +136,12 @@ getD-map [] i h = absurd (omega arith)
 getD-map (x ∷ xs) zero h = refl
 getD-map (x ∷ xs) (suc i) h = getD-map xs i (le-of-suc-le-suc h)
 
-getD-span : (f : ℕ → Judgement) (p n i : ℕ) → i < n → getD (instancesFrom p n f) i Unsettled ≡ f (p + i)
+getD-instances-from : (f : ℕ → Judgement) (p n i : ℕ) → i < n → getD (instancesFrom p n f) i Unsettled ≡ f (p + i)
 unfolding instancesFrom
-getD-span f p zero i h = absurd (omega arith)
-getD-span f p (suc n) zero h = rw add-zero
-getD-span f p (suc n) (suc i) h = getD-span f (p + 1) n i (le-of-suc-le-suc h) ∙ ap f (omega arith)
+getD-instances-from f p zero i h = absurd (omega arith)
+getD-instances-from f p (suc n) zero h = rw add-zero
+getD-instances-from f p (suc n) (suc i) h = getD-instances-from f (p + 1) n i (le-of-suc-le-suc h) ∙ ap f (omega arith)
 
 -- the verdict at a place of a list that is a span
-pub span-at : (vs : List Verdict) (p : ℕ) (f : ℕ → Judgement) (i : ℕ) → map settling.verdict vs ≡ instancesFrom p (length vs) f → i < length vs → settling.verdict (getD vs i Verdict.Unknown) ≡ f (p + i)
-span-at vs p f i q h = sym (getD-map vs i h) ∙ ap (λ (l : List Judgement). getD l i Unsettled) q ∙ getD-span f p (length vs) i h
+pub instances-from-at : (vs : List Verdict) (p : ℕ) (f : ℕ → Judgement) (i : ℕ) → map settling.verdict vs ≡ instancesFrom p (length vs) f → i < length vs → settling.verdict (getD vs i Verdict.Unknown) ≡ f (p + i)
+instances-from-at vs p f i q h = sym (getD-map vs i h) ∙ ap (λ (l : List Judgement). getD l i Unsettled) q ∙ getD-instances-from f p (length vs) i h

@@ -17,7 +17,7 @@ use Rattle.checker.specs.Base.{firstFor}
 use Rattle.checker.specs.Calls.{Call}
 use Rattle.checker.specs.Demand.{Unrefused, machineAfter, handedOut}
 use Rattle.checker.proofs.Simulation.{verdict-settled}
-use Rattle.checker.proofs.Final.{said, final, verdict-one, span-at}
+use Rattle.checker.proofs.Final.{said, final, verdict-one, instances-from-at}
 
 -- a verdict that is said is the value's
 from-said : (b : Bool) (v t : Verdict) → settling.verdict v ≡ cond b (settling.verdict t) Unsettled → v ≡ t
@@ -31,4 +31,4 @@ module _ {frames : List ℕ} {w : ℕ} {win : List ℤ} (o : Unrefused frames w 
       let m = machineAfter frames w cs in
       let g = givenIn (m .lists) (firstFor frames + i) in
       from-said (settled g (treeOf frames)) (getD (handedOut frames w win cs) i Unknown) (verdictOf (value g (treeOf frames)))
-      (span-at (handedOut frames w win cs) (firstFor frames) (said frames m) i (final o cs) h)
+      (instances-from-at (handedOut frames w win cs) (firstFor frames) (said frames m) i (final o cs) h)

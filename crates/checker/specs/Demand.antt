@@ -179,7 +179,9 @@ pub data FreeBetween : Found → Found → Type 0 where
   pending-present : (z : ℤ) → FreeBetween pending (present z)
 
 -- the reports of instance i in two lists: the same but for such references
-pub record ReportedTwice (frames : List ℕ) (w w′ : ℕ) (cs cs′ : List Call) (i : ℕ) (report report′ : List ℕ) : Type 0 where
+pub record ReportedTwice (frames : List ℕ) (w w′ : ℕ) (cs cs′ : List Call) (i : ℕ)
+    (report report′ : List ℕ) : Type 0 where
   pub first : Reported frames w cs i report
   pub second : Reported frames w′ cs′ i report′
-  pub marks : (r : Reference) → FreeBetween (foundAfter frames w (first .before) i r) (foundAfter frames w′ (second .before) i r)
+  pub marks : (r : Reference)
+      → FreeBetween (foundAfter frames w (first .before) i r) (foundAfter frames w′ (second .before) i r)

@@ -33,7 +33,10 @@ pub struct FedFields {
 
 // A refusal changes nothing.
 fn refuse(fields: Fields, number: u8, place: u32) -> FedFields
-    ensures { λ r. ⌜ r ≡ record { answer = FeedAnswer.Refused (record { number = number; place = place }); fields = fields } ⌝ }
+    ensures { λ r. ⌜ r ≡ record {
+      answer = FeedAnswer.Refused (record { number = number; place = place });
+      fields = fields;
+    } ⌝ }
 {
     FedFields {
         answer: FeedAnswer::Refused(Refusal { number, place }),

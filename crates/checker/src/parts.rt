@@ -79,7 +79,8 @@ pub fn first(frames: [u8; 512], len: u32, width: u32, next: Instance) -> State
 // One line more of an event.
 pub fn with_line(f: Fields, event: u8) -> Fields
     requires { ⌜ (event < eventLimit) × (getD (f .counts) event 0 < lineLimit) ⌝ }
-    ensures { λ r. ⌜ ((fs : List ℕ) → stateOf fs r ≡ withTally (stateOf fs f) (withLine (tallyIn (stateOf fs f)) event)) ⌝ }
+    ensures { λ r. ⌜ ((fs : List ℕ) → stateOf fs r
+        ≡ withTally (stateOf fs f) (withLine (tallyIn (stateOf fs f)) event)) ⌝ }
 {
     let e = event as usize;
     let c = f.counts[e];
@@ -115,7 +116,8 @@ fn count_verdict(t: Totals, p: Instance, v: Verdict) -> Totals
 // p and that verdict's total go up by 1.
 pub fn with_verdict(f: Fields, v: Verdict) -> Fields
     requires { ⌜ Countable (f .totals) (f .next .0) ⌝ }
-    ensures { λ r. ⌜ ((fs : List ℕ) → stateOf fs r ≡ withTally (stateOf fs f) (withVerdict (tallyIn (stateOf fs f)) v)) ⌝ }
+    ensures { λ r. ⌜ ((fs : List ℕ) → stateOf fs r
+        ≡ withTally (stateOf fs f) (withVerdict (tallyIn (stateOf fs f)) v)) ⌝ }
 {
     let p = f.next;
     let t = f.totals;

@@ -47,7 +47,8 @@ fn refuse(fields: Fields, number: u8) -> PulledFields
 // A verdict is handed out.
 fn hand_out(fields: Fields, answer: PullAnswer, v: Verdict) -> PulledFields
     requires { ⌜ Countable (fields .totals) (fields .next .0) ⌝ }
-    ensures { λ r. ⌜ (r .answer ≡ answer) × ((fs : List ℕ) → stateOf fs (r .fields) ≡ stateAfter (stateOf fs fields) (gave v)) ⌝ }
+    ensures { λ r. ⌜ (r .answer ≡ answer)
+        × ((fs : List ℕ) → stateOf fs (r .fields) ≡ stateAfter (stateOf fs fields) (gave v)) ⌝ }
 {
     PulledFields {
         answer,

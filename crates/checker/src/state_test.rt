@@ -94,8 +94,10 @@ fn unfit() -> Tested
 fn tally_fits(frames: &[u8], s: Fields) -> Tested
     requires { ⌜ (length (now frames) ≡ frameLimit * frameBytes)
         × ((s .len ≤ frameLimit) × (checkedOf (take (s .len * frameBytes) (now frames)) ≡ Checked.Accepted)) ⌝ }
-    ensures { λ r. ⌜ (r .fits ≡ tallyFits (take (s .len * frameBytes) (now (frames .entry))) (s .width) (s .counts) (s .next .0)
-        (s .totals)) × (r .fits ≡ true → r .bases ≡ basesOf (take (s .len * frameBytes) (now (frames .entry))) (s .next .0)) ⌝ }
+    ensures { λ r. ⌜ (r .fits
+        ≡ tallyFits (take (s .len * frameBytes) (now (frames .entry))) (s .width) (s .counts) (s .next .0) (s .totals))
+        × (r .fits ≡ true
+        → r .bases ≡ basesOf (take (s .len * frameBytes) (now (frames .entry))) (s .next .0)) ⌝ }
 {
     let p = s.next;
     if p.0 <= limits::INSTANCE_LIMIT {

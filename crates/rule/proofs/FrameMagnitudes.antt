@@ -35,17 +35,17 @@ topped-in f [] h = tt
 topped-in f (b ∷ []) h = h
 topped-in f (b ∷ (a ∷ ms)) h = pushed-in (f a b) ms (h .1 .1)
 
-sized-in : (o : Kind) (v : ℤ) (ms : List ℕ) → Bounded ms → BoundedIn (sizesAfter o v ms)
-sized-in (operand s) v ms h = pushed-in (operandSize s v) ms h
-sized-in (arithmetic o) v ms h = topped-in (grown o) ms h
-sized-in absolute v ms h = h
-sized-in (relation r) v ms h = tt
-sized-in negation v ms h = h
-sized-in (connective j) v ms h = h
-sized-in none v ms h = h
+sizes-after-in : (o : Kind) (v : ℤ) (ms : List ℕ) → Bounded ms → BoundedIn (sizesAfter o v ms)
+sizes-after-in (operand s) v ms h = pushed-in (operandSize s v) ms h
+sizes-after-in (arithmetic o) v ms h = topped-in (grown o) ms h
+sizes-after-in absolute v ms h = h
+sizes-after-in (relation r) v ms h = tt
+sizes-after-in negation v ms h = h
+sizes-after-in (connective j) v ms h = h
+sizes-after-in none v ms h = h
 
 next-in : (x : Frame) (z : Sizes) → BoundedIn z → BoundedIn (sizeNext x z)
-next-in x (fits ms) h = sized-in (kindOf (x .kind)) (x .value) ms h
+next-in x (fits ms) h = sizes-after-in (kindOf (x .kind)) (x .value) ms h
 next-in x over h = tt
 
 pub sizes-in : (s : List ℕ) (i : ℕ) → BoundedIn (sizeAt s i)
@@ -77,14 +77,14 @@ capped-by m false ms e = refl
 pub pushed-capped : (m : ℕ) (ms : List ℕ) → pushed (capped m) ms ≡ pushed m ms
 pushed-capped m ms = capped-by m (leb m magnitudeLimit) ms refl
 
-pub sized-keeping : (o : Kind) (v : ℤ) (ms : List ℕ) → T (isKeeping o) → sizesAfter o v ms ≡ fits ms
-sized-keeping (operand s) v ms t = absurd t
-sized-keeping (arithmetic o) v ms t = absurd t
-sized-keeping absolute v ms t = refl
-sized-keeping (relation r) v ms t = absurd t
-sized-keeping negation v ms t = refl
-sized-keeping (connective j) v ms t = refl
-sized-keeping none v ms t = refl
+pub sizes-after-keeping : (o : Kind) (v : ℤ) (ms : List ℕ) → T (isKeeping o) → sizesAfter o v ms ≡ fits ms
+sizes-after-keeping (operand s) v ms t = absurd t
+sizes-after-keeping (arithmetic o) v ms t = absurd t
+sizes-after-keeping absolute v ms t = refl
+sizes-after-keeping (relation r) v ms t = absurd t
+sizes-after-keeping negation v ms t = refl
+sizes-after-keeping (connective j) v ms t = refl
+sizes-after-keeping none v ms t = refl
 
 pub size-again : (s cells cells′ : List ℕ) (i k : ℕ) (x : Frame) (r : Size) → sizeAt s i ≡ fits (stackOf 0 cells k) → x ≡ frameAt s i
     → loaded cells′ r ≡ sizesAfter (kindOf (x .kind)) (x .value) (stackOf 0 cells k) → sizeAt s (i + 1) ≡ loaded cells′ r

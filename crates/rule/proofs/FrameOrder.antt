@@ -132,12 +132,12 @@ abbrev Below : ℕ → Prefix → Type 0
 Below i (viable c k) = Unit {0}
 Below i (stuck p) = p < i
 
-below-placed : (i : ℕ) (h : Shape) → Below (suc i) (orderAt i h)
-below-placed i (Good c k) = tt
-below-placed i Bad = le-refl (suc i)
+below-order-at : (i : ℕ) (h : Shape) → Below (suc i) (orderAt i h)
+below-order-at i (Good c k) = tt
+below-order-at i Bad = le-refl (suc i)
 
 below-next : (i : ℕ) (x : Frame) (p : Prefix) → Below i p → Below (suc i) (orderNext i x p)
-below-next i x (viable c k) h = below-placed i (frameStep x c k)
+below-next i x (viable c k) h = below-order-at i (frameStep x c k)
 below-next i x (stuck p) h = omega arith
 
 below : (s : List ℕ) (i : ℕ) → Below i (prefixAt s i)

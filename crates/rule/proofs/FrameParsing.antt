@@ -36,12 +36,12 @@ abbrev pub shapeOf : Prefix → Shape
 shapeOf (viable c k) = Good c k
 shapeOf (stuck p) = Bad
 
-shape-placed : (i : ℕ) (h : Shape) → shapeOf (orderAt i h) ≡ h
-shape-placed i (Good c k) = refl
-shape-placed i Bad = refl
+shape-order-at : (i : ℕ) (h : Shape) → shapeOf (orderAt i h) ≡ h
+shape-order-at i (Good c k) = refl
+shape-order-at i Bad = refl
 
 shape-next : (i : ℕ) (x : Frame) (p : Prefix) → shapeOf (orderNext i x p) ≡ ordered x (shapeOf p)
-shape-next i x (viable c k) = shape-placed i (frameStep x c k)
+shape-next i x (viable c k) = shape-order-at i (frameStep x c k)
 shape-next i x (stuck p) = refl
 
 pub order-to : (s : List ℕ) (i : ℕ) → i ≤ length (framesOf s) → shapeOf (prefixAt s i) ≡ runs ordered (take i (framesOf s)) (Good 0 0)

@@ -99,13 +99,13 @@ record Stuck (s : List ℕ) (p n : ℕ) : Type 0 where
   good : prefixAt s p ≡ viable conds sums
   bad : prefixAt s (suc p) ≡ stuck p
 
-placed-stuck : (i : ℕ) (h : Shape) (p : ℕ) → orderAt i h ≡ stuck p → i ≡ p
-placed-stuck i (Good c k) p e = cc
-placed-stuck i Bad p e = cc
+order-at-stuck : (i : ℕ) (h : Shape) (p : ℕ) → orderAt i h ≡ stuck p → i ≡ p
+order-at-stuck i (Good c k) p e = cc
+order-at-stuck i Bad p e = cc
 
 stuck-next : (s : List ℕ) (p n : ℕ) (q : Prefix) → prefixAt s n ≡ q → (prefixAt s n ≡ stuck p → Stuck s p n) → orderNext n (frameAt s n) q ≡ stuck p → Stuck s p (suc n)
 stuck-next s p n (viable c k) e ih g =
-    let i : n ≡ p = placed-stuck n (frameStep (frameAt s n) c k) p g in
+    let i : n ≡ p = order-at-stuck n (frameStep (frameAt s n) c k) p g in
     subst (λ (x : ℕ). Stuck s x (suc n)) i
     (record { below = le-refl (suc n); conds = c; sums = k; good = e; bad = ap (orderNext n (frameAt s n)) e ∙ g ∙ ap stuck (sym i) })
 stuck-next s p n (stuck q) e ih g =

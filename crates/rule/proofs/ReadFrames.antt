@@ -30,8 +30,8 @@ use Rattle.rule.proofs.FrameTrees.{meaning-count, few-frames, coded-nam
 use Rattle.rule.proofs.ReadChecks.{check-accepted}
 
 -- the registers that refuse nothing tell the number of frames
-told-count : (m : Mem) → memoryAnswer m .0 ≡ 0 → memoryAnswer m .1 ≡ m .count
-told-count m = go (eqb (m .name) 0) (eqb (m .number) 0) (m .deep) (ltb 64 (m .count))
+memory-answer-count : (m : Mem) → memoryAnswer m .0 ≡ 0 → memoryAnswer m .1 ≡ m .count
+memory-answer-count m = go (eqb (m .name) 0) (eqb (m .number) 0) (m .deep) (ltb 64 (m .count))
   where
     tell : Bool → Bool → Bool → Bool → ℕ × ℕ
     tell a b c d = cond a (cond b (cond c (6, 0) (cond d (6, 0) (0, m .count))) (5, m .number - 1)) (4, m .name - 1)
@@ -46,7 +46,7 @@ told-count m = go (eqb (m .name) 0) (eqb (m .number) 0) (m .deep) (ltb 64 (m .co
 concluded-frames : (b : List ℕ) (m : Mem) (n : ℕ) (s : List ℕ) → memoryAnswer m ≡ (0, n) → m .bytes ≡ s → (concluded b m ≡ afterCheck b m (checkedOf (take (n * 8) s))) × (m .count ≡ n)
 concluded-frames b m n s e f =
     let z : memoryAnswer m .0 ≡ 0 = ap (λ (q : ℕ × ℕ). q .0) e in
-    let c : m .count ≡ n = sym (told-count m z) ∙ ap (λ (q : ℕ × ℕ). q .1) e in
+    let c : m .count ≡ n = sym (memory-answer-count m z) ∙ ap (λ (q : ℕ × ℕ). q .1) e in
     (subst (λ (q : ℕ × ℕ). cond (eqb (q .0) 0) (afterCheck b m (checkedOf (take (m .count * 8) (m .bytes)))) (refusedAs (q .0) (q .1), b) ≡ afterCheck b m (checkedOf (take (n * 8) s))) (sym e) (rw (c, f)), c)
 
 pairs : {u v : Reading} {l m : List ℕ} → u ≡ v → l ≡ m → _≡_ {A = Reading × List ℕ} (u, l) (v, m)

@@ -80,11 +80,12 @@ pub data Answered (text b : List ℕ) : Reading × List ℕ → Type 0 where
   refused-2 : length b ≡ bufferBytes → (LengthFits (length text) → ⊥) → Answered text b (refusedAs 2 0, b)
   refused-3 : {p : ℕ} → length b ≡ bufferBytes → LengthFits (length text) → Wrong-at (length text) (tokens text) p
       → Answered text b (refusedAs 3 p, b)
-  refused-4 : {x : Rule} {p : ℕ} → length b ≡ bufferBytes → Spelled text x → BadName text x p → Answered text b (refusedAs 4 p, b)
+  refused-4 : {x : Rule} {p : ℕ} → length b ≡ bufferBytes → Spelled text x → BadName text x p
+      → Answered text b (refusedAs 4 p, b)
   refused-5 : {x : Rule} {p : ℕ} → length b ≡ bufferBytes → Spelled text x → NamesGood text x → BadNumber text x p
       → Answered text b (refusedAs 5 p, b)
-  refused-6 : {x : Rule} → length b ≡ bufferBytes → Spelled text x → NamesGood text x → NumbersGood text x → Oversized text x
-      → Answered text b (refusedAs 6 0, b)
+  refused-6 : {x : Rule} → length b ≡ bufferBytes → Spelled text x → NamesGood text x → NumbersGood text x
+      → Oversized text x → Answered text b (refusedAs 6 0, b)
   refused-7 : {x : Rule} → length b ≡ bufferBytes → Within text x → references (meaning text x) ≡ []
       → Answered text b (refusedAs 7 0, b)
   refused-8 : {x : Rule} → length b ≡ bufferBytes → Within text x → (references (meaning text x) ≡ [] → ⊥)

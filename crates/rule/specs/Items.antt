@@ -4,8 +4,9 @@
 use Prim.Native.Nat.{ℕ, suc}
 use mathlib.Core.List.{List, [], _∷_, _++_}
 use Rattle.rule.specs.Frames.{Arithmetic, Connective, Kind}
-use Rattle.rule.specs.Grammar.{index, Cond, a-disj, implies, Disj, a-conj, or, Conj, a-unit, and, CUnit, not, group, relation}
-use Rattle.rule.specs.Grammar.{Sum, a-prod, add, Prod, a-factor, multiply, Factor, literal, var, parens, absolute, reference}
+use Rattle.rule.specs.Grammar.{index, Cond, a-disj, implies, Disj, a-conj, or, Conj, a-unit, and}
+use Rattle.rule.specs.Grammar.{CUnit, not, group, relation, Sum, a-prod, add, Prod, a-factor, multiply}
+use Rattle.rule.specs.Grammar.{Factor, literal, var, parens, absolute, reference}
 use Rattle.rule.specs.Grammar.{Rule, rule}
 use Rattle.rule.specs.Draft.{Draft, lit, index-var, ref, alone, relationOf, signOf}
 

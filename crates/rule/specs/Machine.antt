@@ -9,8 +9,8 @@ use Rattle.rule.specs.Frames.{Arithmetic, Connective, Kind}
 use Rattle.rule.specs.Token.{nameKind, numberKind, eventsKind, notesKind, indexKind, absKind}
 use Rattle.rule.specs.Token.{arrowKind, barsKind, ampersandsKind}
 use Rattle.rule.specs.declared.Token.{Token}
-use Rattle.rule.specs.Grammar.{semicolon, bang, openBrace, closeBrace, openParen, closeParen, openBracket, closeBracket, star}
-use Rattle.rule.specs.Grammar.{relMark, rels, signMark, signs, byMark, place}
+use Rattle.rule.specs.Grammar.{semicolon, bang, openBrace, closeBrace, openParen, closeParen, openBracket}
+use Rattle.rule.specs.Grammar.{closeBracket, star, relMark, rels, signMark, signs, byMark, place}
 use Rattle.rule.specs.declared.parts.Place.{Place}
 use Rattle.rule.specs.declared.parts.Role.{Role}
 use Rattle.rule.specs.declared.parts.Role.the-variants.{Event, Note}
@@ -99,7 +99,8 @@ module _ (M : Type 0) (act : Act → M → M) where
       (cond (eqb k openBrace) (on (condition (deeper d) (want closeBrace ∷ s)) (act (enter (deeper d)) m))
       (startFactor d m k p (muls d ∷ adds d ∷ rel d ∷ s)))
   step (ands d ∷ s) m k p =
-      cond (eqb k ampersandsKind) (on (unit d ∷ doing (out (alone (Kind.connective Connective.and))) ∷ ands d ∷ s) m) (step s m k p)
+      cond (eqb k ampersandsKind) (on (unit d ∷ doing (out (alone (Kind.connective Connective.and))) ∷ ands d ∷ s) m)
+      (step s m k p)
   step (ors d ∷ s) m k p =
       cond (eqb k barsKind) (on (conj d (doing (out (alone (Kind.connective Connective.or))) ∷ ors d ∷ s)) m) (step s m k p)
   step (arrow d ∷ s) m k p =
@@ -107,10 +108,13 @@ module _ (M : Type 0) (act : Act → M → M) where
       (act (enter (deeper d)) m)) (step s m k p)
   step (factor d ∷ s) m k p = startFactor d m k p s
   step (muls d ∷ s) m k p =
-      cond (eqb k star) (on (factor d ∷ doing (out (alone (Kind.arithmetic Arithmetic.multiply))) ∷ muls d ∷ s) m) (step s m k p)
+      cond (eqb k star) (on (factor d ∷ doing (out (alone (Kind.arithmetic Arithmetic.multiply))) ∷ muls d ∷ s) m)
+      (step s m k p)
   step (adds d ∷ s) m k p =
-      byMark signMark k (λ g. on (prod d (doing (out (alone (Kind.arithmetic (signOf g)))) ∷ adds d ∷ s)) m) (step s m k p) signs
-  step (rel d ∷ s) m k p = byMark relMark k (λ c. on (sum d (doing (out (alone (Kind.relation (relationOf c)))) ∷ s)) m) stuck rels
+      byMark signMark k (λ g. on (prod d (doing (out (alone (Kind.arithmetic (signOf g)))) ∷ adds d ∷ s)) m)
+      (step s m k p) signs
+  step (rel d ∷ s) m k p =
+      byMark relMark k (λ c. on (sum d (doing (out (alone (Kind.relation (relationOf c)))) ∷ s)) m) stuck rels
   step (want x ∷ s) m k p = cond (eqb k x) (on s m) stuck
   step (name-of r ∷ s) m k p = cond (eqb k nameKind) (on s (act (declare r p) m)) stuck
   step (names-of r ∷ s) m k p = cond (eqb k nameKind) (on (names-of r ∷ s) (act (declare r p) m)) (step s m k p)
@@ -122,7 +126,8 @@ module _ (M : Type 0) (act : Act → M → M) where
       (cond (eqb k indexKind) (on (ref-shift n e Once ∷ s) m) stuck)
   step (ref-shift n e f ∷ s) m k p =
       byMark signMark k (λ g. on (ref-by n e f g ∷ s) m) (step s (act (out (ref n e f Unshifted)) m) k p) signs
-  step (ref-by n e f g ∷ s) m k p = cond (eqb k numberKind) (on s (act (out (ref n e f (By g p))) (act (sized OfOffset p) m))) stuck
+  step (ref-by n e f g ∷ s) m k p =
+      cond (eqb k numberKind) (on s (act (out (ref n e f (By g p))) (act (sized OfOffset p) m))) stuck
   step (doing a ∷ s) m k p = step s (act a m) k p
 
   -- the text ends, at n

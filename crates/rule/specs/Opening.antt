@@ -36,8 +36,8 @@ pub data Opening (s : List ℕ) : Checked → Type 0 where
   refused-9 : (Whole (length s) → ⊥) → Opening s (refused 9 0)
   refused-10 : {p : ℕ} → Whole (length s) → PlaceOf10 s p → Opening s (refused 10 p)
   refused-7 : Whole (length s) → (r : IsRule s) → references (r .tree) ≡ [] → Opening s (refused 7 0)
-  refused-8 : Whole (length s) → (r : IsRule s) → (references (r .tree) ≡ [] → ⊥) → (NoneExceeds (parts (r .tree)) → ⊥)
-      → Opening s (refused 8 0)
+  refused-8 : Whole (length s) → (r : IsRule s) → (references (r .tree) ≡ [] → ⊥)
+      → (NoneExceeds (parts (r .tree)) → ⊥) → Opening s (refused 8 0)
   accepted : Whole (length s) → (r : IsRule s) → (references (r .tree) ≡ [] → ⊥) → NoneExceeds (parts (r .tree))
       → Opening s Accepted
 

@@ -32,7 +32,8 @@ StaysWithin lo n (Go a t) = (lo ≤ a) × (a ≤ n)
 StaysWithin lo n (No p) = Unit
 
 -- from `at`, with the memory m, a reader of the part `top` answered r and left tb and b
-pub record ReadsPart (top : List Sym → List Sym) (text : List ℕ) (at lo : ℕ) (m : Mem) (r : Step) (tb b : List ℕ) : Type 0 where
+pub record ReadsPart (top : List Sym → List Sym) (text : List ℕ) (at lo : ℕ) (m : Mem) (r : Step)
+    (tb b : List ℕ) : Type 0 where
   pub runs : (s : List Sym) → runFrom text (top s) m at ≡ readOn text s r tb b
   pub within : StaysWithin lo (length text) r
 

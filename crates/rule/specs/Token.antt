@@ -147,7 +147,8 @@ spelling text t = take (t .end - t .start) (drop (t .start) text)
 -- the tokens from at on, at most k of them: none at the end, else the next one and those from its end on
 unfoldable pub tokensIn : ℕ → List ℕ → ℕ → List Token
 tokensIn zero text at = []
-tokensIn (suc k) text at = cond (eqb (tokenAt text at .kind) endKind) [] (tokenAt text at ∷ tokensIn k text (tokenAt text at .end))
+tokensIn (suc k) text at =
+    cond (eqb (tokenAt text at .kind) endKind) [] (tokenAt text at ∷ tokensIn k text (tokenAt text at .end))
 
 -- the tokens from at on: each has at least one byte, so there are no more tokens than bytes
 unfoldable pub tokensFrom : List ℕ → ℕ → List Token

@@ -8,7 +8,8 @@ use mir.Syntax.{w32}
 use mir.Val.{ofZ}
 use Rattle.rule.specs.Limits.{eventLimit, noteLimit, factorLimit, offsetLimit, literalLimit, instanceMagnitude}
 use Rattle.rule.specs.Limits.{referenceMagnitude, magnitudeLimit}
-use Rattle.rule.specs.Frames.{Source, Arithmetic, add, subtract, multiply, Relation, Connective, Kind, kindByte, frame, bare}
+use Rattle.rule.specs.Frames.{Source, Arithmetic, add, subtract, multiply, Relation, Connective}
+use Rattle.rule.specs.Frames.{Kind, kindByte, frame, bare}
 use Rattle.rule.specs.declared.Frame.{Frame}
 
 -- ---- trees

@@ -77,7 +77,8 @@ pub fn emit_kind(buf: &mut [u8; 512], m: Registers, kind: u8) -> Registers
 
 // The frame of i.
 pub fn emit_instance(buf: &mut [u8; 512], m: Registers) -> Registers
-    ensures { λ r. ⌜ ((text tb : List ℕ) → mem r tb (now (buf .exit)) ≡ acts text (out index-var) (mem m tb (now (buf .entry)))) ⌝ }
+    ensures { λ r. ⌜ ((text tb : List ℕ) → mem r tb (now (buf .exit))
+        ≡ acts text (out index-var) (mem m tb (now (buf .entry)))) ⌝ }
 {
     emit(
         buf,

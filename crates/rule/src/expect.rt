@@ -12,7 +12,8 @@ ghost use Rattle.rule.specs.ReadsPart.{ReadsPart};
 // Takes a token of the kind k.
 pub fn expect(text: &[u8], at: usize, m: Registers, k: u8) -> Step
     requires { ⌜ (at ≤ length (now text)) × (0 < k) ⌝ }
-    ensures { λ r. ⌜ ((tb b : List ℕ) → ReadsPart (λ s. want k ∷ s) (now (text .entry)) at (at + 1) (mem m tb b) r tb b) ⌝ }
+    ensures { λ r. ⌜ ((tb b : List ℕ)
+        → ReadsPart (λ s. want k ∷ s) (now (text .entry)) at (at + 1) (mem m tb b) r tb b) ⌝ }
 {
     let t = token_at(text, at);
     if t.kind == k {

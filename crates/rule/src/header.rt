@@ -54,7 +54,8 @@ fn names_of(text: &[u8], names: &mut [u64; 12], at: usize, role: Role, m: Regist
 // name {name} ";"
 fn name_list(text: &[u8], names: &mut [u64; 12], at: usize, role: Role, m: Registers) -> Step
     requires { ⌜ (at ≤ length (now text)) × (length (now names) ≡ 12) ⌝ }
-    ensures { λ r. ⌜ ((b : List ℕ) → ReadsPart (λ s. name-of role ∷ names-of role ∷ want semicolon ∷ s) (now (text .entry)) at at
+    ensures { λ r. ⌜ ((b : List ℕ)
+        → ReadsPart (λ s. name-of role ∷ names-of role ∷ want semicolon ∷ s) (now (text .entry)) at at
         (mem m (now (names .entry)) b) r (now (names .exit)) b) × (length (now (names .exit)) ≡ 12) ⌝ }
 {
     match name_of(text, names, at, role, m) {
@@ -77,7 +78,8 @@ pub fn declarations(
 ) -> Step
     requires { ⌜ (at ≤ length (now text)) × (length (now names) ≡ 12) × (0 < word) ⌝ }
     ensures { λ r. ⌜ ((b : List ℕ) → ReadsPart (λ s. want word ∷ name-of role ∷ names-of role ∷ want semicolon ∷ s)
-        (now (text .entry)) at at (mem m (now (names .entry)) b) r (now (names .exit)) b) × (length (now (names .exit)) ≡ 12) ⌝ }
+        (now (text .entry)) at at (mem m (now (names .entry)) b) r (now (names .exit)) b)
+        × (length (now (names .exit)) ≡ 12) ⌝ }
 {
     match expect(text, at, m, word) {
         Step::No(q) => Step::No(q),

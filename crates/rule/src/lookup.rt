@@ -113,7 +113,8 @@ fn misnamed(names: &[u64; 12], role: Role, c: u64, m: Registers) -> bool
 fn declare_event(text: &[u8], names: &mut [u64; 12], p: Place, m: Registers) -> Registers
     requires { ⌜ Inside (length (now text)) p × (length (now names) ≡ 12) ⌝ }
     ensures { λ r. ⌜ ((b : List ℕ) → mem r (now (names .exit)) b
-        ≡ acts (now (text .entry)) (declare Role.Event p) (mem m (now (names .entry)) b)) × (length (now (names .exit)) ≡ 12) ⌝ }
+        ≡ acts (now (text .entry)) (declare Role.Event p) (mem m (now (names .entry)) b))
+        × (length (now (names .exit)) ≡ 12) ⌝ }
 {
     let c = name_at(text, p);
     if misnamed(names, Role::Event, c, m) {
@@ -135,7 +136,8 @@ fn declare_event(text: &[u8], names: &mut [u64; 12], p: Place, m: Registers) -> 
 fn declare_note(text: &[u8], names: &mut [u64; 12], p: Place, m: Registers) -> Registers
     requires { ⌜ Inside (length (now text)) p × (length (now names) ≡ 12) ⌝ }
     ensures { λ r. ⌜ ((b : List ℕ) → mem r (now (names .exit)) b
-        ≡ acts (now (text .entry)) (declare Role.Note p) (mem m (now (names .entry)) b)) × (length (now (names .exit)) ≡ 12) ⌝ }
+        ≡ acts (now (text .entry)) (declare Role.Note p) (mem m (now (names .entry)) b))
+        × (length (now (names .exit)) ≡ 12) ⌝ }
 {
     let c = name_at(text, p);
     if misnamed(names, Role::Note, c, m) {

@@ -98,7 +98,8 @@ fn ref_scaled(
 ) -> Step
     requires { ⌜ (at ≤ length (now text)) × Inside (length (now text)) n × Inside (length (now text)) e
         × Inside (length (now text)) p ⌝ }
-    ensures { λ r. ⌜ ReadsPart (λ s. want star ∷ want indexKind ∷ ref-shift n e (Scale.Times p) ∷ s) (now (text .entry)) at at
+    ensures { λ r. ⌜ ReadsPart (λ s. want star ∷ want indexKind ∷ ref-shift n e (Scale.Times p) ∷ s)
+        (now (text .entry)) at at
         (mem m (now (names .entry)) (now (buf .entry))) r (now (names .entry)) (now (buf .exit)) ⌝ }
 {
     match expect(text, at, m, b'*') {
@@ -142,7 +143,8 @@ fn ref_index(
 // "]" ")"
 fn ref_end(text: &[u8], at: usize, m: Registers) -> Step
     requires { ⌜ at ≤ length (now text) ⌝ }
-    ensures { λ r. ⌜ ((tb b : List ℕ) → ReadsPart (λ s. want closeBracket ∷ want closeParen ∷ s) (now (text .entry)) at at
+    ensures { λ r. ⌜ ((tb b : List ℕ)
+        → ReadsPart (λ s. want closeBracket ∷ want closeParen ∷ s) (now (text .entry)) at at
         (mem m tb b) r tb b) ⌝ }
 {
     match expect(text, at, m, b']') {

@@ -58,7 +58,8 @@ fn push(cells: &mut [u64; 64], k: usize, m: u64) -> Size
 
 // The two on top become one: their sum, their product. Called by size_step.
 fn sum_top(cells: &mut [u64; 64], k: usize) -> Size
-    requires { ⌜ (length (now cells) ≡ frameLimit) × ((k < frameLimit) × ((2 ≤ k) × Bounded (stackOf 0 (now cells) k))) ⌝ }
+    requires { ⌜ (length (now cells) ≡ frameLimit)
+        × ((k < frameLimit) × ((2 ≤ k) × Bounded (stackOf 0 (now cells) k))) ⌝ }
     ensures kept { λ r. ⌜ length (now (cells .exit)) ≡ frameLimit ⌝ }
     ensures { λ r. ⌜ loaded (now (cells .exit)) r ≡ topped _+_ (stackOf 0 (now (cells .entry)) k) ⌝ }
 {

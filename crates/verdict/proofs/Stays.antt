@@ -18,7 +18,7 @@ use Rattle.verdict.specs.Later.{Gains, withFound, GainsIn, Sharpens, Mor
 use Rattle.verdict.specs.declared.Truth.{Truth}
 use Rattle.verdict.specs.declared.Truth.the-variants.{Unknown}
 use Rattle.verdict.specs.declared.Judgement.the-variants as judgements
-use Rattle.verdict.proofs.Tables.{not-sharpens, joined-sharpens}
+use Rattle.verdict.proofs.Tables.{not-sharpens, connected-sharpens}
 use Rattle.verdict.proofs.Resolve.{found-gains}
 use Rattle.verdict.proofs.Own.{SameOn, value-own, settled-own, none-so}
 
@@ -51,7 +51,7 @@ module _ (g : Given) (found′ : Reference → Found) where
   value-sharpens (relation r a b) n = relation-sharpens r a b (someOf isMissing (g .found) (referencesS a ++ referencesS b)) refl n
   value-sharpens (Cond.not p) n = not-sharpens (value g p) (value (withFound g found′) p) (value-sharpens p n)
   value-sharpens (connective j p q) n =
-      joined-sharpens j (value g p) (value (withFound g found′) p) (value g q) (value (withFound g found′) q)
+      connected-sharpens j (value g p) (value (withFound g found′) p) (value g q) (value (withFound g found′) q)
       (value-sharpens p (λ r m. n r (Memᴰ·append-left (references q) m)))
       (value-sharpens q (λ r m. n r (Memᴰ·append-right (references p) m)))
 

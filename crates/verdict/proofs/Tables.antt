@@ -63,10 +63,10 @@ module _ (t : Truth → Truth → Truth) (unknown-left : (a b : Truth) → Sharp
   table-sharpens a a′ b b′ p q =
       sharpens-trans (t a b) (t a′ b) (t a′ b′) (left-sharpens a a′ b p) (rw (comm a′ b, comm a′ b′) (left-sharpens b b′ a′ q))
 
-pub joined-sharpens : (j : Connective) (a a′ b b′ : Truth) → Sharpens a a′ → Sharpens b b′ → Sharpens (connected j a b) (connected j a′ b′)
-joined-sharpens and a a′ b b′ p q = table-sharpens andK and-unknown and-comm a a′ b b′ p q
-joined-sharpens or a a′ b b′ p q = table-sharpens orK or-unknown or-comm a a′ b b′ p q
-joined-sharpens implies a a′ b b′ p q = table-sharpens orK or-unknown or-comm (notK a) (notK a′) b b′ (not-sharpens a a′ p) q
+pub connected-sharpens : (j : Connective) (a a′ b b′ : Truth) → Sharpens a a′ → Sharpens b b′ → Sharpens (connected j a b) (connected j a′ b′)
+connected-sharpens and a a′ b b′ p q = table-sharpens andK and-unknown and-comm a a′ b b′ p q
+connected-sharpens or a a′ b b′ p q = table-sharpens orK or-unknown or-comm a a′ b b′ p q
+connected-sharpens implies a a′ b b′ p q = table-sharpens orK or-unknown or-comm (notK a) (notK a′) b b′ (not-sharpens a a′ p) q
 
 -- ---- a known side
 pub true-and : (q : Truth) → andK True q ≡ q

@@ -56,7 +56,8 @@ pub fn size_sum(sums: &mut [i64; 64], k: usize) -> usize
 // Whether the relation of the two sums that are there holds.
 pub fn relate(kind: u8, sums: &mut [i64; 64]) -> bool
     ensures kept { λ r. ⌜ now (sums .exit) ≡ now (sums .entry) ⌝ }
-    ensures { λ r. ⌜ r ≡ holds (relationAt kind) (getD (now (sums .entry)) 0 (pos 0)) (getD (now (sums .entry)) 1 (pos 0)) ⌝ }
+    ensures { λ r. ⌜ r
+        ≡ holds (relationAt kind) (getD (now (sums .entry)) 0 (pos 0)) (getD (now (sums .entry)) 1 (pos 0)) ⌝ }
 {
     let a = sums[0];
     let b = sums[1];
@@ -88,7 +89,8 @@ pub fn not_cond(conds: &mut [u8; 64], c: usize) -> usize
 pub fn join_conds(kind: u8, conds: &mut [u8; 64], c: usize) -> usize
     requires { ⌜ (length (now conds) ≡ frameLimit) × ((c < frameLimit) × (2 ≤ c)) ⌝ }
     ensures kept { λ r. ⌜ length (now (conds .exit)) ≡ frameLimit ⌝ }
-    ensures { λ r. ⌜ truthsOf (now (conds .exit)) r ≡ top2 (connected (connectiveAt kind)) (truthsOf (now (conds .entry)) c) ⌝ }
+    ensures { λ r. ⌜ truthsOf (now (conds .exit)) r
+        ≡ top2 (connected (connectiveAt kind)) (truthsOf (now (conds .entry)) c) ⌝ }
 {
     let p = kleene::decoded(conds[c - 2]);
     let q = kleene::decoded(conds[c - 1]);

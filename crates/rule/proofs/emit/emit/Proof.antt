@@ -4,6 +4,9 @@ use borrow.Author.Needs.{needs}
 use Rattle.rule.proofs.emit.emit.Statement.{statement}
 use Rattle.rule.proofs.emit.emit.Tie as tie
 
+element-write-buf : tie.Need-element-write-buf
+element-write-buf c = search needs
+
 returns : tie.Need-returns
 unfolding mem put
 returns c = λ tb. rw (lt-ltb _ _ (c .if1 .taken))
@@ -17,7 +20,7 @@ emit-spec =
     tie.close
     (tie.spec
     (λ c. search needs)
-    (λ c. search needs)
+    element-write-buf
     (λ c. search needs)
     (λ c. search needs)
     (λ c. search needs)

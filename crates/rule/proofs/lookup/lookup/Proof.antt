@@ -3,6 +3,9 @@ use borrow.Author.Needs.{needs}
 use Rattle.rule.proofs.lookup.lookup.Statement.{statement}
 use Rattle.rule.proofs.lookup.lookup.Tie as tie
 
+find-requires-2 : tie.Need-find-requires-2
+find-requires-2 c κs = search needs
+
 returns : tie.Need-returns
 unfolding mem
 returns c = λ b. rw (c .before .before .enum-told .given .1, ← c .before .least .ensures) (c .find .ensures)
@@ -20,6 +23,6 @@ lookup-spec =
     (λ c κs. search needs)
     (λ c. search needs)
     (λ c κs. search needs)
-    (λ c κs. search needs)
+    find-requires-2
     returns
     returns-2)

@@ -10,7 +10,7 @@ use Rattle.rule.specs.Frames.{literal, instance, reference, multiply, Ki
 use Rattle.rule.specs.Sizes.{pushed, topped, sizesAfter}
 use Rattle.rule.specs.Stack.{stackOf, EnoughSums}
 use Rattle.rule.proofs.FrameKinds.{kind-at, sum-range, relation-at, keeping-low, keeping-14, keeping-27}
-use Rattle.rule.proofs.FrameMagnitudes.{sized-keeping}
+use Rattle.rule.proofs.FrameMagnitudes.{sizes-after-keeping}
 use Rattle.rule.proofs.sizes.size_step.Statement.{statement}
 use Rattle.rule.proofs.sizes.size_step.Tie as tie
 
@@ -75,19 +75,19 @@ returns-7 c =
     let entry = c .before .before in
     let a = entry .args in
     let r = c .before .match .rest in
-    (entry .pre .0, sym (sized-keeping (kindOf (a .kind)) (a .value) _ (keeping-low (a .kind) (c .if1 .taken) (r .0 .0 .0 .1) (r .0 .0 .1) (r .0 .1))))
+    (entry .pre .0, sym (sizes-after-keeping (kindOf (a .kind)) (a .value) _ (keeping-low (a .kind) (c .if1 .taken) (r .0 .0 .0 .1) (r .0 .0 .1) (r .0 .1))))
 
 returns-8 : tie.Need-returns-8
 returns-8 c =
     let entry = c .before .before .before .before in
     let a = entry .args in
-    (entry .pre .0, sym (sized-keeping (kindOf (a .kind)) (a .value) _ (keeping-14 (a .kind) (omega (arith, c .before .before .before .match .rest .1)) (omega arith))))
+    (entry .pre .0, sym (sizes-after-keeping (kindOf (a .kind)) (a .value) _ (keeping-14 (a .kind) (omega (arith, c .before .before .before .match .rest .1)) (omega arith))))
 
 returns-9 : tie.Need-returns-9
 returns-9 c =
     let entry = c .before .before .before .before .before in
     let a = entry .args in
-    (entry .pre .0, sym (sized-keeping (kindOf (a .kind)) (a .value) _ (keeping-27 (a .kind) (omega arith) (omega arith))))
+    (entry .pre .0, sym (sizes-after-keeping (kindOf (a .kind)) (a .value) _ (keeping-27 (a .kind) (omega arith) (omega arith))))
 
 pub size-step-spec : {M : Type 1} → statement M
 size-step-spec =
