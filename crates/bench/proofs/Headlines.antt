@@ -8,8 +8,7 @@ use lib.ListN.{take, replicate}
 use Rattle.rule.specs.Limits.{frameLimit, frameBytes}
 use Rattle.rule.specs.Frames.{Bytes}
 use Rattle.rule.specs.Reading.{readOf}
-use Rattle.rule.specs.declared.Refusal.{Refusal}
-use Rattle.rule.specs.declared.Reading.the-variants.{Frames, Refused}
+use Rattle.rule.specs.ReadTold as reading
 use Rattle.log.specs.Digit.{hexDigit}
 use Rattle.log.specs.Pair.{pairOf}
 use Rattle.log.specs.Walk.{linesOf}
@@ -38,7 +37,7 @@ pub pulls-wait : (x : Progress) → statePasses (x .state) ≡ true → Bytes (s
 pulls-wait x g b f = Waiting.pulls-wait x (record { admits = let-in (x .state) (x .words) g f; bytes = b })
 
 -- ".. before the first line and after each": for every rule that is read, and after whatever lines
-module _ (text : List ℕ) (n : ℕ) (s : List ℕ) (r : readOf text (replicate (frameLimit * frameBytes) 0) ≡ (Frames n, s)) where
+module _ (text : List ℕ) (n : ℕ) (s : List ℕ) (r : readOf text (replicate (frameLimit * frameBytes) 0) ≡ (reading.frames n, s)) where
   pub first-waits : UntilWaiting (beforeLog (openedFor (take (n * frameBytes) s))) (begun (openedFor (take (n * frameBytes) s)))
   first-waits = Waiting.first-waits text _ n s r
 
@@ -62,11 +61,12 @@ run-whole = Whole.run-whole
 
 -- all that is printed where the rule is read, and where it is refused
 module _ (text log : List ℕ) where
-  pub output-run : (n : ℕ) (s : List ℕ) → readOf text (replicate (frameLimit * frameBytes) 0) ≡ (Frames n, s)
+  pub output-run : (n : ℕ) (s : List ℕ) → readOf text (replicate (frameLimit * frameBytes) 0) ≡ (reading.frames n, s)
       → outputOf text log ≡ wholeRun (openedFor (take (n * frameBytes) s)) log
   output-run = Whole.output-run text log
 
-  pub output-refused : (r : Refusal) (s : List ℕ) → readOf text (replicate (frameLimit * frameBytes) 0) ≡ (Refused r, s) → outputOf text log ≡ refusedLine r
+  pub output-refused : (number place : ℕ) (s : List ℕ) → readOf text (replicate (frameLimit * frameBytes) 0) ≡ (reading.refused number place, s)
+      → outputOf text log ≡ refusedLine number place
   output-refused = Whole.output-refused text log
 
 -- the first 35 bytes of a line decide it

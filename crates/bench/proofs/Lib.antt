@@ -6,5 +6,7 @@ pub mod ChunkLaws
 -- The whole run, and that pulling ends with waiting.
 pub mod Whole
 pub mod Waiting
+-- What it prints, computed.
+mod OutputExamples
 -- The headline statements.
 pub mod Headlines

@@ -13,7 +13,7 @@ use Rattle.numbers.proofs.Bools.{and-true}
 use Rattle.rule.specs.Limits.{eventLimit, frameBytes}
 use Rattle.rule.specs.Frames.{Bytes}
 use Rattle.rule.specs.Reading.{readOf}
-use Rattle.rule.specs.declared.Reading.the-variants.{Frames}
+use Rattle.rule.specs.ReadTold as reading
 use Rattle.rule.proofs.Main.{read-bytes}
 use Rattle.verdict.specs.Found.{instanceLimit}
 use Rattle.verdict.specs.Settled.{judgement}
@@ -123,7 +123,7 @@ in-first {frames} {win} o =
       bytes = subst Bytes (sym (both-opened o .sim .rule)) (o .bytes);
     }
 
-module _ (text b : List ℕ) (n : ℕ) (s : List ℕ) (r : readOf text b ≡ (Frames n, s)) where
+module _ (text b : List ℕ) (n : ℕ) (s : List ℕ) (r : readOf text b ≡ (reading.frames n, s)) where
   abbrev o : OpenResult
   o = openedFor (take (n * frameBytes) s)
 

@@ -13,9 +13,10 @@ use Rattle.rule.specs.Limits.{frameLimit, frameBytes, bufferBytes}
 use Rattle.rule.specs.Tree.{postfix, bytesOf}
 use Rattle.rule.specs.Meaning.{meaning}
 use Rattle.rule.specs.Reading.{readOf}
-use Rattle.rule.specs.declared.Refusal.{Refusal}
+use Rattle.rule.specs.ReadTold.{ReadAnswer, readTold}
 use Rattle.rule.specs.declared.Reading.{Reading}
-use Rattle.rule.specs.declared.Reading.the-variants.{Frames, Refused}
+use Rattle.rule.specs.declared.Reading.the-variants.{Frames}
+use Rattle.rule.specs.ReadTold as reading
 use Rattle.rule.proofs.Main.{read-opens, reads-exactly}
 use Rattle.rule.proofs.Laws.{bytes-length}
 use Rattle.log.specs.Digit.{hexDigit}
@@ -93,28 +94,28 @@ pub run-whole : (o : OpenResult) (log : List ℕ)
     → withTotals (atEnd (afterBytes (record { progress = begun o; held = [] }) log)) ≡ wholeRun o log
 run-whole o log = ap withTotals (log-whole (begun o) log)
 
-pub read-opened : (text b : List ℕ) (n : ℕ) (s : List ℕ) → readOf text b ≡ (Frames n, s) → openedFor (take (n * frameBytes) s) .answer ≡ opened
+pub read-opened : (text b : List ℕ) (n : ℕ) (s : List ℕ) → readOf text b ≡ (reading.frames n, s) → openedFor (take (n * frameBytes) s) .answer ≡ opened
 unfolding openDef
 read-opened text b n s e = rw (read-opens text b n s e)
 
 -- there is room for the frames that were read
-pub read-room : (text b : List ℕ) (r : Reading) (n : ℕ) (s : List ℕ) → r ≡ readOf text b .0 → s ≡ readOf text b .1 → r ≡ Frames n → n * frameBytes ≤ length s
+pub read-room : (text b : List ℕ) (r : Reading) (n : ℕ) (s : List ℕ) → readTold r ≡ readOf text b .0 → s ≡ readOf text b .1 → r ≡ Frames n → n * frameBytes ≤ length s
 read-room text b r n s p w q =
-    let e : readOf text b ≡ (Frames n, s) = ap₂ (λ (x : Reading) (y : List ℕ). (x, y)) (sym p ∙ q) (sym w) in
+    let e : readOf text b ≡ (reading.frames n, s) = ap₂ (λ (x : ReadAnswer) (y : List ℕ). (x, y)) (sym p ∙ ap readTold q) (sym w) in
     let x = reads-exactly text b n s .0 e .1 in
     let fs = postfix (meaning text (x .tree)) in
     let l : length s ≡ length (bytesOf fs) + length {A = ℕ} (replicate (bufferBytes - n * frameBytes) 0) = ap length (x .bytes) ∙ length-append (bytesOf fs) _ in
     omega (arith, l, bytes-length fs, x .count)
 
-pub output-run : (text log : List ℕ) (n : ℕ) (s : List ℕ) → readOf text (replicate (frameLimit * frameBytes) 0) ≡ (Frames n, s)
+pub output-run : (text log : List ℕ) (n : ℕ) (s : List ℕ) → readOf text (replicate (frameLimit * frameBytes) 0) ≡ (reading.frames n, s)
     → outputOf text log ≡ wholeRun (openedFor (take (n * frameBytes) s)) log
 output-run text log n s e =
-    ap (λ (x : Reading × List ℕ). afterReading log (x .1) (x .0)) e
+    ap (λ (x : ReadAnswer × List ℕ). afterReading log (x .1) (x .0)) e
     ∙ ap (afterOpening log (openedFor (take (n * frameBytes) s))) (read-opened text (replicate (frameLimit * frameBytes) 0) n s e)
 
-pub output-refused : (text log : List ℕ) (r : Refusal) (s : List ℕ) → readOf text (replicate (frameLimit * frameBytes) 0) ≡ (Refused r, s)
-    → outputOf text log ≡ refusedLine r
-output-refused text log r s e = ap (λ (x : Reading × List ℕ). afterReading log (x .1) (x .0)) e
+pub output-refused : (text log : List ℕ) (number place : ℕ) (s : List ℕ) → readOf text (replicate (frameLimit * frameBytes) 0) ≡ (reading.refused number place, s)
+    → outputOf text log ≡ refusedLine number place
+output-refused text log number place s e = ap (λ (x : ReadAnswer × List ℕ). afterReading log (x .1) (x .0)) e
 
 -- ---- reports
 entries-length : (xs : List Found) → length (entries xs) ≡ 5 * length xs

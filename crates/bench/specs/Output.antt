@@ -6,8 +6,8 @@ use lib.IntN.{pos}
 use lib.ListN.{take, replicate}
 use Rattle.rule.specs.Limits.{frameLimit, frameBytes}
 use Rattle.rule.specs.Reading.{readOf}
-use Rattle.rule.specs.declared.Reading.{Reading}
-use Rattle.rule.specs.declared.Reading.the-variants.{Frames, Refused}
+use Rattle.rule.specs.ReadTold.{ReadAnswer}
+use Rattle.rule.specs.ReadTold as reading
 use Rattle.log.specs.Walk.{linesOf}
 use Rattle.checker.specs.Limits.{windowWords}
 use Rattle.checker.specs.Answer.{Answer, opened, accepted, ignored, waiting, verdict, refused}
@@ -37,7 +37,7 @@ wholeRun o log = withTotals (afterLines (begun o) (linesOf log))
 
 -- opening is never refused here, since `read` gives only frames that it takes; it is said all the same
 abbrev pub afterOpening : List ℕ → OpenResult → Answer → List ℕ
-afterOpening log o (refused number place) = refusedLine (record { number = number; place = place })
+afterOpening log o (refused number place) = refusedLine number place
 afterOpening log o opened = wholeRun o log
 afterOpening log o accepted = []
 afterOpening log o ignored = []
@@ -49,9 +49,9 @@ abbrev pub openedFor : List ℕ → OpenResult
 openedFor frames = openDef frames benchWidth (replicate (windowWords benchWidth) (pos 0))
 
 -- "A refused rule prints .. the only line"
-abbrev pub afterReading : List ℕ → List ℕ → Reading → List ℕ
-afterReading log buffer (Refused r) = refusedLine r
-afterReading log buffer (Frames n) =
+abbrev pub afterReading : List ℕ → List ℕ → ReadAnswer → List ℕ
+afterReading log buffer (reading.refused number place) = refusedLine number place
+afterReading log buffer (reading.frames n) =
     afterOpening log (openedFor (take (n * frameBytes) buffer)) (openedFor (take (n * frameBytes) buffer) .answer)
 
 -- for a rule's text and a log

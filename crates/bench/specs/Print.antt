@@ -3,7 +3,6 @@ use mathlib.Core.List.{List, [], _∷_, _++_}
 use Prim.Native.Nat.{ℕ, _+_, _*_, _/_, _%_}
 use lib.ListN.{getD, take}
 use Rattle.rule.specs.Tree.{wordBytes}
-use Rattle.rule.specs.declared.Refusal.{Refusal}
 use Rattle.log.specs.Digit.{hexDigit}
 use Rattle.checker.specs.declared.Totals.{Totals}
 use Rattle.bench.specs.declared.Counts.{Counts}
@@ -32,8 +31,8 @@ abbrev pub totalsLine : Totals → Counts → List ℕ
 totalsLine t c = hexLine (totalsBytes t c)
 
 -- "`EE`, number (1 byte), place (2 bytes)"
-abbrev pub refusedLine : Refusal → List ℕ
-refusedLine r = hexLine (0xEE ∷ (r .number ∷ (r .place / 256 % 256 ∷ (r .place % 256 ∷ []))))
+abbrev pub refusedLine : (number place : ℕ) → List ℕ
+refusedLine number place = hexLine (0xEE ∷ (number ∷ (place / 256 % 256 ∷ (place % 256 ∷ []))))
 
 -- the report in a buffer: six bytes, of which the last is the reference count, and five for each reference
 abbrev pub reportPart : List ℕ → List ℕ

@@ -74,7 +74,7 @@ pub fn put_totals(out: &mut [u8], at: usize, totals: Totals, counts: Counts) -> 
 // The line of a refused rule, at the buffer's start; answers the place after it.
 pub fn put_refused(out: &mut [u8], r: Refusal) -> usize
     requires { ⌜ 9 ≤ length (now out) ⌝ }
-    ensures { λ n. ⌜ (n ≡ 9) × (now (out .exit) ≡ sets (now (out .entry)) 0 (refusedLine r)) ⌝ }
+    ensures { λ n. ⌜ (n ≡ 9) × (now (out .exit) ≡ sets (now (out .entry)) 0 (refusedLine (r .number) (r .place))) ⌝ }
 {
     put_byte(out, 0, 0xee);
     put_byte(out, 2, r.number);

@@ -17,7 +17,7 @@ use Rattle.rule.specs.Frames.{Bytes, frameAt, frameCount}
 use Rattle.rule.specs.Tree.{Reference, Cond, LimitsR, IsRule, references}
 use Rattle.rule.specs.Build.{treeOf}
 use Rattle.rule.specs.Check.{checkedOf}
-use Rattle.rule.specs.declared.Checked.the-variants.{Accepted}
+use Rattle.rule.specs.CheckTold as checking
 use Rattle.rule.specs.declared.Frame.{Frame}
 use Rattle.rule.proofs.Main.{tree-of, frames-exactly}
 use Rattle.rule.proofs.Laws.{AllWithin, references-within, reference-at, passed, over-references, overReferences, bytes-by}
@@ -40,10 +40,10 @@ bytes-take n s h = bytes-by (take n s) (λ i l. at n s i (h i))
     at (suc n) (x ∷ xs) zero h = h
     at (suc n) (x ∷ xs) (suc i) h = at n xs i h
 
-pub accepted-rule : {s : List ℕ} → Bytes s → checkedOf s ≡ Accepted → IsRule s
+pub accepted-rule : {s : List ℕ} → Bytes s → checkedOf s ≡ checking.accepted → IsRule s
 accepted-rule b e = let p = frames-exactly b .0 e in record { tree = p .tree; limits = p .limits; bytes = p .bytes }
 
-pub within-in : {s : List ℕ} → Bytes s → checkedOf s ≡ Accepted → AllWithin (references (treeOf s))
+pub within-in : {s : List ℕ} → Bytes s → checkedOf s ≡ checking.accepted → AllWithin (references (treeOf s))
 within-in {s} b e =
     let r : IsRule s = accepted-rule b e in
     subst (λ (t : Cond). AllWithin (references t)) (sym (tree-of r)) (references-within (r .tree) (r .limits))
@@ -151,7 +151,7 @@ eights (suc (suc (suc (suc (suc (suc zero)))))) h = refl
 eights (suc (suc (suc (suc (suc (suc (suc zero))))))) h = refl
 eights (suc (suc (suc (suc (suc (suc (suc (suc e)))))))) h = absurd (omega arith)
 
-pub base-is : {s : List ℕ} → Bytes s → checkedOf s ≡ Accepted → (p e : ℕ) → p ≤ instanceLimit → e < 8
+pub base-is : {s : List ℕ} → Bytes s → checkedOf s ≡ checking.accepted → (p e : ℕ) → p ≤ instanceLimit → e < 8
     → BaseIs (referenced (references (treeOf s)) e) (base (references (treeOf s)) e p) (getD (basesOf s p) e 0)
 unfolding basesOf referenced base
 base-is {s} b q p e h l =
@@ -177,7 +177,7 @@ unfolding allTo
 all-same zero f g h = refl
 all-same (suc n) f g h = rw (h n (omega arith), all-same n f g (λ e l. h e (omega arith)))
 
-pub tally-same : {s : List ℕ} → Bytes s → checkedOf s ≡ Accepted → (w : ℕ) (counts : List ℕ) (p : ℕ) (totals : Totals)
+pub tally-same : {s : List ℕ} → Bytes s → checkedOf s ≡ checking.accepted → (w : ℕ) (counts : List ℕ) (p : ℕ) (totals : Totals)
     → tallyFits s w counts p totals ≡ tallyPasses (references (treeOf s)) w (record { counts = counts; next = p; totals = totals })
 unfolding tallyFits tallyPasses countPasses
 tally-same {s} b q w counts p totals = go (leb p instanceLimit) refl

@@ -10,8 +10,8 @@ use lib.ListN.{getD, take}
 use Rattle.numbers.proofs.Bools.{true-false, and-true}
 use Rattle.rule.specs.Limits.{eventLimit, frameLimit, frameBytes}
 use Rattle.rule.specs.Check.{checkedOf}
-use Rattle.rule.specs.declared.Checked.{Checked}
-use Rattle.rule.specs.declared.Checked.the-variants.{Accepted, Refused}
+use Rattle.rule.specs.CheckTold.{CheckAnswer}
+use Rattle.rule.specs.CheckTold as checking
 use Rattle.verdict.specs.Found.{instanceLimit}
 use Rattle.checker.specs.Limits.{widthLimit}
 use Rattle.checker.specs.State.{sumOf, tallyIn, stateFrames, refsIn}
@@ -29,14 +29,14 @@ use Rattle.checker.proofs.Admissions.{in-good}
 -- ---- a good state
 pub record Facts (s : State) : Type 0 where
   pub few : s .len ≤ frameLimit
-  pub accepted : checkedOf (stateFrames s) ≡ Accepted
+  pub accepted : checkedOf (stateFrames s) ≡ checking.accepted
   pub some : 1 ≤ s .width
   pub most : s .width ≤ widthLimit
   pub totals : Countable (s .totals) (s .next .0)
 
-accepted-by : (x : Checked) → isAccepted x ≡ true → x ≡ Accepted
-accepted-by Accepted e = refl
-accepted-by (Refused r) e = absurd (true-false (sym e))
+accepted-by : (x : CheckAnswer) → isAccepted x ≡ true → x ≡ checking.accepted
+accepted-by checking.accepted e = refl
+accepted-by (checking.refused number place) e = absurd (true-false (sym e))
 
 pub good-facts : (s : State) → statePasses s ≡ true → Facts s
 unfolding statePasses rulePasses tallyPasses
@@ -60,7 +60,7 @@ pub ready-facts : {frames : List ℕ} {f : Fields} {win : List ℤ} → Ready fr
 ready-facts {frames} {f} {win} r = good-facts (stateOf frames f) (in-good (stateOf frames f) win (r .let-in))
 
 -- ---- 12, field by field
-pub rule-facts : (frames : List ℕ) (n w : ℕ) → ruleFits frames n w ≡ true → (n ≤ frameLimit) × (checkedOf (take (n * frameBytes) frames) ≡ Accepted)
+pub rule-facts : (frames : List ℕ) (n w : ℕ) → ruleFits frames n w ≡ true → (n ≤ frameLimit) × (checkedOf (take (n * frameBytes) frames) ≡ checking.accepted)
 rule-facts frames n w e =
     let r = and-true (leb n frameLimit && isAccepted (checkedOf (take (n * frameBytes) frames))) (widthFits w) e in
     let f = and-true (leb n frameLimit) (isAccepted (checkedOf (take (n * frameBytes) frames))) (r .0) in

@@ -15,8 +15,8 @@ use Rattle.rule.specs.Tree.{references}
 use Rattle.rule.specs.Build.{treeOf}
 use Rattle.rule.specs.Check.{checkedOf}
 use Rattle.rule.specs.Opening.{Proper}
-use Rattle.rule.specs.declared.Checked.{Checked}
-use Rattle.rule.specs.declared.Checked.the-variants.{Accepted, Refused}
+use Rattle.rule.specs.CheckTold.{CheckAnswer}
+use Rattle.rule.specs.CheckTold as checking
 use Rattle.rule.proofs.Main.{frames-exactly}
 use Rattle.log.specs.Line.{lineOf}
 use Rattle.log.specs.Line as log
@@ -156,9 +156,9 @@ module _ {frames : List ℕ} {w : ℕ} {win : List ℤ} (o : Unrefused frames w 
   window-holds = in-step o cs .sim .live
 
 -- ---- opening
-opens-by : (frames : List ℕ) (w : ℕ) (win : List ℤ) (t : Checked) → afterFrames frames w win t .answer ≡ opened → (t ≡ Accepted) × ((widthFits w && windowFits w win) ≡ true)
-opens-by frames w win (Refused r) q = absurd (let z : 5 + r .number ≡ 0 = ap codeOf q in omega arith)
-opens-by frames w win Accepted q = (refl, go (widthFits w && windowFits w win) q)
+opens-by : (frames : List ℕ) (w : ℕ) (win : List ℤ) (t : CheckAnswer) → afterFrames frames w win t .answer ≡ opened → (t ≡ checking.accepted) × ((widthFits w && windowFits w win) ≡ true)
+opens-by frames w win (checking.refused number place) q = absurd (let z : 5 + number ≡ 0 = ap codeOf q in omega arith)
+opens-by frames w win checking.accepted q = (refl, go (widthFits w && windowFits w win) q)
   where
     go : (t : Bool) → cond t (openedAs frames w) (notOpened win 11 0) .answer ≡ opened → t ≡ true
     go true q = refl
@@ -172,7 +172,7 @@ opens-exactly {frames} w win b = (
       let f = and-true (widthFits w) (windowFits w win) (h .1) in
       let g = and-true (leb 1 w) (leb w widthLimit) (f .0) in
       (frames-exactly b .0 (h .0), leb-true 1 w (g .0), leb-true w widthLimit (g .1), eqb-true (length win) (windowWords w) (f .1))),
-  λ h. ap (λ (t : Checked). afterFrames frames w win t .answer) (frames-exactly b .1 (h .0))
+  λ h. ap (λ (t : CheckAnswer). afterFrames frames w win t .answer) (frames-exactly b .1 (h .0))
       ∙ ap (λ (t : Bool). cond t (openedAs frames w) (notOpened win 11 0) .answer)
       (true-and (widthFits w) (windowFits w win) (true-and (leb 1 w) (leb w widthLimit) (le-leb 1 w (h .1)) (le-leb w widthLimit (h .2))) (eq-eqb (length win) (windowWords w) (h .3))),
 )

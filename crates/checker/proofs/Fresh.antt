@@ -15,8 +15,8 @@ use Rattle.rule.specs.Tree.{Reference, references, postfix, LimitsR}
 use Rattle.rule.specs.Build.{treeOf}
 use Rattle.rule.specs.Check.{checkedOf}
 use Rattle.rule.specs.Opening.{Proper}
-use Rattle.rule.specs.declared.Checked.{Checked}
-use Rattle.rule.specs.declared.Checked.the-variants.{Accepted, Refused}
+use Rattle.rule.specs.CheckTold.{CheckAnswer}
+use Rattle.rule.specs.CheckTold as checking
 use Rattle.rule.proofs.Main.{frames-exactly, tree-of}
 use Rattle.rule.proofs.Laws.{proper-rule, rule-length, AllWithin, references-within}
 use Rattle.numbers.proofs.Bools.{true-false, and-true}
@@ -43,7 +43,7 @@ not-opened : (number place : ℕ) → refused number place ≡ opened → ⊥
 not-opened number place q = true-false (sym (ap isOpened q))
 
 record Passed (frames : List ℕ) (w : ℕ) (win : List ℤ) : Type 0 where
-  pub accepted : checkedOf frames ≡ Accepted
+  pub accepted : checkedOf frames ≡ checking.accepted
   pub width : widthFits w ≡ true
   pub result : openDef frames w win ≡ openedAs frames w
 
@@ -52,10 +52,10 @@ by-width : (frames : List ℕ) (w : ℕ) (win : List ℤ) (t : Bool) → (widthF
 by-width frames w win true e h = (and-true (widthFits w) (windowFits w win) e .0, refl)
 by-width frames w win false e h = absurd (not-opened 11 0 h)
 
-by-check : (frames : List ℕ) (w : ℕ) (win : List ℤ) (c : Checked) → checkedOf frames ≡ c → afterFrames frames w win c .answer ≡ opened
-    → (c ≡ Accepted) × ((widthFits w ≡ true) × (afterFrames frames w win c ≡ openedAs frames w))
-by-check frames w win (Refused r) e h = absurd (not-opened (r .number) (r .place) h)
-by-check frames w win Accepted e h = (refl, by-width frames w win (widthFits w && windowFits w win) refl h)
+by-check : (frames : List ℕ) (w : ℕ) (win : List ℤ) (c : CheckAnswer) → checkedOf frames ≡ c → afterFrames frames w win c .answer ≡ opened
+    → (c ≡ checking.accepted) × ((widthFits w ≡ true) × (afterFrames frames w win c ≡ openedAs frames w))
+by-check frames w win (checking.refused number place) e h = absurd (not-opened number place h)
+by-check frames w win checking.accepted e h = (refl, by-width frames w win (widthFits w && windowFits w win) refl h)
 
 passed : (frames : List ℕ) (w : ℕ) (win : List ℤ) → openDef frames w win .answer ≡ opened → Passed frames w win
 unfolding openDef
@@ -84,7 +84,7 @@ fine frames w win b o =
     }
 
 -- as many bytes as frames have
-whole-length : (frames : List ℕ) → Bytes frames → checkedOf frames ≡ Accepted → (length frames ≡ length frames / frameBytes * frameBytes) × (length frames / frameBytes ≤ frameLimit)
+whole-length : (frames : List ℕ) → Bytes frames → checkedOf frames ≡ checking.accepted → (length frames ≡ length frames / frameBytes * frameBytes) × (length frames / frameBytes ≤ frameLimit)
 whole-length frames b e =
     let p : Proper frames = frames-exactly b .0 e in
     let l : length frames ≡ length (postfix (p .tree)) * 8 = rule-length (proper-rule p) in
@@ -94,7 +94,7 @@ whole-length frames b e =
 abbrev holding : OpenResult → Checker
 holding x = record { state = x .state; words = x .words }
 
-both-fresh : (frames : List ℕ) (w : ℕ) → Bytes frames → checkedOf frames ≡ Accepted → Both frames w (atFirst frames) (holding (openedAs frames w))
+both-fresh : (frames : List ℕ) (w : ℕ) → Bytes frames → checkedOf frames ≡ checking.accepted → Both frames w (atFirst frames) (holding (openedAs frames w))
 unfolding firstInstance freshState tabulated
 both-fresh frames w b e =
     let h = whole-length frames b e in

@@ -15,7 +15,7 @@ use Rattle.rule.specs.Build.{treeOf}
 use Rattle.rule.specs.Opening.{Proper}
 use Rattle.rule.specs.Reading.{readOf}
 use Rattle.rule.specs.Meaning.{meaning}
-use Rattle.rule.specs.declared.Reading.the-variants as reading
+use Rattle.rule.specs.ReadTold as reading
 use Rattle.log.specs.Line.{lineOf}
 use Rattle.log.specs.Line as log
 use Rattle.log.proofs.Main.{zeros-refused, empty-refused}
@@ -122,7 +122,7 @@ module _ {frames : List ℕ} {w : ℕ} {win : List ℤ} (o : Unrefused frames w 
 -- ---- from a rule's text to its verdicts: for every text that `read` accepts, the tree that spells it, every W and unrefused opening
 -- with the frames that were filled, and every list of calls: each verdict handed out is that of the value, at its instance over the
 -- lines accepted in the list, of the rule that the text means
-pub text-to-verdict : (text buffer filled : List ℕ) (n : ℕ) → readOf text buffer ≡ (reading.Frames n, filled) → (x : Rule) → yield x ≡ words (tokens text)
+pub text-to-verdict : (text buffer filled : List ℕ) (n : ℕ) → readOf text buffer ≡ (reading.frames n, filled) → (x : Rule) → yield x ≡ words (tokens text)
     → (w : ℕ) (win : List ℤ) → openDef (take (n * frameBytes) filled) w win .answer ≡ opened → (cs : List Call) (i : ℕ) → i < length (handedOut (take (n * frameBytes) filled) w win cs)
     → getD (handedOut (take (n * frameBytes) filled) w win cs) i Unknown
     ≡ verdictOf (value (givenIn (machineAfter (take (n * frameBytes) filled) w cs .lists) (firstFor (take (n * frameBytes) filled) + i)) (meaning text x))

@@ -4,8 +4,7 @@ use mathlib.Core.Path.{_≡_, refl}
 use mathlib.Core.Bool.{cond}
 use mathlib.Core.List.{List, [], _∷_, _++_, map}
 use Prim.Native.Nat.{ℕ, zero, suc, _+_, _-_, _/_, _%_}
-use Prim.Native.Char.{code as charCode}
-use Prim.Native.String.{String, [] as nil, _∷_ as cons}
+use Prim.Native.String.{String}
 use lib.Dec.{ltb}
 use lib.IntN.{ℤ, pos, negsuc}
 use lib.ListN.{length, replicate}
@@ -25,11 +24,10 @@ use Rattle.rule.specs.Sizes.{sizesFit}
 use Rattle.rule.specs.Build.{treeOf}
 use Rattle.rule.specs.Check.{checkedOf}
 use Rattle.rule.specs.Limits.{bufferBytes}
-use Rattle.rule.specs.Answers.{refusedAs}
 use Rattle.rule.specs.Reading.{judged, readOf}
-use Rattle.rule.specs.declared.Reading.{Reading}
-use Rattle.rule.specs.declared.Reading.the-variants as reading
-use Rattle.rule.proofs.Laws.{latency}
+use Rattle.rule.specs.ReadTold.{ReadAnswer}
+use Rattle.rule.specs.ReadTold as reading
+use Rattle.rule.proofs.Laws.{latency, bytes}
 use Rattle.log.specs.Digit.{digitValue}
 use Rattle.log.specs.Line.{digitsAtFront, badPlace, lineOf}
 use Rattle.verdict.specs.declared.Verdict.the-variants.{True, False, Unknown}
@@ -113,7 +111,7 @@ next = pull (replicate reportLeast 7)
 -- ---- the table
 pub record Example : Type 0 where
   pub text : String
-  pub reading : Reading
+  pub reading : ReadAnswer
   pub rule : Cond
   pub width : ℕ
   pub calls : List Call
@@ -125,7 +123,7 @@ table =
     -- M1
     record {
       text = latencyText;
-      reading = reading.Frames 5;
+      reading = reading.frames 5;
       rule = latency;
       width = 4;
       opening = opened;
@@ -135,7 +133,7 @@ table =
     -- M2
     ∷ record {
       text = latencyText;
-      reading = reading.Frames 5;
+      reading = reading.frames 5;
       rule = latency;
       width = 4;
       opening = opened;
@@ -145,7 +143,7 @@ table =
     -- M3
     ∷ record {
       text = latencyText;
-      reading = reading.Frames 5;
+      reading = reading.frames 5;
       rule = latency;
       width = 4;
       opening = opened;
@@ -155,7 +153,7 @@ table =
     -- M4: a[10] to a[19] settle instances 0 to 9
     ∷ record {
       text = after003Text;
-      reading = reading.Frames 7;
+      reading = reading.frames 7;
       rule = after003;
       width = 16;
       opening = opened;
@@ -165,7 +163,7 @@ table =
     -- M5: a[10] to a[13] settle instances 0 to 3
     ∷ record {
       text = after003Text;
-      reading = reading.Frames 7;
+      reading = reading.frames 7;
       rule = after003;
       width = 16;
       opening = opened;
@@ -175,7 +173,7 @@ table =
     -- M6
     ∷ record {
       text = after003Text;
-      reading = reading.Frames 7;
+      reading = reading.frames 7;
       rule = after003;
       width = 16;
       opening = opened;
@@ -185,7 +183,7 @@ table =
     -- M7
     ∷ record {
       text = after003Text;
-      reading = reading.Frames 7;
+      reading = reading.frames 7;
       rule = after003;
       width = 16;
       opening = opened;
@@ -195,7 +193,7 @@ table =
     -- M8
     ∷ record {
       text = twoBeforeText;
-      reading = reading.Frames 3;
+      reading = reading.frames 3;
       rule = twoBefore;
       width = 4;
       opening = opened;
@@ -205,7 +203,7 @@ table =
     -- M9
     ∷ record {
       text = orTrueText;
-      reading = reading.Frames 7;
+      reading = reading.frames 7;
       rule = orTrue;
       width = 4;
       opening = opened;
@@ -215,7 +213,7 @@ table =
     -- M10: −2,147,483,648
     ∷ record {
       text = greatestText;
-      reading = reading.Frames 4;
+      reading = reading.frames 4;
       rule = greatest;
       width = 4;
       opening = opened;
@@ -225,7 +223,7 @@ table =
     -- M11
     ∷ record {
       text = productText;
-      reading = reading.Frames 5;
+      reading = reading.frames 5;
       rule = relation more product (literal 0);
       width = 4;
       opening = opened;
@@ -234,7 +232,7 @@ table =
     }
     ∷ record {
       text = plusOneText;
-      reading = refusedAs 8 0;
+      reading = reading.refused 8 0;
       rule = relation more (arithmetic add product (literal 1)) (literal 0);
       width = 4;
       opening = refused 8 0;
@@ -244,7 +242,7 @@ table =
     -- M12 and M13: W 1
     ∷ record {
       text = latencyText;
-      reading = reading.Frames 5;
+      reading = reading.frames 5;
       rule = latency;
       width = 1;
       opening = opened;
@@ -254,11 +252,6 @@ table =
     ∷ []
 
 -- ---- what the definitions answer
--- a text's bytes
-abbrev bytes : String → List ℕ
-bytes nil = []
-bytes (cons c s) = charCode c ∷ bytes s
-
 -- the frame buffer that reading is lent holds 7 throughout
 abbrev lent : List ℕ
 lent = replicate bufferBytes 7
@@ -267,9 +260,9 @@ abbrev framesOf : Example → List ℕ
 framesOf x = bytesOf (postfix (x .rule))
 
 -- what the buffer holds then: the frames of the tree and zero after the last, or what it held
-abbrev filled : Example → Reading → List ℕ
-filled x (reading.Frames n) = framesOf x ++ replicate (bufferBytes - length (framesOf x)) 0
-filled x (reading.Refused r) = lent
+abbrev filled : Example → ReadAnswer → List ℕ
+filled x (reading.frames n) = framesOf x ++ replicate (bufferBytes - length (framesOf x)) 0
+filled x (reading.refused number place) = lent
 
 -- the window that opening is given holds 7 throughout
 abbrev windowOf : Example → List ℤ

@@ -14,7 +14,7 @@ use Rattle.rule.specs.Tree.{Reference}
 use Rattle.rule.specs.References.{referenceByte, referenceOf}
 use Rattle.rule.specs.Check.{checkedOf}
 use Rattle.rule.specs.declared.Frame.{Frame}
-use Rattle.rule.specs.declared.Checked.the-variants.{Accepted}
+use Rattle.rule.specs.CheckTold as checking
 use Rattle.rule.proofs.Laws.{passed, reference-at}
 use Rattle.verdict.specs.Found.{Found, present, pending, void}
 use Rattle.verdict.specs.Marks.{Tells, TellAll}
@@ -48,10 +48,10 @@ pub record LookedTo (s : List ℕ) (found : Reference → Found) (marks : List �
   pub noted : length notes ≡ 64
   pub shown : ShownTo s found marks notes k
 
-pub few-frames : (s : List ℕ) → checkedOf s ≡ Accepted → frameCount s ≤ 64
+pub few-frames : (s : List ℕ) → checkedOf s ≡ checking.accepted → frameCount s ≤ 64
 few-frames s e = omega (arith, passed s e .whole .most)
 
-pub limited : (s : List ℕ) (k : ℕ) (x : Frame) → checkedOf s ≡ Accepted → k < frameCount s → x ≡ frameAt s k → Limited x
+pub limited : (s : List ℕ) (k : ℕ) (x : Frame) → checkedOf s ≡ checking.accepted → k < frameCount s → x ≡ frameAt s k → Limited x
 limited s k x a h e = subst (λ (y : Frame). Limited y) (sym e) (reference-at s k h (passed s a .order))
 
 pub looked-next : (s : List ℕ) (found : Reference → Found) (marks : List ℕ) (notes : List ℤ) (k : ℕ) → LookedTo s found marks notes k → k < 64

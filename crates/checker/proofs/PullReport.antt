@@ -16,7 +16,7 @@ use Rattle.rule.specs.Tree.{Reference, Cond, IsRule, references}
 use Rattle.rule.specs.Build.{treeOf}
 use Rattle.rule.specs.References.{referenceByte, referenceOf, referencesTo, oneMore, referenceCount}
 use Rattle.rule.specs.Check.{checkedOf}
-use Rattle.rule.specs.declared.Checked.the-variants.{Accepted}
+use Rattle.rule.specs.CheckTold as checking
 use Rattle.rule.proofs.Main.{count-references, tree-of, frames-exactly}
 use Rattle.rule.proofs.Laws.{over-references, overReferences}
 use Rattle.verdict.specs.Found.{Found}
@@ -130,7 +130,7 @@ module _ (found : Reference → Found) where
   over-adds (r ∷ rs) out =
       over-adds rs (adds r out) ∙ append-assoc out (entryOf (markOf (found r)) (noteOf (found r))) (entries (map found rs))
 
-  pub report-is : {s : List ℕ} → Bytes s → checkedOf s ≡ Accepted → (marks : List ℕ) (notes : List ℤ) (p : ℕ) → ShownTo s found marks notes (frameCount s)
+  pub report-is : {s : List ℕ} → Bytes s → checkedOf s ≡ checking.accepted → (marks : List ℕ) (notes : List ℤ) (p : ℕ) → ShownTo s found marks notes (frameCount s)
       → reportTo s marks notes (headerOf p (referenceCount s)) (frameCount s) ≡ reportBytes p (map found (references (treeOf s)))
   unfolding reportBytes
   report-is {s} b e marks notes p w =

@@ -14,7 +14,7 @@ use Rattle.rule.specs.Limits.{frameLimit}
 use Rattle.rule.specs.Tree.{Reference, Cond, references, LimitsR}
 use Rattle.rule.specs.Build.{treeOf}
 use Rattle.rule.specs.Check.{checkedOf}
-use Rattle.rule.specs.declared.Checked.the-variants.{Accepted}
+use Rattle.rule.specs.CheckTold as checking
 use Rattle.log.specs.Line.{LineAnswer, lineOf}
 use Rattle.log.specs.Line as log
 use Rattle.numbers.proofs.Bools.{true-false, and-true, true-and}
@@ -48,7 +48,7 @@ use Rattle.checker.proofs.Bases.{referenced-below, base-le, base-mono, 
 
 -- what opening has checked of the frames and of W
 pub record Fine (frames : List ℕ) (w : ℕ) : Type 0 where
-  pub accepted : checkedOf frames ≡ Accepted
+  pub accepted : checkedOf frames ≡ checking.accepted
   pub width : widthFits w ≡ true
   pub some : references (treeOf frames) ≡ [] → ⊥
   pub limits : (r : Reference) → List·Memᴰ r (references (treeOf frames)) → LimitsR r

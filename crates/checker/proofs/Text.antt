@@ -11,7 +11,7 @@ use Rattle.rule.specs.Grammar.{Rule, yield, words}
 use Rattle.rule.specs.Tree.{Cond}
 use Rattle.rule.specs.Meaning.{meaning}
 use Rattle.rule.specs.Reading.{readOf}
-use Rattle.rule.specs.declared.Reading.the-variants as reading
+use Rattle.rule.specs.ReadTold as reading
 use Rattle.rule.proofs.Main.{read-tree, read-bytes}
 use Rattle.verdict.specs.Found.{givenIn}
 use Rattle.verdict.specs.Value.{value}
@@ -24,7 +24,7 @@ use Rattle.checker.specs.Calls.{Call}
 use Rattle.checker.specs.Demand.{machineAfter, handedOut}
 use Rattle.checker.proofs.Value.{value-of}
 
-module _ (text buffer filled : List ℕ) (n : ℕ) (r : readOf text buffer ≡ (reading.Frames n, filled)) (x : Rule) (spelled : yield x ≡ words (tokens text)) where
+module _ (text buffer filled : List ℕ) (n : ℕ) (r : readOf text buffer ≡ (reading.frames n, filled)) (x : Rule) (spelled : yield x ≡ words (tokens text)) where
   pub text-to-verdict : (w : ℕ) (win : List ℤ) → openDef (take (n * frameBytes) filled) w win .answer ≡ opened → (cs : List Call) (i : ℕ)
       → i < length (handedOut (take (n * frameBytes) filled) w win cs)
       → getD (handedOut (take (n * frameBytes) filled) w win cs) i Unknown

@@ -7,8 +7,8 @@ use Prim.Native.Nat.{ℕ}
 use lib.IntN.{ℤ}
 use lib.ListN.{length}
 use Rattle.rule.specs.Check.{checkedOf}
-use Rattle.rule.specs.declared.Checked.{Checked}
-use Rattle.rule.specs.declared.Checked.the-variants.{Accepted, Refused}
+use Rattle.rule.specs.CheckTold.{CheckAnswer}
+use Rattle.rule.specs.CheckTold as checking
 use Rattle.log.specs.Line.{lineOf}
 use Rattle.verdict.specs.declared.Verdict.{Verdict}
 use Rattle.checker.specs.Answer.{opened, accepted, verdict}
@@ -25,9 +25,9 @@ module _ (frames : List ℕ) (w : ℕ) (win : List ℤ) where
   abbrev KeptO : OpenResult → Type 0
   KeptO x = x .answer ≢ opened → (x .state ≡ zeroState) × (x .words ≡ win)
 
-  open-by : (c : Checked) → KeptO (afterFrames frames w win c)
-  open-by (Refused r) = λ h. (refl, refl)
-  open-by Accepted =
+  open-by : (c : CheckAnswer) → KeptO (afterFrames frames w win c)
+  open-by (checking.refused number place) = λ h. (refl, refl)
+  open-by checking.accepted =
       cond-case KeptO (widthFits w && windowFits w win) (openedAs frames w) (notOpened win 11 0) (λ _ h. absurd (h refl)) (λ _ h. (refl, refl))
 
   pub open-unchanged : KeptO (openDef frames w win)

@@ -11,7 +11,7 @@ use Rattle.rule.specs.Frames.{frameCount}
 use Rattle.rule.specs.References.{referenceByte, referenceOf, referencesTo}
 use Rattle.rule.specs.Check.{checkedOf}
 use Rattle.rule.specs.declared.Frame.{Frame}
-use Rattle.rule.specs.declared.Checked.the-variants.{Accepted}
+use Rattle.rule.specs.CheckTold as checking
 use Rattle.verdict.specs.Found.{instanceLimit}
 use Rattle.checker.specs.Limits.{lineLimit}
 use Rattle.checker.specs.Base.{startAt}
@@ -47,7 +47,7 @@ pub record Startable (p : ℕ) (x : Frame) : Type 0 where
 
 -- what a pass over frames requires: not frames that "opening would refuse", nor "p over 1,009,999"
 pub record Passable (s : List ℕ) (p : ℕ) : Type 0 where
-  pub accepted : checkedOf s ≡ Accepted
+  pub accepted : checkedOf s ≡ checking.accepted
   pub instance-in : p ≤ instanceLimit
 
 -- a count by the event's base: "a count over 1,000,000 .. a nonzero count of an unreferenced event, or a count above base plus W"

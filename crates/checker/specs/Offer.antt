@@ -3,7 +3,7 @@ use mathlib.Core.Path.{_≡_}
 use mathlib.Core.List.{List}
 use Prim.Native.Nat.{ℕ, _≤_}
 use Rattle.rule.specs.Check.{checkedOf}
-use Rattle.rule.specs.declared.Checked.the-variants.{Accepted}
+use Rattle.rule.specs.CheckTold as checking
 use Rattle.verdict.specs.Found.{instanceLimit}
 use Rattle.checker.specs.Limits.{reportLeast}
 use Rattle.checker.specs.State.{sumOf}
@@ -17,6 +17,6 @@ pub record Countable (t : Totals) (p : ℕ) : Type 0 where
 
 -- of frames, an instance, W, the window's length and the buffer's: what 12, 13 and 14 let through
 pub record Offerable (frames : List ℕ) (p w n m : ℕ) : Type 0 where
-  pub accepted : checkedOf frames ≡ Accepted
+  pub accepted : checkedOf frames ≡ checking.accepted
   pub look : Lookable p w n
   pub room : reportLeast ≤ m

@@ -7,8 +7,8 @@ use lib.Dec.{leb, eqb}
 use lib.IntN.{ℤ, pos}
 use lib.ListN.{length, replicate}
 use Rattle.rule.specs.Check.{checkedOf}
-use Rattle.rule.specs.declared.Checked.{Checked}
-use Rattle.rule.specs.declared.Checked.the-variants.{Accepted, Refused}
+use Rattle.rule.specs.CheckTold.{CheckAnswer}
+use Rattle.rule.specs.CheckTold as checking
 use Rattle.checker.specs.Limits.{widthLimit, windowWords}
 use Rattle.checker.specs.Answer.{Answer, opened, refused, openTold}
 use Rattle.checker.specs.State.{zeroState, freshState}
@@ -38,9 +38,9 @@ abbrev pub openedAs : List ℕ → ℕ → OpenResult
 openedAs frames w = record { answer = opened; state = freshState frames w; words = replicate (windowWords w) (pos 0) }
 
 -- 11 after the checks of frames: "W outside 1 to 256, or a window not 32 × W words"
-abbrev pub afterFrames : List ℕ → ℕ → List ℤ → Checked → OpenResult
-afterFrames frames w win (Refused r) = notOpened win (r .number) (r .place)
-afterFrames frames w win Accepted = cond (widthFits w && windowFits w win) (openedAs frames w) (notOpened win 11 0)
+abbrev pub afterFrames : List ℕ → ℕ → List ℤ → CheckAnswer → OpenResult
+afterFrames frames w win (checking.refused number place) = notOpened win number place
+afterFrames frames w win checking.accepted = cond (widthFits w && windowFits w win) (openedAs frames w) (notOpened win 11 0)
 
 -- "opening refuses exactly where one of its checks holds": for every slice of frames, every W and every window
 unfoldable pub openDef : List ℕ → ℕ → List ℤ → OpenResult

@@ -15,7 +15,7 @@ use Rattle.rule.specs.Tree.{Reference, LimitsR, wordBytes}
 use Rattle.rule.specs.References.{referenceByte, referenceOf}
 use Rattle.rule.specs.Check.{checkedOf}
 use Rattle.rule.specs.declared.Frame.{Frame}
-use Rattle.rule.specs.declared.Checked.the-variants.{Accepted}
+use Rattle.rule.specs.CheckTold as checking
 use Rattle.verdict.specs.Found.{instanceLimit, Found}
 use Rattle.verdict.specs.Value.{noteOf}
 use Rattle.checker.specs.Limits.{widthLimit, windowWords, reportLeast}
@@ -52,7 +52,7 @@ Limited x = x .kind ≡ referenceByte → LimitsR (referenceOf x)
 
 -- of a report's buffer of n bytes, not "under 166 bytes", and of the arrays
 pub record Fillable (s : List ℕ) (n : ℕ) (marks : List ℕ) (notes : List ℤ) : Type 0 where
-  pub accepted : checkedOf s ≡ Accepted
+  pub accepted : checkedOf s ≡ checking.accepted
   pub room : reportLeast ≤ n
   pub marked : frameCount s ≤ length marks
   pub noted : frameCount s ≤ length notes

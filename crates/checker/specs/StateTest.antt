@@ -6,8 +6,8 @@ use lib.Dec.{leb, eqb}
 use Rattle.rule.specs.Limits.{eventLimit, frameLimit}
 use Rattle.rule.specs.Tree.{Reference}
 use Rattle.rule.specs.Check.{checkedOf}
-use Rattle.rule.specs.declared.Checked.{Checked}
-use Rattle.rule.specs.declared.Checked.the-variants.{Accepted, Refused}
+use Rattle.rule.specs.CheckTold.{CheckAnswer}
+use Rattle.rule.specs.CheckTold as checking
 use Rattle.verdict.specs.Found.{instanceLimit}
 use Rattle.checker.specs.Limits.{lineLimit}
 use Rattle.checker.specs.Base.{referenced, base}
@@ -16,9 +16,9 @@ use Rattle.checker.specs.Open.{widthFits}
 use Rattle.checker.specs.declared.State.{State}
 
 -- not "frames .. opening would refuse"
-abbrev pub isAccepted : Checked → Bool
-isAccepted Accepted = true
-isAccepted (Refused r) = false
+abbrev pub isAccepted : CheckAnswer → Bool
+isAccepted checking.accepted = true
+isAccepted (checking.refused number place) = false
 
 -- not "a state whose frames or W opening would refuse"; there is room for 64 frames
 unfoldable pub rulePasses : State → Bool

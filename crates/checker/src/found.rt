@@ -16,7 +16,7 @@ ghost use Rattle.rule.specs.Limits.{frameLimit};
 ghost use Rattle.rule.specs.Tree.{LimitsR};
 ghost use Rattle.rule.specs.References.{referenceByte, referenceOf};
 ghost use Rattle.rule.specs.Check.{checkedOf};
-ghost use Rattle.rule.specs.declared.Checked.{Checked};
+ghost use Rattle.rule.specs.CheckTold as checking;
 ghost use Rattle.verdict.specs.Found.{foundAt};
 ghost use Rattle.checker.specs.Limits.{windowWords};
 ghost use Rattle.checker.specs.Ring.{wordAt};
@@ -93,7 +93,7 @@ pub fn look(
     marks: &mut [u8; 64],
     notes: &mut [i32; 64],
 )
-    requires { ⌜ (checkedOf (now frames) ≡ Checked.Accepted) × (Lookable (p .0) width (length (now window))
+    requires { ⌜ (checkedOf (now frames) ≡ checking.accepted) × (Lookable (p .0) width (length (now window))
         × ((length (now marks) ≡ frameLimit) × (length (now notes) ≡ frameLimit))) ⌝ }
     ensures { λ r. ⌜ ShowsAll (now (frames .entry)) (foundInWindow width counts (now (window .entry)) (p .0))
         (now (marks .exit)) (now (notes .exit)) ⌝ }

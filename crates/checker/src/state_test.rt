@@ -14,7 +14,8 @@ ghost use lib.Dec.{eqb};
 ghost use lib.ListN.{length, getD, take};
 ghost use Rattle.rule.specs.Limits.{eventLimit, frameLimit, frameBytes};
 ghost use Rattle.rule.specs.Check.{checkedOf};
-ghost use Rattle.rule.specs.declared.Checked.{Checked};
+ghost use Rattle.rule.specs.CheckTold.{checkTold};
+ghost use Rattle.rule.specs.CheckTold as checking;
 ghost use Rattle.checker.specs.State.{sumOf, stateFrames};
 ghost use Rattle.checker.specs.Parts.{stateOf};
 ghost use Rattle.checker.specs.StateTest.{isAccepted, allTo, statePasses};
@@ -28,7 +29,7 @@ pub struct Tested {
 
 // Whether the check of frames took them.
 fn accepted(c: Checked) -> bool
-    ensures { λ r. ⌜ r ≡ isAccepted c ⌝ }
+    ensures { λ r. ⌜ r ≡ isAccepted (checkTold c) ⌝ }
 {
     match c {
         Checked::Accepted => true,
@@ -93,7 +94,7 @@ fn unfit() -> Tested
 // Whether counts, p and totals are those of a checker with these frames.
 fn tally_fits(frames: &[u8], s: Fields) -> Tested
     requires { ⌜ (length (now frames) ≡ frameLimit * frameBytes)
-        × ((s .len ≤ frameLimit) × (checkedOf (take (s .len * frameBytes) (now frames)) ≡ Checked.Accepted)) ⌝ }
+        × ((s .len ≤ frameLimit) × (checkedOf (take (s .len * frameBytes) (now frames)) ≡ checking.accepted)) ⌝ }
     ensures { λ r. ⌜ (r .fits
         ≡ tallyFits (take (s .len * frameBytes) (now (frames .entry))) (s .width) (s .counts) (s .next .0) (s .totals))
         × (r .fits ≡ true

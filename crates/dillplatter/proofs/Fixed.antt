@@ -3,8 +3,10 @@ use mathlib.Core.Path.{_≡_, refl, sym, ap, ap₂, _∙_}
 use mathlib.Core.Bool.{Bool, true, false, cond}
 use Prim.Native.Nat.{ℕ, zero, suc}
 use lib.Dec.{eqb}
+use Rattle.rule.specs.ReadTold.{ReadAnswer, readTold}
+use Rattle.rule.specs.ReadTold as reading
 use Rattle.rule.specs.declared.Reading.{Reading}
-use Rattle.rule.specs.declared.Reading.the-variants.{Frames, Refused}
+use Rattle.rule.proofs.Main.{read-told-injective}
 use Rattle.log.specs.Earlier.{raiseTold, lowerTold}
 use Rattle.log.specs.declared.earlier.RaiseAnswer.{RaiseAnswer}
 use Rattle.log.specs.declared.earlier.RaiseAnswer.the-variants as raises
@@ -16,7 +18,7 @@ use Rattle.checker.specs.StateTest.{statePasses}
 use Rattle.checker.specs.Tariff.{bandsFit, pricesFit, centsOf, Charge, cents, turned, chargeDef}
 use Rattle.checker.specs.declared.State.{State}
 use Rattle.checker.specs.declared.Tariff.{Tariff}
-use Rattle.dillplatter.specs.Told.{AnyAnswer, read, checked, readAnswer, answerNumber, numberOf, placeOf, framesOf, conversionNumber, conversionPlace}
+use Rattle.dillplatter.specs.Told.{AnyAnswer, read, checked, ofReading, answerNumber, numberOf, placeOf, framesOf, conversionNumber, conversionPlace}
 use Rattle.dillplatter.specs.Told.{chargeNumber, chargePlace, chargeCents}
 
 -- the answer with given numbers
@@ -53,23 +55,23 @@ told-fixed s t a n p f =
     ∙ (ap (λ x. got (answerNumber t) (numberOf t) (placeOf t) x) f
     ∙ got-back t))))
 
--- the reading that is told so
-heard : AnyAnswer → Reading
-heard (read n) = Frames n
-heard (checked opened) = Frames 0
-heard (checked accepted) = Frames 0
-heard (checked ignored) = Frames 0
-heard (checked waiting) = Frames 0
-heard (checked (verdict v)) = Frames 0
-heard (checked (refused n p)) = Refused (record { number = n; place = p })
+-- the answer of `read` that is told so
+heard : AnyAnswer → ReadAnswer
+heard (read n) = reading.frames n
+heard (checked opened) = reading.frames 0
+heard (checked accepted) = reading.frames 0
+heard (checked ignored) = reading.frames 0
+heard (checked waiting) = reading.frames 0
+heard (checked (verdict v)) = reading.frames 0
+heard (checked (refused n p)) = reading.refused n p
 
-heard-back : (r : Reading) → heard (readAnswer r) ≡ r
+heard-back : (a : ReadAnswer) → heard (ofReading a) ≡ a
 unfolding heard
-heard-back (Frames n) = refl
-heard-back (Refused r) = refl
+heard-back (reading.frames n) = refl
+heard-back (reading.refused n p) = refl
 
-pub reading-fixed : (r s : Reading) → readAnswer r ≡ readAnswer s → r ≡ s
-reading-fixed r s e = sym (heard-back r) ∙ (ap heard e ∙ heard-back s)
+pub reading-fixed : (r s : Reading) → ofReading (readTold r) ≡ ofReading (readTold s) → r ≡ s
+reading-fixed r s e = read-told-injective r s (sym (heard-back (readTold r)) ∙ (ap heard e ∙ heard-back (readTold s)))
 
 -- ---- conversions: the answer with a given number and place
 gotRaise : (number place : ℕ) → RaiseAnswer

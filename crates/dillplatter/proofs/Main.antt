@@ -1,5 +1,6 @@
 -- What is proved of the library's answers, beside the contracts of its calls. Assumes nothing.
 use mathlib.Core.Path.{_≡_}
+use Rattle.rule.specs.ReadTold.{readTold}
 use Rattle.rule.specs.declared.Reading.{Reading}
 use Rattle.log.specs.Earlier.{raiseTold, lowerTold}
 use Rattle.log.specs.declared.earlier.RaiseAnswer.{RaiseAnswer}
@@ -7,7 +8,7 @@ use Rattle.log.specs.declared.earlier.LowerAnswer.{LowerAnswer}
 use Rattle.checker.specs.Tariff.{chargeDef}
 use Rattle.checker.specs.declared.State.{State}
 use Rattle.checker.specs.declared.Tariff.{Tariff}
-use Rattle.dillplatter.specs.Told.{AnyAnswer, readAnswer, answerNumber, numberOf, placeOf, framesOf, conversionNumber, conversionPlace}
+use Rattle.dillplatter.specs.Told.{AnyAnswer, ofReading, answerNumber, numberOf, placeOf, framesOf, conversionNumber, conversionPlace}
 use Rattle.dillplatter.specs.Told.{chargeNumber, chargePlace, chargeCents}
 use Rattle.dillplatter.proofs.Fixed as fixed
 
@@ -16,7 +17,7 @@ pub told-fixed : (s t : AnyAnswer) → answerNumber s ≡ answerNumber t → num
 told-fixed = fixed.told-fixed
 
 -- What is told of a reading fixes the reading.
-pub reading-fixed : (r s : Reading) → readAnswer r ≡ readAnswer s → r ≡ s
+pub reading-fixed : (r s : Reading) → ofReading (readTold r) ≡ ofReading (readTold s) → r ≡ s
 reading-fixed = fixed.reading-fixed
 
 -- The number and the place fix the answer to a conversion, up and down.

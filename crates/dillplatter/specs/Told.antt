@@ -3,8 +3,8 @@
 use mathlib.Core.List.{List}
 use Prim.Native.Nat.{ℕ}
 use lib.IntN.{ℤ}
-use Rattle.rule.specs.declared.Reading.{Reading}
-use Rattle.rule.specs.declared.Reading.the-variants.{Frames, Refused}
+use Rattle.rule.specs.ReadTold.{ReadAnswer}
+use Rattle.rule.specs.ReadTold as reading
 use Rattle.log.specs.Earlier as log
 use Rattle.verdict.specs.declared.Verdict.the-variants.{True, False, Unknown}
 use Rattle.checker.specs.Answer.{Answer, opened, accepted, ignored, waiting, verdict, refused}
@@ -21,9 +21,9 @@ pub data AnyAnswer : Type 0 where
   checked : Answer → AnyAnswer
 
 -- what `read` answers, a refusal as the checker tells it
-abbrev pub readAnswer : Reading → AnyAnswer
-readAnswer (Frames n) = read n
-readAnswer (Refused r) = checked (refused (r .number) (r .place))
+abbrev pub ofReading : ReadAnswer → AnyAnswer
+ofReading (reading.frames n) = read n
+ofReading (reading.refused number place) = checked (refused number place)
 
 -- which answer
 abbrev pub answerNumber : AnyAnswer → ℕ

@@ -14,7 +14,7 @@ ghost use Rattle.checker.specs.Feed.{feedDef};
 ghost use Rattle.checker.specs.Pull.{pullDef};
 ghost use Rattle.checker.specs.View.{viewDef};
 ghost use Rattle.checker.specs.Tariff.{chargeDef};
-ghost use Rattle.dillplatter.specs.Told.{readAnswer, answerNumber, numberOf, placeOf, framesOf, callOutcome, openNumbers};
+ghost use Rattle.dillplatter.specs.Told.{ofReading, answerNumber, numberOf, placeOf, framesOf, callOutcome, openNumbers};
 ghost use Rattle.dillplatter.specs.Told.{feedNumbers, pullNumbers};
 ghost use Rattle.dillplatter.specs.Told.{conversionNumber, conversionPlace, chargeNumber, chargePlace, chargeCents};
 
@@ -30,10 +30,10 @@ pub struct CallResult {
 // Reads a rule's text into frames, for every text and every buffer.
 #[no_mangle]
 pub extern "C" fn dillplatter_read(text: &[u8], frames: &mut [u8]) -> ReadResult
-    ensures { λ r. ⌜ (r .answer ≡ answerNumber (readAnswer (readOf (now (text .entry)) (now (frames .entry)) .0)))
-        × ((r .number ≡ numberOf (readAnswer (readOf (now (text .entry)) (now (frames .entry)) .0)))
-        × ((r .place ≡ placeOf (readAnswer (readOf (now (text .entry)) (now (frames .entry)) .0)))
-        × ((r .frames ≡ framesOf (readAnswer (readOf (now (text .entry)) (now (frames .entry)) .0)))
+    ensures { λ r. ⌜ (r .answer ≡ answerNumber (ofReading (readOf (now (text .entry)) (now (frames .entry)) .0)))
+        × ((r .number ≡ numberOf (ofReading (readOf (now (text .entry)) (now (frames .entry)) .0)))
+        × ((r .place ≡ placeOf (ofReading (readOf (now (text .entry)) (now (frames .entry)) .0)))
+        × ((r .frames ≡ framesOf (ofReading (readOf (now (text .entry)) (now (frames .entry)) .0)))
         × (now (frames .exit) ≡ readOf (now (text .entry)) (now (frames .entry)) .1)))) ⌝ }
 {
     let a = rule::read(text, frames);

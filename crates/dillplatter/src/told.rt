@@ -8,9 +8,10 @@ use log::RaiseAnswer;
 use rule::Reading;
 use rule::Refusal;
 ghost use mathlib.Core.Path.{_≡_};
+ghost use Rattle.rule.specs.ReadTold.{readTold};
 ghost use Rattle.log.specs.Earlier.{raiseTold, lowerTold};
 ghost use Rattle.checker.specs.Answer.{openTold, feedTold, pullTold, refused};
-ghost use Rattle.dillplatter.specs.Told.{checked, readAnswer, answerNumber, numberOf, placeOf, framesOf};
+ghost use Rattle.dillplatter.specs.Told.{checked, ofReading, answerNumber, numberOf, placeOf, framesOf};
 ghost use Rattle.checker.specs.Tariff.{chargeTold};
 ghost use Rattle.dillplatter.specs.Told.{conversionNumber, conversionPlace, chargeNumber, chargePlace, chargeCents};
 
@@ -110,9 +111,9 @@ pub struct ReadResult {
 
 // An answer to reading.
 pub fn reading(a: Reading) -> ReadResult
-    ensures { λ r. ⌜ (r .answer ≡ answerNumber (readAnswer a))
-        × ((r .number ≡ numberOf (readAnswer a)) × ((r .place ≡ placeOf (readAnswer a))
-        × (r .frames ≡ framesOf (readAnswer a)))) ⌝ }
+    ensures { λ r. ⌜ (r .answer ≡ answerNumber (ofReading (readTold a)))
+        × ((r .number ≡ numberOf (ofReading (readTold a))) × ((r .place ≡ placeOf (ofReading (readTold a)))
+        × (r .frames ≡ framesOf (ofReading (readTold a))))) ⌝ }
 {
     match a {
         Reading::Frames(n) => ReadResult {

@@ -14,8 +14,8 @@ use Rattle.rule.specs.Order.{orderOf, InOrder}
 use Rattle.rule.specs.Sizes.{sizesFit}
 use Rattle.rule.specs.Check.{wholeFrames, afterOrder, checkedOf}
 use Rattle.rule.proofs.CheckNumbers.{numberOf}
-use Rattle.rule.specs.Opening.{Whole, refused}
-use Rattle.rule.specs.declared.Checked.the-variants.{Accepted}
+use Rattle.rule.specs.Opening.{Whole}
+use Rattle.rule.specs.CheckTold as checking
 use Rattle.rule.specs.declared.order.Ordered.{Ordered}
 use Rattle.rule.specs.declared.order.Ordered.the-variants.{Fine, At}
 use Rattle.rule.proofs.FrameKinds.{kind-at}
@@ -30,25 +30,25 @@ pub record Passed (s : List ℕ) : Type 0 where
   pub order : InOrder s
   pub sizes : sizesFit s ≡ true
 
-not-refused : (n p : ℕ) → (n ≡ 0 → ⊥) → refused n p ≡ Accepted → ⊥
+not-refused : (n p : ℕ) → (n ≡ 0 → ⊥) → checking.refused n p ≡ checking.accepted → ⊥
 not-refused n p h e = h (ap numberOf e)
 
-sizes-by : (t u : Bool) → cond t (refused 7 0) (cond u Accepted (refused 8 0)) ≡ Accepted → u ≡ true
+sizes-by : (t u : Bool) → cond t (checking.refused 7 0) (cond u checking.accepted (checking.refused 8 0)) ≡ checking.accepted → u ≡ true
 sizes-by true u e = absurd (not-refused 7 0 (λ z. omega arith) e)
 sizes-by false true e = refl
 sizes-by false false e = absurd (not-refused 8 0 (λ z. omega arith) e)
 
-order-by : (s : List ℕ) (o : Ordered) → orderOf s ≡ o → afterOrder s o ≡ Accepted → InOrder s × (sizesFit s ≡ true)
+order-by : (s : List ℕ) (o : Ordered) → orderOf s ≡ o → afterOrder s o ≡ checking.accepted → InOrder s × (sizesFit s ≡ true)
 order-by s (At p) g e = absurd (not-refused 10 p (λ z. omega arith) e)
 order-by s (Fine m) g e = (fine-order s m g, sizes-by (eqb m 0) (sizesFit s) e)
 
-passed-by : (s : List ℕ) (t : Bool) → wholeFrames (length s) ≡ t → cond t (afterOrder s (orderOf s)) (refused 9 0) ≡ Accepted → Passed s
+passed-by : (s : List ℕ) (t : Bool) → wholeFrames (length s) ≡ t → cond t (afterOrder s (orderOf s)) (checking.refused 9 0) ≡ checking.accepted → Passed s
 passed-by s true w e =
     let q = order-by s (orderOf s) refl e in
     record { whole = true-whole (length s) w; order = q .0; sizes = q .1 }
 passed-by s false w e = absurd (not-refused 9 0 (λ z. omega arith) e)
 
-pub passed : (s : List ℕ) → checkedOf s ≡ Accepted → Passed s
+pub passed : (s : List ℕ) → checkedOf s ≡ checking.accepted → Passed s
 unfolding checkedOf
 passed s e = passed-by s (wholeFrames (length s)) refl e
 

@@ -1,18 +1,21 @@
--- Trees and derivations: each tree has one, and each derivation comes from trees. Assumes nothing.
+-- Trees and derivations: each tree has one, and each derivation comes from trees; and which tokens no tree spells. Assumes nothing.
 use mathlib.Core.Path.{_≡_, refl, ap, sym, subst, _∙_}
-use mathlib.Core.List.{List, [], _∷_, _++_}
+use mathlib.Core.List.{List, [], _∷_, _++_, List·Memᴰ, List·Memᴰ·head, List·Memᴰ·tail}
 use mathlib.Core.Option.{Option, none, some}
 use Prim.Native.Nat.{ℕ}
+use native.Mathlib.Omega.{arith}
+use Rattle.rule.specs.declared.Token.{Token}
 use Rattle.rule.specs.declared.parts.Place.{Place}
 use Rattle.rule.specs.declared.parts.Role.{Role}
 use Rattle.rule.specs.declared.parts.Role.the-variants.{Event, Note}
 use Rattle.rule.specs.declared.parts.Sign.{Sign}
+use Rattle.rule.specs.declared.parts.Sign.the-variants.{Plus, Minus}
 use Rattle.rule.specs.declared.parts.Scale.the-variants.{Once, Times}
 use Rattle.rule.specs.declared.parts.Shift.{Shift}
 use Rattle.rule.specs.declared.parts.Shift.the-variants.{Unshifted, By}
-use Rattle.rule.specs.Token.{indexKind, barsKind, ampersandsKind, arrowKind, absKind}
-use Rattle.rule.specs.Class.{openBracket, openParen, star, closeParen, bang, openBrace, closeBracket}
-use Rattle.rule.specs.Grammar.{Word, mark, name, number, Rel, Index, index, Cond, a-disj, Disj, a-conj, or, Conj, a-unit, and, CUnit, Sum, a-prod, add, Prod, a-factor, multiply, Factor, Rule, rule, yield, relMark, signMark, spellShift, spellIndex, spellCond, spellDisj, spellConj, spellUnit, spellSum, spellProd, spellFactor, spellNames}
+use Rattle.rule.specs.Token.{indexKind, barsKind, ampersandsKind, arrowKind, absKind, notesKind, foreignKind}
+use Rattle.rule.specs.Class.{openBracket, openParen, star, closeParen, bang, openBrace, closeBrace, closeBracket, semicolon}
+use Rattle.rule.specs.Grammar.{Word, mark, name, number, Rel, Index, index, Cond, a-disj, Disj, a-conj, or, Conj, a-unit, and, CUnit, Sum, a-prod, add, Prod, a-factor, multiply, Factor, Rule, rule, yield, relMark, signMark, spellShift, spellIndex, spellCond, spellDisj, spellConj, spellUnit, spellSum, spellProd, spellFactor, spellNames, place, wordOf, words}
 use Rattle.rule.specs.Frames.{Arithmetic, Connective, Kind}
 use Rattle.rule.specs.Draft.{ref, relationOf, signOf}
 use Rattle.rule.specs.Measure.{scaleNumbers, shiftNumbers}
@@ -20,6 +23,7 @@ use Rattle.rule.specs.Items.{itemsCond, itemsDisj, itemsConj, itemsUnit,
 use Rattle.rule.specs.Machine.{Act, out, Sym, unit, ands, ors, arrow, factor, muls, adds, rel, want, name-of, names-of, ref-event, ref-index, ref-shift, ref-by, doing, prod, sum, conj, condition, start}
 use Rattle.rule.proofs.GrammarWalk.{readEach, readNumber, readItems, readNames, readRule, read-in, read-two, read-one-in, read-two-in}
 use Rattle.rule.specs.Grammar
+use Rattle.rule.proofs.FrameDrafts.{All}
 use Rattle.rule.proofs.GrammarDerivations.{Derives, done, token, does, not, group, relation, compare, and-more, and-none, or-more, or-none, implies, implies-none, add-more, add-none, mul-more, mul-none, literal, var, parens, absolute, reference, event, scaled, unscaled, shifted, shift-none, by-number, named, name-more, name-none}
 
 module _ (M : Type 0) (act : Act → M → M) where
@@ -254,3 +258,88 @@ module _ (M : Type 0) (act : Act → M → M) where
           let h = f .1 .1 .1 .1 in
           let c = h .1 .1 .1 .1 in
           (rule (f .1 .0) (f .1 .1 .0) (h .1 .0) (h .1 .1 .0) (whole-cond (c .0) (c .1 .0) (c .1 .1 .0) (c .1 .1 .1 .0)), rw (spell-whole-cond (c .0) (c .1 .0) (c .1 .1 .0) (c .1 .1 .1 .0) []) (sym (q .spelled)))
+
+-- ---- no word of a tree is a token that no rule has
+abbrev Had : Word → Type 0
+Had (mark k) = k ≡ foreignKind → ⊥
+Had (name p) = Unit {0}
+Had (number p) = Unit {0}
+
+rel-had : (c : Rel) → Had (mark (relMark c))
+rel-had Grammar.equal e = omega arith
+rel-had Grammar.unequal e = omega arith
+rel-had Grammar.less e = omega arith
+rel-had Grammar.at-most e = omega arith
+rel-had Grammar.more e = omega arith
+rel-had Grammar.at-least e = omega arith
+
+sign-had : (g : Sign) → Had (mark (signMark g))
+sign-had Plus e = omega arith
+sign-had Minus e = omega arith
+
+hadShift : (o : Shift) (r : List Word) → All Had r → All Had (spellShift o r)
+hadShift Unshifted r h = h
+hadShift (By g p) r h = (sign-had g, (tt, h))
+
+hadIndex : (x : Index) (r : List Word) → All Had r → All Had (spellIndex x r)
+hadIndex (index Once o) r h = ((λ e. omega arith), hadShift o r h)
+hadIndex (index (Times p) o) r h = (tt, ((λ e. omega arith), ((λ e. omega arith), hadShift o r h)))
+
+mutual
+  hadCond : (x : Cond) (r : List Word) → All Had r → All Had (spellCond x r)
+  hadCond (a-disj x) r h = hadDisj x r h
+  hadCond (Grammar.implies x y) r h = hadDisj x (mark arrowKind ∷ spellCond y r) ((λ e. omega arith), hadCond y r h)
+
+  hadDisj : (x : Disj) (r : List Word) → All Had r → All Had (spellDisj x r)
+  hadDisj (a-conj x) r h = hadConj x r h
+  hadDisj (or x y) r h = hadDisj x (mark barsKind ∷ spellConj y r) ((λ e. omega arith), hadConj y r h)
+
+  hadConj : (x : Conj) (r : List Word) → All Had r → All Had (spellConj x r)
+  hadConj (a-unit x) r h = hadUnit x r h
+  hadConj (and x y) r h = hadConj x (mark ampersandsKind ∷ spellUnit y r) ((λ e. omega arith), hadUnit y r h)
+
+  hadUnit : (x : CUnit) (r : List Word) → All Had r → All Had (spellUnit x r)
+  hadUnit (Grammar.not x) r h = ((λ e. omega arith), hadUnit x r h)
+  hadUnit (Grammar.group x) r h = ((λ e. omega arith), hadCond x (mark closeBrace ∷ r) ((λ e. omega arith), h))
+  hadUnit (Grammar.relation x c y) r h = hadSum x (mark (relMark c) ∷ spellSum y r) (rel-had c, hadSum y r h)
+
+  hadSum : (x : Sum) (r : List Word) → All Had r → All Had (spellSum x r)
+  hadSum (a-prod x) r h = hadProd x r h
+  hadSum (add x g y) r h = hadSum x (mark (signMark g) ∷ spellProd y r) (sign-had g, hadProd y r h)
+
+  hadProd : (x : Prod) (r : List Word) → All Had r → All Had (spellProd x r)
+  hadProd (a-factor x) r h = hadFactor x r h
+  hadProd (multiply x y) r h = hadProd x (mark star ∷ spellFactor y r) ((λ e. omega arith), hadFactor y r h)
+
+  hadFactor : (x : Factor) (r : List Word) → All Had r → All Had (spellFactor x r)
+  hadFactor (Grammar.literal p) r h = (tt, h)
+  hadFactor Grammar.var r h = ((λ e. omega arith), h)
+  hadFactor (Grammar.parens x) r h = ((λ e. omega arith), hadSum x (mark closeParen ∷ r) ((λ e. omega arith), h))
+  hadFactor (Grammar.absolute x) r h =
+      ((λ e. omega arith), ((λ e. omega arith), hadSum x (mark closeParen ∷ r) ((λ e. omega arith), h)))
+  hadFactor (Grammar.reference n e x) r h =
+      (tt, ((λ e. omega arith), (tt, ((λ e. omega arith), hadIndex x (mark closeBracket ∷ mark closeParen ∷ r) ((λ e. omega arith), ((λ e. omega arith), h))))))
+
+hadNames : (ps : List Place) (r : List Word) → All Had r → All Had (spellNames ps r)
+hadNames [] r h = h
+hadNames (p ∷ ps) r h = (tt, hadNames ps r h)
+
+hadRule : (x : Rule) → All Had (yield x)
+hadRule (rule e es n ns c) = (
+  (λ e. omega arith),
+  (
+    tt,
+    hadNames es (mark semicolon ∷ mark notesKind ∷ name n ∷ spellNames ns (mark semicolon ∷ spellCond c []))
+        ((λ e. omega arith), ((λ e. omega arith), (tt, hadNames ns (mark semicolon ∷ spellCond c []) ((λ e. omega arith), hadCond c [] tt)))),
+  ),
+)
+
+-- no rule begins with tokens of which one is such
+pub no-rule-has : (x : Rule) (ts : List Token) (ws : List Word) (t : Token) → List·Memᴰ t ts → t .kind ≡ foreignKind → yield x ≡ words ts ++ ws → ⊥
+no-rule-has x ts ws t i k e = go ts i (subst (All Had) e (hadRule x))
+  where
+    go : (us : List Token) → List·Memᴰ t us → All Had (words us ++ ws) → ⊥
+    go (u ∷ us) (List·Memᴰ·head f) h =
+        let q : u .kind ≡ foreignKind = ap (λ (v : Token). v .kind) (sym f) ∙ k in
+        subst (λ (n : ℕ). Had (wordOf n (place u))) q (h .0) refl
+    go (u ∷ us) (List·Memᴰ·tail j) h = go us j (h .1)

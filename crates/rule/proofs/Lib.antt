@@ -8,6 +8,7 @@ mod TokenCodes
 mod TokenDecimals
 mod TokenLists
 mod TokenRuns
+mod TokenMatches
 mod TokenExamples
 -- The grammar: what reading a tree does, derivations, and the machine that takes exactly what trees spell.
 mod GrammarWalk
@@ -60,6 +61,7 @@ mod FrameFilling
 mod FrameTrees
 mod FrameExamples
 -- Answers of the check of frames, and of reading.
+mod ToldAnswers
 mod CheckNumbers
 mod CheckAnswers
 mod CheckExactly

@@ -4,8 +4,9 @@ use mathlib.Core.Logic.{_↔_}
 use mathlib.Core.List.{List}
 use Prim.Native.Nat.{ℕ, _≤_, _<_, zero-le}
 use lib.ListN.{length, getD}
-use Rattle.rule.specs.Class.{letter, digit, blank, classOf, Letters, OfClass}
+use Rattle.rule.specs.Class.{letter, digit, blank, mark, foreign, classOf, Letters, OfClass}
 use Rattle.rule.specs.Token.{endKind, nameKind, numberKind, eventsKind, notesKind, indexKind, absKind, eventsWord, notesWord, indexWord, absWord, wordKind, tokenAt, spelling, tokens, IsWord, Rising}
+use Rattle.rule.specs.Token.{foreignKind, LongestMatch, OfToken}
 use Rattle.rule.specs.Name.{longName, nameCode}
 use Rattle.rule.specs.Number.{most, numberValue}
 use Rattle.rule.specs.Frames.{Bytes}
@@ -13,32 +14,38 @@ use Rattle.rule.specs.Tree.{Limits, postfix, IsRule, references, parts, 
 use Rattle.rule.specs.References.{referenceCount}
 use Rattle.rule.specs.Build.{treeOf}
 use Rattle.rule.specs.Check.{checkedOf}
-use Rattle.rule.specs.Opening.{Whole, PlaceOf10, Opening, Proper, refused}
-use Rattle.rule.specs.declared.Checked.{Checked}
-use Rattle.rule.specs.declared.Checked.the-variants.{Accepted}
+use Rattle.rule.specs.Opening.{Whole, PlaceOf10, Opening, Proper}
+use Rattle.rule.specs.CheckTold.{CheckAnswer, checkTold}
+use Rattle.rule.specs.CheckTold as checking
 use Rattle.rule.proofs.TokenWords as words
 use Rattle.rule.proofs.TokenCodes as codes
 use Rattle.rule.proofs.TokenDecimals as decimals
 use Rattle.rule.proofs.TokenLists as lexing
 use Rattle.rule.proofs.TokenRuns as runs
+use Rattle.rule.proofs.TokenMatches as matching
+use Rattle.rule.proofs.GrammarTrees
+use Rattle.rule.proofs.ToldAnswers as told
 use Rattle.rule.proofs.FrameRules
 use Rattle.rule.proofs.FrameReferences
 use Rattle.rule.proofs.CheckAnswers
 use Rattle.rule.proofs.CheckExactly
-use mathlib.Core.List.{[], List·Memᴰ}
-use Prim.Native.Nat.{_*_}
+use mathlib.Core.List.{[], _++_, List·Memᴰ}
+use Prim.Native.Nat.{_+_, _*_}
 use lib.ListN.{take}
 use Rattle.rule.specs.Limits.{frameBytes, bufferBytes}
-use Rattle.rule.specs.Grammar.{Rule, yield, Wrong-at}
+use Rattle.rule.specs.Grammar.{Word, Rule, yield, Wrong-at}
 use Rattle.rule.specs.Grammar.{words as spelled}
 use Rattle.rule.specs.Measure.{frames, Named, names, Sized, numbers}
 use Rattle.rule.specs.Spelling.{TokenOf, nameAt, numberAt, decimal, letters}
 use Rattle.rule.specs.Reading.{readOf}
 use Rattle.rule.specs.Meaning.{meaning}
-use Rattle.rule.specs.Answers.{Spelled, BadName, NamesGood, BadNumber, NumbersGood, Oversized, Within, ReadAs, Answered, refusedAs}
+use Rattle.rule.specs.Answers.{Spelled, BadName, NamesGood, BadNumber, NumbersGood, Oversized, Within, ReadAs, Answered}
 use Rattle.rule.specs.Answers as answers
 use Rattle.rule.specs.declared.Token.{Token}
-use Rattle.rule.specs.declared.Reading.the-variants as reading
+use Rattle.rule.specs.ReadTold.{ReadAnswer, readTold}
+use Rattle.rule.specs.ReadTold as reading
+use Rattle.rule.specs.declared.Checked.{Checked}
+use Rattle.rule.specs.declared.Reading.{Reading}
 use Rattle.rule.proofs.SpellSame
 use Rattle.rule.proofs.SpellTrees
 use Rattle.rule.proofs.FrameTrees
@@ -68,6 +75,25 @@ word-letters = runs.word-letters
 pub word-longest : (text : List ℕ) (at : ℕ) → tokenAt text at .end < length text → IsWord (tokenAt text at .kind) → classOf (getD text (tokenAt text at .end) 0) ≡ letter → ⊥
 word-longest = runs.word-longest
 
+-- Marks take the longest match: of the quoted marks that stand there the token is the longest; where none does, it is the byte alone,
+-- a token that no rule has. So is a lone `|` or `&`.
+pub marks-longest : (text : List ℕ) (at : ℕ) → tokenAt text at .start < length text
+    → classOf (getD text (tokenAt text at .start) 0) ≡ mark → LongestMatch text (tokenAt text at)
+marks-longest = matching.marks-longest
+
+-- A foreign byte is such a token by itself.
+pub foreign-alone : (text : List ℕ) (at : ℕ) → tokenAt text at .start < length text
+    → classOf (getD text (tokenAt text at .start) 0) ≡ foreign → (tokenAt text at .kind ≡ foreignKind) × (tokenAt text at .end ≡ tokenAt text at .start + 1)
+foreign-alone = matching.foreign-alone
+
+-- No rule has it, nor begins with tokens of which one is such.
+pub no-rule-has : (x : Rule) (ts : List Token) (ws : List Word) (t : Token) → List·Memᴰ t ts → t .kind ≡ foreignKind → yield x ≡ spelled ts ++ ws → ⊥
+no-rule-has = GrammarTrees.no-rule-has
+
+-- The tokens and the blanks together are the whole text: a byte of it is a token's exactly where it is no blank.
+pub whole-text : (text : List ℕ) (k : ℕ) → k < length text → OfToken (tokens text) k ↔ (classOf (getD text k 0) ≡ blank → ⊥)
+whole-text = matching.whole-text
+
 -- A number is a run of digits, as long as can be.
 pub number-digits : (text : List ℕ) (at : ℕ) → tokenAt text at .kind ≡ numberKind → OfClass digit (spelling text (tokenAt text at))
 number-digits = runs.number-digits
@@ -94,7 +120,7 @@ number-decides = decimals.number-decides
 -- ---- frames
 
 -- accepted: exactly the frames of a tree within the limits, at most 64, with a reference, every magnitude at most 2^62
-pub frames-exactly : {s : List ℕ} → Bytes s → (checkedOf s ≡ Accepted) ↔ Proper s
+pub frames-exactly : {s : List ℕ} → Bytes s → (checkedOf s ≡ checking.accepted) ↔ Proper s
 frames-exactly = CheckExactly.accepted-iff
 
 -- bytes are the frames of one tree only
@@ -107,11 +133,11 @@ tree-of = FrameRules.tree-of
 
 -- refused with 10 at p: exactly where the frames before p begin some rule of some length, and with the frame at p none;
 -- at their count, where only the end is wrong
-pub place-10 : {s : List ℕ} → Bytes s → (p : ℕ) → (checkedOf s ≡ refused 10 p) ↔ (Whole (length s) × PlaceOf10 s p)
+pub place-10 : {s : List ℕ} → Bytes s → (p : ℕ) → (checkedOf s ≡ checking.refused 10 p) ↔ (Whole (length s) × PlaceOf10 s p)
 place-10 = CheckExactly.place-iff
 
 -- at most 32 references in 64 frames
-pub few-references : {s : List ℕ} → Bytes s → checkedOf s ≡ Accepted → referenceCount s ≤ 32
+pub few-references : {s : List ℕ} → Bytes s → checkedOf s ≡ checking.accepted → referenceCount s ≤ 32
 few-references = CheckExactly.few
 
 -- and the count is of the references that the tree names
@@ -119,10 +145,23 @@ pub count-references : {s : List ℕ} (r : IsRule s) → referenceCount s ≡ le
 count-references = FrameReferences.count-of
 
 -- every answer, 9, 10, 7, 8 or accepted, in the words of trees
-pub opening-iff : {s : List ℕ} → Bytes s → (o : Checked) → (checkedOf s ≡ o) ↔ Opening s o
+pub opening-iff : {s : List ℕ} → Bytes s → (o : CheckAnswer) → (checkedOf s ≡ o) ↔ Opening s o
 opening-iff = CheckAnswers.opening-iff
 
+-- what is told of an answer fixes the answer, so that the contract of `check` allows one answer only
+pub check-told-injective : (a b : Checked) → checkTold a ≡ checkTold b → a ≡ b
+check-told-injective = told.check-told-injective
+
 -- ---- reading
+
+-- every answer of `read`, 1 to 8 or accepted, with the buffer after it: exactly the one with what holds of the text and what the
+-- earlier checks leave
+pub read-iff : (text b : List ℕ) (a : ReadAnswer × List ℕ) → (readOf text b ≡ a) ↔ Answered text b a
+read-iff = ReadPlaces.read-iff
+
+-- what is told of an answer fixes the answer, so that the contract of `read` allows one answer only
+pub read-told-injective : (a b : Reading) → readTold a ≡ readTold b → a ≡ b
+read-told-injective = told.read-told-injective
 
 -- each answer of `read`, with what holds of the text and what the earlier checks leave: 1 to 8 in their order
 pub read-answers : (text b : List ℕ) → Answered text b (readOf text b)
@@ -130,15 +169,15 @@ read-answers = ReadAnswers.answered
 
 -- accepted: exactly where a tree spells the text that 4 to 8 leave, and the buffer then holds the frames of the rule that it
 -- means, zero after the last
-pub reads-exactly : (text b : List ℕ) (n : ℕ) (s : List ℕ) → (readOf text b ≡ (reading.Frames n, s)) ↔ ((length b ≡ bufferBytes) × ReadAs text n s)
+pub reads-exactly : (text b : List ℕ) (n : ℕ) (s : List ℕ) → (readOf text b ≡ (reading.frames n, s)) ↔ ((length b ≡ bufferBytes) × ReadAs text n s)
 reads-exactly = ReadExactly.reads-exactly
 
 -- what the frames that were read hold is what the text means, whichever tree spells it
-pub read-tree : (text b : List ℕ) (n : ℕ) (s : List ℕ) → readOf text b ≡ (reading.Frames n, s) → (x : Rule) → yield x ≡ spelled (tokens text) → treeOf (take (n * frameBytes) s) ≡ meaning text x
+pub read-tree : (text b : List ℕ) (n : ℕ) (s : List ℕ) → readOf text b ≡ (reading.frames n, s) → (x : Rule) → yield x ≡ spelled (tokens text) → treeOf (take (n * frameBytes) s) ≡ meaning text x
 read-tree = ReadExactly.read-tree
 
 -- and each of their bytes is below 256
-pub read-bytes : (text b : List ℕ) (n : ℕ) (s : List ℕ) → readOf text b ≡ (reading.Frames n, s) → Bytes (take (n * frameBytes) s)
+pub read-bytes : (text b : List ℕ) (n : ℕ) (s : List ℕ) → readOf text b ≡ (reading.frames n, s) → Bytes (take (n * frameBytes) s)
 read-bytes = ReadExactly.read-bytes
 
 -- a text is spelled by one tree only, so that its names, numbers, depth and meaning are one too
@@ -161,34 +200,34 @@ pub meaning-count : (text : List ℕ) (x : Rule) → length (postfix (meaning te
 meaning-count = FrameTrees.meaning-count
 
 -- refused with 3 at p: exactly where p is the first token that with those before it begins no rule, or the length
-pub place-3 : (text b : List ℕ) → length b ≡ bufferBytes → answers.LengthFits (length text) → (p : ℕ) → (readOf text b .0 ≡ refusedAs 3 p) ↔ Wrong-at (length text) (tokens text) p
+pub place-3 : (text b : List ℕ) → length b ≡ bufferBytes → answers.LengthFits (length text) → (p : ℕ) → (readOf text b .0 ≡ reading.refused 3 p) ↔ Wrong-at (length text) (tokens text) p
 place-3 = ReadPlaces.place-3
 
 -- refused with 4 at p: exactly where p is the tree's first bad name
-pub place-4 : (text b : List ℕ) → length b ≡ bufferBytes → (x : Rule) → Spelled text x → (p : ℕ) → (readOf text b .0 ≡ refusedAs 4 p) ↔ BadName text x p
+pub place-4 : (text b : List ℕ) → length b ≡ bufferBytes → (x : Rule) → Spelled text x → (p : ℕ) → (readOf text b .0 ≡ reading.refused 4 p) ↔ BadName text x p
 place-4 = ReadPlaces.place-4
 
 -- refused with 5 at p: exactly where no name is bad, and p is the tree's first number beyond its limit
-pub place-5 : (text b : List ℕ) → length b ≡ bufferBytes → (x : Rule) → Spelled text x → (p : ℕ) → (readOf text b .0 ≡ refusedAs 5 p) ↔ (NamesGood text x × BadNumber text x p)
+pub place-5 : (text b : List ℕ) → length b ≡ bufferBytes → (x : Rule) → Spelled text x → (p : ℕ) → (readOf text b .0 ≡ reading.refused 5 p) ↔ (NamesGood text x × BadNumber text x p)
 place-5 = ReadPlaces.place-5
 
 -- refused with 6: exactly where no name and no number is bad, and the tree is too deep or has too many frames
-pub place-6 : (text b : List ℕ) → length b ≡ bufferBytes → (x : Rule) → Spelled text x → (readOf text b .0 ≡ refusedAs 6 0) ↔ (NamesGood text x × NumbersGood text x × Oversized text x)
+pub place-6 : (text b : List ℕ) → length b ≡ bufferBytes → (x : Rule) → Spelled text x → (readOf text b .0 ≡ reading.refused 6 0) ↔ (NamesGood text x × NumbersGood text x × Oversized text x)
 place-6 = ReadPlaces.place-6
 
 -- refused with 7: exactly where 4, 5 and 6 leave the tree, and what it means has no reference
-pub place-7 : (text b : List ℕ) → length b ≡ bufferBytes → (x : Rule) → Spelled text x → (readOf text b .0 ≡ refusedAs 7 0) ↔ (Within text x × (references (meaning text x) ≡ []))
+pub place-7 : (text b : List ℕ) → length b ≡ bufferBytes → (x : Rule) → Spelled text x → (readOf text b .0 ≡ reading.refused 7 0) ↔ (Within text x × (references (meaning text x) ≡ []))
 place-7 = ReadPlaces.place-7
 
 -- refused with 8: exactly where 4 to 7 leave the tree, and a magnitude of what it means is over 2^62
 pub place-8 : (text b : List ℕ) → length b ≡ bufferBytes → (x : Rule) → Spelled text x
-    → (readOf text b .0 ≡ refusedAs 8 0) ↔ (Within text x × (references (meaning text x) ≡ [] → ⊥) × (NoneExceeds (parts (meaning text x)) → ⊥))
+    → (readOf text b .0 ≡ reading.refused 8 0) ↔ (Within text x × (references (meaning text x) ≡ [] → ⊥) × (NoneExceeds (parts (meaning text x)) → ⊥))
 place-8 = ReadPlaces.place-8
 
 -- what `read` fills, `check` accepts
-pub read-opens : (text b : List ℕ) (n : ℕ) (s : List ℕ) → readOf text b ≡ (reading.Frames n, s) → checkedOf (take (n * frameBytes) s) ≡ Accepted
+pub read-opens : (text b : List ℕ) (n : ℕ) (s : List ℕ) → readOf text b ≡ (reading.frames n, s) → checkedOf (take (n * frameBytes) s) ≡ checking.accepted
 read-opens = ReadText.read-opens
 
 -- a refusal leaves the buffer as it was
-pub refused-unchanged : (text b : List ℕ) (k p : ℕ) (s : List ℕ) → readOf text b ≡ (refusedAs k p, s) → s ≡ b
+pub refused-unchanged : (text b : List ℕ) (k p : ℕ) (s : List ℕ) → readOf text b ≡ (reading.refused k p, s) → s ≡ b
 refused-unchanged = ReadText.refused-unchanged

@@ -19,10 +19,11 @@ use Rattle.rule.specs.Check.{checkedOf}
 use Rattle.rule.specs.Meaning.{meaning}
 use Rattle.rule.specs.Reading.{readOf}
 use Rattle.rule.proofs.ReaderFrames.{treeBytes}
-use Rattle.rule.specs.Answers.{Spelled, NamesGood, NumbersGood, Within, ReadAs, Answered, refused-1, refused-2, refused-3, refused-4, refused-5, refused-6, refused-7, refused-8, accepted, refusedAs}
+use Rattle.rule.specs.ReadTold as reading
+use Rattle.rule.specs.Answers.{Spelled, NamesGood, NumbersGood, Within, ReadAs, Answered, refused-1, refused-2, refused-3, refused-4, refused-5, refused-6, refused-7, refused-8, accepted}
 use Rattle.rule.specs.Answers as answers
-use Rattle.rule.specs.declared.Checked.{Checked}
-use Rattle.rule.specs.declared.Reading.{Reading}
+use Rattle.rule.specs.CheckTold.{CheckAnswer}
+use Rattle.rule.specs.ReadTold.{ReadAnswer}
 use Rattle.rule.specs.declared.parts.Place.{Place}
 use Rattle.rule.proofs.ReaderConclusion.{one, two-none, two-many}
 use Rattle.rule.proofs.ReadText.{outside, as-judged, either}
@@ -37,13 +38,13 @@ module _ (text b : List ℕ) (fit : length b ≡ 512) (size : answers.LengthFits
     spelled : Spelled text x
     spelled = record { sized = size; spells = y }
 
-    judged : (k p : ℕ) → outcome (codeAt text) (valueAt text) x ≡ refused-by k p → (k ≡ 0 → ⊥) → readOf text b ≡ (refusedAs k p, b)
+    judged : (k p : ℕ) → outcome (codeAt text) (valueAt text) x ≡ refused-by k p → (k ≡ 0 → ⊥) → readOf text b ≡ (reading.refused k p, b)
     judged = as-judged text b fit (size .some-bytes) (size .few-bytes) x y
 
-    back : (a : Reading × List ℕ) → readOf text b ≡ a → Answered text b a → Answered text b (readOf text b)
-    back a e = subst (λ (z : Reading × List ℕ). Answered text b z) (sym e)
+    back : (a : ReadAnswer × List ℕ) → readOf text b ≡ a → Answered text b a → Answered text b (readOf text b)
+    back a e = subst (λ (z : ReadAnswer × List ℕ). Answered text b z) (sym e)
 
-    by-check : Within text x → (a : Checked) → checkedOf (take (length (frames x) * 8) (treeBytes text x)) ≡ a → Checks (meaning text x) a → Answered text b (readOf text b)
+    by-check : Within text x → (a : CheckAnswer) → checkedOf (take (length (frames x) * 8) (treeBytes text x)) ≡ a → Checks (meaning text x) a → Answered text b (readOf text b)
     by-check w a e (no-reference h) = back _ (tree-refused text b fit x w 7 0 e) (refused-7 fit w h)
     by-check w a e (too-great h o) = back _ (tree-refused text b fit x w 8 0 e) (refused-8 fit w h o)
     by-check w a e (proper h o) =
@@ -74,22 +75,22 @@ module _ (text b : List ℕ) (fit : length b ≡ 512) (size : answers.LengthFits
 
   in-text : ((x : Rule) × (yield x ≡ words (tokens text))) ⊎ ((p : ℕ) × Wrong-at (length text) (tokens text) p) → Answered text b (readOf text b)
   in-text (inl (x, y)) = by-four x y (first-name (codeAt text) (valueAt text) [] (names x)) refl
-  in-text (inr (p, w)) = subst (λ (z : Reading × List ℕ). Answered text b z) (sym (outside text b fit (size .some-bytes) (size .few-bytes) p w)) (refused-3 fit size w)
+  in-text (inr (p, w)) = subst (λ (z : ReadAnswer × List ℕ). Answered text b z) (sym (outside text b fit (size .some-bytes) (size .few-bytes) p w)) (refused-3 fit size w)
 
 pub answered : (text b : List ℕ) → Answered text b (readOf text b)
 answered text b = go (eqb (length b) 512) refl (eqb (length text) 0) refl (ltb 1024 (length text)) refl
   where
     go : (x : Bool) → eqb (length b) 512 ≡ x → (y : Bool) → eqb (length text) 0 ≡ y → (z : Bool) → ltb 1024 (length text) ≡ z → Answered text b (readOf text b)
-    go false e y f z g = let h = eqb-false (length b) 512 e in subst (λ (a : Reading × List ℕ). Answered text b a) (sym (one text b h)) (refused-1 h)
+    go false e y f z g = let h = eqb-false (length b) 512 e in subst (λ (a : ReadAnswer × List ℕ). Answered text b a) (sym (one text b h)) (refused-1 h)
     go true e true f z g =
         let h = eqb-true (length b) 512 e in
         let i = eqb-true (length text) 0 f in
-        subst (λ (a : Reading × List ℕ). Answered text b a) (sym (two-none text b h i)) (refused-2 h (λ s. s .some-bytes i))
+        subst (λ (a : ReadAnswer × List ℕ). Answered text b a) (sym (two-none text b h i)) (refused-2 h (λ s. s .some-bytes i))
     go true e false f true g =
         let h = eqb-true (length b) 512 e in
         let i = eqb-false (length text) 0 f in
         let l : 1024 < length text = ltb-true 1024 (length text) g in
-        subst (λ (a : Reading × List ℕ). Answered text b a) (sym (two-many text b h i l)) (refused-2 h (λ s. let q = s .few-bytes in omega arith))
+        subst (λ (a : ReadAnswer × List ℕ). Answered text b a) (sym (two-many text b h i l)) (refused-2 h (λ s. let q = s .few-bytes in omega arith))
     go true e false f false g =
         let h = eqb-true (length b) 512 e in
         let s : answers.LengthFits (length text) = record { some-bytes = eqb-false (length text) 0 f; few-bytes = ltb-false 1024 (length text) g } in

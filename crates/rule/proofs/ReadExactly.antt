@@ -15,9 +15,9 @@ use Rattle.rule.specs.Measure.{frames}
 use Rattle.rule.specs.Meaning.{meaning}
 use Rattle.rule.specs.Reading.{readOf}
 use Rattle.rule.proofs.ReaderFrames.{treeBytes}
-use Rattle.rule.specs.Answers.{ReadAs, Answered, refused-1, refused-2, refused-3, refused-4, refused-5, refused-6, refused-7, refused-8, accepted, refusedAs}
-use Rattle.rule.specs.declared.Reading.{Reading}
-use Rattle.rule.specs.declared.Reading.the-variants as reading
+use Rattle.rule.specs.Answers.{ReadAs, Answered, refused-1, refused-2, refused-3, refused-4, refused-5, refused-6, refused-7, refused-8, accepted}
+use Rattle.rule.specs.ReadTold.{ReadAnswer}
+use Rattle.rule.specs.ReadTold as reading
 use Rattle.rule.proofs.FrameRules.{rule-bytes, tree-of}
 use Rattle.rule.proofs.FrameTrees.{meaning-count, meaning-limits, tree-bytes, tree-taken}
 use Rattle.rule.proofs.ReadFrames.{tree-read}
@@ -25,14 +25,14 @@ use Rattle.rule.proofs.ReadAnswers.{answered}
 use Rattle.rule.proofs.SpellTrees.{tree-unique}
 
 -- frames are no refusal
-no-frames : {k p n : ℕ} {b s : List ℕ} → _≡_ {A = Reading × List ℕ} (refusedAs k p, b) (reading.Frames n, s) → ⊥
+no-frames : {k p n : ℕ} {b s : List ℕ} → _≡_ {A = ReadAnswer × List ℕ} (reading.refused k p, b) (reading.frames n, s) → ⊥
 no-frames {k} {p} {n} e =
-    let f : refusedAs k p ≡ reading.Frames n = ap (λ (z : Reading × List ℕ). z .0) e in
+    let f : reading.refused k p ≡ reading.frames n = ap (λ (z : ReadAnswer × List ℕ). z .0) e in
     let z : _≡_ {A = ℕ} 0 1 = cc in
     omega arith
 
 module _ (text b : List ℕ) (n : ℕ) (s : List ℕ) where
-  from-answer : (a : Reading × List ℕ) → Answered text b a → a ≡ (reading.Frames n, s) → (length b ≡ 512) × ReadAs text n s
+  from-answer : (a : ReadAnswer × List ℕ) → Answered text b a → a ≡ (reading.frames n, s) → (length b ≡ 512) × ReadAs text n s
   from-answer a (refused-1 h) e = absurd (no-frames e)
   from-answer a (refused-2 h z) e = absurd (no-frames e)
   from-answer a (refused-3 h z w) e = absurd (no-frames e)
@@ -42,12 +42,12 @@ module _ (text b : List ℕ) (n : ℕ) (s : List ℕ) where
   from-answer a (refused-7 h w r) e = absurd (no-frames e)
   from-answer a (refused-8 h w r o) e = absurd (no-frames e)
   from-answer a (accepted {n = m} {s = t} h r) e =
-      let f : _≡_ {A = Reading} (reading.Frames m) (reading.Frames n) = ap (λ (z : Reading × List ℕ). z .0) e in
+      let f : _≡_ {A = ReadAnswer} (reading.frames m) (reading.frames n) = ap (λ (z : ReadAnswer × List ℕ). z .0) e in
       let i : m ≡ n = cc in
-      let j : t ≡ s = ap (λ (z : Reading × List ℕ). z .1) e in
+      let j : t ≡ s = ap (λ (z : ReadAnswer × List ℕ). z .1) e in
       (h, subst (λ (k : ℕ). ReadAs text k s) i (subst (λ (l : List ℕ). ReadAs text m l) j r))
 
-  pub reads-exactly : (readOf text b ≡ (reading.Frames n, s)) ↔ ((length b ≡ bufferBytes) × ReadAs text n s)
+  pub reads-exactly : (readOf text b ≡ (reading.frames n, s)) ↔ ((length b ≡ bufferBytes) × ReadAs text n s)
   reads-exactly = (from-answer (readOf text b) (answered text b), λ (h, r). tree-read text b h n s r)
 
   -- the frames alone
@@ -63,13 +63,13 @@ module _ (text b : List ℕ) (n : ℕ) (s : List ℕ) where
   built r = tree-of (record { tree = meaning text (r .tree); limits = meaning-limits text (r .tree) (r .within); bytes = taken r })
 
   -- the frames that were read build the tree that the text means, whichever tree spells it
-  pub read-tree : readOf text b ≡ (reading.Frames n, s) → (x : Rule) → yield x ≡ words (tokens text) → treeOf (take (n * frameBytes) s) ≡ meaning text x
+  pub read-tree : readOf text b ≡ (reading.frames n, s) → (x : Rule) → yield x ≡ words (tokens text) → treeOf (take (n * frameBytes) s) ≡ meaning text x
   read-tree e x y =
       let r = from-answer (readOf text b) (answered text b) e .1 in
       built r ∙ ap (λ (z : Rule). meaning text z) (tree-unique (r .tree) x (tokens text) (r .within .spelled .spells) y)
 
   -- the frames that were read are bytes
-  pub read-bytes : readOf text b ≡ (reading.Frames n, s) → Bytes (take (n * frameBytes) s)
+  pub read-bytes : readOf text b ≡ (reading.frames n, s) → Bytes (take (n * frameBytes) s)
   read-bytes e =
       let r = from-answer (readOf text b) (answered text b) e .1 in
       subst Bytes (sym (taken r)) (rule-bytes (meaning text (r .tree)) (meaning-limits text (r .tree) (r .within)))

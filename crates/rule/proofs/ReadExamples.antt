@@ -1,8 +1,11 @@
--- Worked texts, computed from the definition that `read`'s contract cites. Assumes nothing.
+-- Worked texts, each limit from both sides, computed from the definition that `read`'s contract cites. Assumes nothing.
 use mathlib.Core.Path.{_≡_, refl}
-use mathlib.Core.List.{List, [], _∷_}
-use Prim.Native.Nat.{ℕ}
-use lib.ListN.{take, replicate}
+use mathlib.Core.List.{List, [], _∷_, _++_, map}
+use Prim.Native.Nat.{ℕ, zero, suc}
+use Prim.Native.Char.{code as charCode}
+use Prim.Native.String.{String, [] as nil, _∷_ as cons}
+use lib.ListN.{replicate}
+use Rattle.rule.specs.Limits.{bufferBytes}
 use Rattle.rule.specs.Class.{classOf, span}
 use Rattle.rule.specs.Token.{same, wordKind, longestMark, markWidth, widthOf, tokenHere, tokenAt, tokensIn, tokensFrom}
 use Rattle.rule.specs.Token.{tokenKind}
@@ -17,97 +20,162 @@ use Rattle.rule.specs.Sizes.{sizesFit}
 use Rattle.rule.specs.Frames.{kindOf as frameKind}
 use Rattle.rule.specs.Check.{checkedOf}
 use Rattle.rule.specs.Reading.{judged, readOf}
-use Rattle.rule.specs.Answers.{refusedAs}
-use Rattle.rule.specs.declared.Reading.the-variants as reading
+use Rattle.rule.specs.ReadTold.{ReadAnswer, frames, refused}
+
+-- ---- texts
+-- a text's bytes
+abbrev pub bytes : String → List ℕ
+bytes nil = []
+bytes (cons c s) = charCode c ∷ bytes s
+
+-- so many times the same
+abbrev times : ℕ → String → List ℕ
+times zero s = []
+times (suc n) s = bytes s ++ times n s
+
+-- a condition over one event and one note; it begins at 19
+abbrev over-a : String → List ℕ
+over-a s = bytes "events a; notes t; " ++ bytes s
+
+-- `t(a[i]) > 0` with so many signs before it and so many after
+abbrev nested : ℕ → String → String → List ℕ
+nested n before after = over-a "" ++ (times n before ++ (bytes "t(a[i]) > 0" ++ times n after))
+
+-- the same, with the signs around the sum
+abbrev nestedSum : ℕ → String → List ℕ
+nestedSum n before = over-a "" ++ (times n before ++ (bytes "t(a[i])" ++ (times n ")" ++ bytes " > 0")))
+
+-- ---- the table: a text, and what reading answers
+pub record Example : Type 0 where
+  pub text : List ℕ
+  pub answer : ReadAnswer
+
+abbrev gives : List ℕ → ReadAnswer → Example
+gives s a = record { text = s; answer = a }
+
+-- document 01's own rule, and the five kinds of rules of the literature, of which latency is the first again
+abbrev kinds : List Example
+kinds =
+    gives (bytes "events in out; notes t; t(out[i]) - t(in[i]) <= 25") (frames 5)
+    ∷ gives (bytes "events display; notes t; t(display[i+1]) - t(display[i]) = 10") (frames 5)
+    ∷ gives (bytes "events display; notes t; abs(t(display[i]) - (i + 1) * 10) <= 4") (frames 10)
+    ∷ gives (bytes "events display; notes t; t(display[i+100]) - t(display[i]) <= 1001") (frames 5)
+    ∷ gives (bytes "events display; notes t; t(display[i+1000]) - t(display[i]) > 9999") (frames 5)
+    ∷ []
+
+-- 2: "1 to 1,024 bytes"
+abbrev lengths : List Example
+lengths =
+    gives [] (refused 2 0)
+    ∷ gives (over-a "t(a[i]) > 0" ++ replicate 994 32) (frames 3)
+    ∷ gives (over-a "t(a[i]) > 0" ++ replicate 995 32) (refused 2 0)
+    ∷ []
+
+-- 3: no sum begins with <; the text ends early, place its length; the longest match; marks alone; foreign bytes
+abbrev grammar : List Example
+grammar =
+    gives (over-a "t(a[i]) < <") (refused 3 29)
+    ∷ gives (over-a "t(a[i]) <") (refused 3 28)
+    ∷ gives (over-a "t(a[i]) < = 1") (refused 3 29)
+    ∷ gives (over-a "t(a[i]) <= 1") (frames 3)
+    ∷ gives (over-a "t(a[i]) < 1 - > t(a[i]) < 1") (refused 3 33)
+    ∷ gives (over-a "t(a[i]) < 1 -> t(a[i]) < 1") (frames 7)
+    ∷ gives (over-a "t(a[i]) < 1 | t(a[i]) < 1") (refused 3 31)
+    ∷ gives (over-a "t(a[i]) < 1 || t(a[i]) < 1") (frames 7)
+    ∷ gives (over-a "t(a[i]) < 1 & t(a[i]) < 1") (refused 3 31)
+    ∷ gives (over-a "t(a[i]) < 1 && t(a[i]) < 1") (frames 7)
+    -- LF and space are blanks; TAB, CR and a capital are foreign
+    ∷ gives (over-a "t(a[i])" ++ (10 ∷ 32 ∷ bytes "< 1")) (frames 3)
+    ∷ gives (over-a "t(a[i])" ++ (9 ∷ bytes "< 1")) (refused 3 26)
+    ∷ gives (over-a "t(a[i])" ++ (13 ∷ bytes "< 1")) (refused 3 26)
+    ∷ gives (over-a "t(A[i]) < 1") (refused 3 21)
+    ∷ []
+
+-- 4: 12 and 13 letters; 8 and 9 events, 4 and 5 notes; twice in its list, place the second; not declared, the first
+abbrev names : List Example
+names =
+    gives (bytes "events abcdefghijkl; notes t; t(abcdefghijkl[i]) < 1") (frames 3)
+    ∷ gives (bytes "events abcdefghijklm; notes t; t(abcdefghijklm[i]) < 1") (refused 4 7)
+    ∷ gives (bytes "events a; notes abcdefghijkl; abcdefghijkl(a[i]) < 1") (frames 3)
+    ∷ gives (bytes "events a; notes abcdefghijklm; abcdefghijklm(a[i]) < 1") (refused 4 16)
+    ∷ gives (bytes "events a b c d e f g h; notes t; t(h[i]) < 1") (frames 3)
+    ∷ gives (bytes "events a b c d e f g h j; notes t; t(h[i]) < 1") (refused 4 23)
+    ∷ gives (bytes "events a; notes p q r s; s(a[i]) < 1") (frames 3)
+    ∷ gives (bytes "events a; notes p q r s t; s(a[i]) < 1") (refused 4 24)
+    ∷ gives (bytes "events a a; notes t; t(a[i]) < 1") (refused 4 9)
+    ∷ gives (bytes "events a; notes t t; t(a[i]) < 1") (refused 4 18)
+    ∷ gives (bytes "events a; notes a; a(a[i]) < 1") (frames 3)
+    ∷ gives (over-a "t(b[i]) < t(c[i])") (refused 4 21)
+    ∷ gives (over-a "a(t[i]) < 1") (refused 4 19)
+    ∷ []
+
+-- 5: a factor of 0, 1, 9 and 10, an offset of 9,999 and 10,000, a literal of 2^31 - 1 and 2^31; the first of two
+abbrev numbers : List Example
+numbers =
+    gives (over-a "t(a[0*i]) < 1") (refused 5 23)
+    ∷ gives (over-a "t(a[1*i]) < 1") (frames 3)
+    ∷ gives (over-a "t(a[9*i]) < 1") (frames 3)
+    ∷ gives (over-a "t(a[10*i]) < 1") (refused 5 23)
+    ∷ gives (over-a "t(a[i+9999]) < 1") (frames 3)
+    ∷ gives (over-a "t(a[i+10000]) < 1") (refused 5 25)
+    ∷ gives (over-a "t(a[i-9999]) < 1") (frames 3)
+    ∷ gives (over-a "t(a[i-10000]) < 1") (refused 5 25)
+    ∷ gives (over-a "t(a[i]) < 2147483647") (frames 3)
+    ∷ gives (over-a "t(a[i]) < 2147483648") (refused 5 29)
+    ∷ gives (over-a "t(a[0*i]) < 2147483648") (refused 5 23)
+    ∷ []
+
+-- 6: depth 16 and 17 by each of its signs. 16 times -> would be over 64 frames, so 15 and a group; what stands left of -> is not
+-- deeper for it
+abbrev depths : List Example
+depths =
+    gives (nested 16 "!" "") (frames 19)
+    ∷ gives (nested 17 "!" "") (refused 6 0)
+    ∷ gives (nested 16 "{" "}") (frames 3)
+    ∷ gives (nested 17 "{" "}") (refused 6 0)
+    ∷ gives (nestedSum 16 "(") (frames 3)
+    ∷ gives (nestedSum 17 "(") (refused 6 0)
+    ∷ gives (nestedSum 16 "abs(") (frames 19)
+    ∷ gives (nestedSum 17 "abs(") (refused 6 0)
+    ∷ gives (over-a "" ++ (times 15 "t(a[i]) > 0 -> " ++ bytes "{t(a[i]) > 0}")) (frames 63)
+    ∷ gives (over-a "" ++ (times 15 "t(a[i]) > 0 -> " ++ bytes "{{t(a[i]) > 0}}")) (refused 6 0)
+    ∷ gives (nested 16 "{" "}" ++ bytes " -> 0 = 0") (frames 7)
+    ∷ gives (over-a "0 = 0 -> " ++ (times 16 "{" ++ (bytes "t(a[i]) > 0" ++ times 16 "}"))) (refused 6 0)
+    ∷ []
+
+-- 6: 64 and 65 frames
+abbrev counts : List Example
+counts =
+    gives (over-a "!t(a[i])" ++ (times 30 "+1" ++ bytes " > 0")) (frames 64)
+    ∷ gives (over-a "!!t(a[i])" ++ (times 30 "+1" ++ bytes " > 0")) (refused 6 0)
+    ∷ []
+
+-- 7: no reference; 8: 2^62, and 1 more
+abbrev others : List Example
+others =
+    gives (over-a "0 = 0") (refused 7 0)
+    ∷ gives (over-a "t(a[i])*t(a[i]) < 1") (frames 5)
+    ∷ gives (over-a "t(a[i])*t(a[i])+1 < 1") (refused 8 0)
+    ∷ []
+
+abbrev table : List Example
+table = kinds ++ (lengths ++ (grammar ++ (names ++ (numbers ++ (depths ++ (counts ++ others))))))
 
 abbrev zeros : List ℕ
-zeros = replicate 512 0
+zeros = replicate bufferBytes 0
 
--- document 01's own rule
--- events in out; notes t; t(out[i]) - t(in[i]) <= 25
-rule-read : readOf (101 ∷ 118 ∷ 101 ∷ 110 ∷ 116 ∷ 115 ∷ 32 ∷ 105 ∷ 110 ∷ 32 ∷ 111 ∷ 117 ∷ 116 ∷ 59 ∷ 32 ∷ 110 ∷ 111 ∷ 116 ∷ 101 ∷ 115 ∷ 32 ∷ 116 ∷ 59 ∷ 32 ∷ 116 ∷ 40 ∷ 111 ∷ 117 ∷ 116 ∷ 91 ∷ 105 ∷ 93 ∷ 41 ∷ 32 ∷ 45 ∷ 32 ∷ 116 ∷ 40 ∷ 105 ∷ 110 ∷ 91 ∷ 105 ∷ 93 ∷ 41 ∷ 32 ∷ 60 ∷ 61 ∷ 32 ∷ 50 ∷ 53 ∷ []) zeros .0 ≡ reading.Frames 5
+texts-read : map (λ x. readOf (x .text) zeros .0) table ≡ map (λ x. x .answer) table
 unfolding classOf span same wordKind longestMark markWidth tokenKind widthOf tokenHere tokenAt tokensIn tokensFrom code nameCode decimalFrom decimal numberValue startFactor step finish run deeper position negated put acts judged readOf checkedOf orderOf referenceCount sizesFit frameKind
-rule-read = refl
+texts-read = refl
 
--- the five kinds of rules of the literature: latency is document 01's own rule, above
--- events display; notes t; t(display[i+1]) - t(display[i]) = 10
-rate-read : readOf (101 ∷ 118 ∷ 101 ∷ 110 ∷ 116 ∷ 115 ∷ 32 ∷ 100 ∷ 105 ∷ 115 ∷ 112 ∷ 108 ∷ 97 ∷ 121 ∷ 59 ∷ 32 ∷ 110 ∷ 111 ∷ 116 ∷ 101 ∷ 115 ∷ 32 ∷ 116 ∷ 59 ∷ 32 ∷ 116 ∷ 40 ∷ 100 ∷ 105 ∷ 115 ∷ 112 ∷ 108 ∷ 97 ∷ 121 ∷ 91 ∷ 105 ∷ 43 ∷ 49 ∷ 93 ∷ 41 ∷ 32 ∷ 45 ∷ 32 ∷ 116 ∷ 40 ∷ 100 ∷ 105 ∷ 115 ∷ 112 ∷ 108 ∷ 97 ∷ 121 ∷ 91 ∷ 105 ∷ 93 ∷ 41 ∷ 32 ∷ 61 ∷ 32 ∷ 49 ∷ 48 ∷ []) zeros .0 ≡ reading.Frames 5
+-- 1: 512 bytes, whatever the text
+buffers-tested : map (λ n. readOf (over-a "t(a[i]) < 1") (replicate n 7) .0) (0 ∷ 511 ∷ 512 ∷ 513 ∷ []) ≡ refused 1 0 ∷ refused 1 0 ∷ frames 3 ∷ refused 1 0 ∷ []
 unfolding classOf span same wordKind longestMark markWidth tokenKind widthOf tokenHere tokenAt tokensIn tokensFrom code nameCode decimalFrom decimal numberValue startFactor step finish run deeper position negated put acts judged readOf checkedOf orderOf referenceCount sizesFit frameKind
-rate-read = refl
+buffers-tested = refl
 
--- events display; notes t; abs(t(display[i]) - (i + 1) * 10) <= 4
-jitter-read : readOf (101 ∷ 118 ∷ 101 ∷ 110 ∷ 116 ∷ 115 ∷ 32 ∷ 100 ∷ 105 ∷ 115 ∷ 112 ∷ 108 ∷ 97 ∷ 121 ∷ 59 ∷ 32 ∷ 110 ∷ 111 ∷ 116 ∷ 101 ∷ 115 ∷ 32 ∷ 116 ∷ 59 ∷ 32 ∷ 97 ∷ 98 ∷ 115 ∷ 40 ∷ 116 ∷ 40 ∷ 100 ∷ 105 ∷ 115 ∷ 112 ∷ 108 ∷ 97 ∷ 121 ∷ 91 ∷ 105 ∷ 93 ∷ 41 ∷ 32 ∷ 45 ∷ 32 ∷ 40 ∷ 105 ∷ 32 ∷ 43 ∷ 32 ∷ 49 ∷ 41 ∷ 32 ∷ 42 ∷ 32 ∷ 49 ∷ 48 ∷ 41 ∷ 32 ∷ 60 ∷ 61 ∷ 32 ∷ 52 ∷ []) zeros .0 ≡ reading.Frames 10
-unfolding classOf span same wordKind longestMark markWidth tokenKind widthOf tokenHere tokenAt tokensIn tokensFrom code nameCode decimalFrom decimal numberValue startFactor step finish run deeper position negated put acts judged readOf checkedOf orderOf referenceCount sizesFit frameKind
-jitter-read = refl
-
--- events display; notes t; t(display[i+100]) - t(display[i]) <= 1001
-throughput-read : readOf (101 ∷ 118 ∷ 101 ∷ 110 ∷ 116 ∷ 115 ∷ 32 ∷ 100 ∷ 105 ∷ 115 ∷ 112 ∷ 108 ∷ 97 ∷ 121 ∷ 59 ∷ 32 ∷ 110 ∷ 111 ∷ 116 ∷ 101 ∷ 115 ∷ 32 ∷ 116 ∷ 59 ∷ 32 ∷ 116 ∷ 40 ∷ 100 ∷ 105 ∷ 115 ∷ 112 ∷ 108 ∷ 97 ∷ 121 ∷ 91 ∷ 105 ∷ 43 ∷ 49 ∷ 48 ∷ 48 ∷ 93 ∷ 41 ∷ 32 ∷ 45 ∷ 32 ∷ 116 ∷ 40 ∷ 100 ∷ 105 ∷ 115 ∷ 112 ∷ 108 ∷ 97 ∷ 121 ∷ 91 ∷ 105 ∷ 93 ∷ 41 ∷ 32 ∷ 60 ∷ 61 ∷ 32 ∷ 49 ∷ 48 ∷ 48 ∷ 49 ∷ []) zeros .0 ≡ reading.Frames 5
-unfolding classOf span same wordKind longestMark markWidth tokenKind widthOf tokenHere tokenAt tokensIn tokensFrom code nameCode decimalFrom decimal numberValue startFactor step finish run deeper position negated put acts judged readOf checkedOf orderOf referenceCount sizesFit frameKind
-throughput-read = refl
-
--- events display; notes t; t(display[i+1000]) - t(display[i]) > 9999
-burstiness-read : readOf (101 ∷ 118 ∷ 101 ∷ 110 ∷ 116 ∷ 115 ∷ 32 ∷ 100 ∷ 105 ∷ 115 ∷ 112 ∷ 108 ∷ 97 ∷ 121 ∷ 59 ∷ 32 ∷ 110 ∷ 111 ∷ 116 ∷ 101 ∷ 115 ∷ 32 ∷ 116 ∷ 59 ∷ 32 ∷ 116 ∷ 40 ∷ 100 ∷ 105 ∷ 115 ∷ 112 ∷ 108 ∷ 97 ∷ 121 ∷ 91 ∷ 105 ∷ 43 ∷ 49 ∷ 48 ∷ 48 ∷ 48 ∷ 93 ∷ 41 ∷ 32 ∷ 45 ∷ 32 ∷ 116 ∷ 40 ∷ 100 ∷ 105 ∷ 115 ∷ 112 ∷ 108 ∷ 97 ∷ 121 ∷ 91 ∷ 105 ∷ 93 ∷ 41 ∷ 32 ∷ 62 ∷ 32 ∷ 57 ∷ 57 ∷ 57 ∷ 57 ∷ []) zeros .0 ≡ reading.Frames 5
-unfolding classOf span same wordKind longestMark markWidth tokenKind widthOf tokenHere tokenAt tokensIn tokensFrom code nameCode decimalFrom decimal numberValue startFactor step finish run deeper position negated put acts judged readOf checkedOf orderOf referenceCount sizesFit frameKind
-burstiness-read = refl
-
--- 3: no sum begins with <
--- events a; notes t; t(a[i]) < <
-refused-3 : readOf (101 ∷ 118 ∷ 101 ∷ 110 ∷ 116 ∷ 115 ∷ 32 ∷ 97 ∷ 59 ∷ 32 ∷ 110 ∷ 111 ∷ 116 ∷ 101 ∷ 115 ∷ 32 ∷ 116 ∷ 59 ∷ 32 ∷ 116 ∷ 40 ∷ 97 ∷ 91 ∷ 105 ∷ 93 ∷ 41 ∷ 32 ∷ 60 ∷ 32 ∷ 60 ∷ []) zeros .0 ≡ refusedAs 3 29
-unfolding classOf span same wordKind longestMark markWidth tokenKind widthOf tokenHere tokenAt tokensIn tokensFrom code nameCode decimalFrom decimal numberValue startFactor step finish run deeper position negated put acts judged readOf checkedOf orderOf referenceCount sizesFit frameKind
-refused-3 = refl
-
--- 3: the text ends early, place its length
--- events a; notes t; t(a[i]) <
-refused-3-end : readOf (101 ∷ 118 ∷ 101 ∷ 110 ∷ 116 ∷ 115 ∷ 32 ∷ 97 ∷ 59 ∷ 32 ∷ 110 ∷ 111 ∷ 116 ∷ 101 ∷ 115 ∷ 32 ∷ 116 ∷ 59 ∷ 32 ∷ 116 ∷ 40 ∷ 97 ∷ 91 ∷ 105 ∷ 93 ∷ 41 ∷ 32 ∷ 60 ∷ []) zeros .0 ≡ refusedAs 3 28
-unfolding classOf span same wordKind longestMark markWidth tokenKind widthOf tokenHere tokenAt tokensIn tokensFrom code nameCode decimalFrom decimal numberValue startFactor step finish run deeper position negated put acts judged readOf checkedOf orderOf referenceCount sizesFit frameKind
-refused-3-end = refl
-
--- 4: an event that is not declared, the first
--- events a; notes t; t(b[i]) < t(c[i])
-refused-4 : readOf (101 ∷ 118 ∷ 101 ∷ 110 ∷ 116 ∷ 115 ∷ 32 ∷ 97 ∷ 59 ∷ 32 ∷ 110 ∷ 111 ∷ 116 ∷ 101 ∷ 115 ∷ 32 ∷ 116 ∷ 59 ∷ 32 ∷ 116 ∷ 40 ∷ 98 ∷ 91 ∷ 105 ∷ 93 ∷ 41 ∷ 32 ∷ 60 ∷ 32 ∷ 116 ∷ 40 ∷ 99 ∷ 91 ∷ 105 ∷ 93 ∷ 41 ∷ []) zeros .0 ≡ refusedAs 4 21
-unfolding classOf span same wordKind longestMark markWidth tokenKind widthOf tokenHere tokenAt tokensIn tokensFrom code nameCode decimalFrom decimal numberValue startFactor step finish run deeper position negated put acts judged readOf checkedOf orderOf referenceCount sizesFit frameKind
-refused-4 = refl
-
--- 4: twice in its list, place the second
--- events a a; notes t; t(a[i]) < 1
-refused-4-twice : readOf (101 ∷ 118 ∷ 101 ∷ 110 ∷ 116 ∷ 115 ∷ 32 ∷ 97 ∷ 32 ∷ 97 ∷ 59 ∷ 32 ∷ 110 ∷ 111 ∷ 116 ∷ 101 ∷ 115 ∷ 32 ∷ 116 ∷ 59 ∷ 32 ∷ 116 ∷ 40 ∷ 97 ∷ 91 ∷ 105 ∷ 93 ∷ 41 ∷ 32 ∷ 60 ∷ 32 ∷ 49 ∷ []) zeros .0 ≡ refusedAs 4 9
-unfolding classOf span same wordKind longestMark markWidth tokenKind widthOf tokenHere tokenAt tokensIn tokensFrom code nameCode decimalFrom decimal numberValue startFactor step finish run deeper position negated put acts judged readOf checkedOf orderOf referenceCount sizesFit frameKind
-refused-4-twice = refl
-
--- 5: a factor of 0 comes before a literal
--- events a; notes t; t(a[0*i]) < 2147483648
-refused-5 : readOf (101 ∷ 118 ∷ 101 ∷ 110 ∷ 116 ∷ 115 ∷ 32 ∷ 97 ∷ 59 ∷ 32 ∷ 110 ∷ 111 ∷ 116 ∷ 101 ∷ 115 ∷ 32 ∷ 116 ∷ 59 ∷ 32 ∷ 116 ∷ 40 ∷ 97 ∷ 91 ∷ 48 ∷ 42 ∷ 105 ∷ 93 ∷ 41 ∷ 32 ∷ 60 ∷ 32 ∷ 50 ∷ 49 ∷ 52 ∷ 55 ∷ 52 ∷ 56 ∷ 51 ∷ 54 ∷ 52 ∷ 56 ∷ []) zeros .0 ≡ refusedAs 5 23
-unfolding classOf span same wordKind longestMark markWidth tokenKind widthOf tokenHere tokenAt tokensIn tokensFrom code nameCode decimalFrom decimal numberValue startFactor step finish run deeper position negated put acts judged readOf checkedOf orderOf referenceCount sizesFit frameKind
-refused-5 = refl
-
--- 6: depth 17
--- events a; notes t; !!!!!!!!!!!!!!!!!t(a[i]) < 1
-refused-6 : readOf (101 ∷ 118 ∷ 101 ∷ 110 ∷ 116 ∷ 115 ∷ 32 ∷ 97 ∷ 59 ∷ 32 ∷ 110 ∷ 111 ∷ 116 ∷ 101 ∷ 115 ∷ 32 ∷ 116 ∷ 59 ∷ 32 ∷ 33 ∷ 33 ∷ 33 ∷ 33 ∷ 33 ∷ 33 ∷ 33 ∷ 33 ∷ 33 ∷ 33 ∷ 33 ∷ 33 ∷ 33 ∷ 33 ∷ 33 ∷ 33 ∷ 33 ∷ 116 ∷ 40 ∷ 97 ∷ 91 ∷ 105 ∷ 93 ∷ 41 ∷ 32 ∷ 60 ∷ 32 ∷ 49 ∷ []) zeros .0 ≡ refusedAs 6 0
-unfolding classOf span same wordKind longestMark markWidth tokenKind widthOf tokenHere tokenAt tokensIn tokensFrom code nameCode decimalFrom decimal numberValue startFactor step finish run deeper position negated put acts judged readOf checkedOf orderOf referenceCount sizesFit frameKind
-refused-6 = refl
-
--- 7: no reference
--- events a; notes t; 0 = 0
-refused-7 : readOf (101 ∷ 118 ∷ 101 ∷ 110 ∷ 116 ∷ 115 ∷ 32 ∷ 97 ∷ 59 ∷ 32 ∷ 110 ∷ 111 ∷ 116 ∷ 101 ∷ 115 ∷ 32 ∷ 116 ∷ 59 ∷ 32 ∷ 48 ∷ 32 ∷ 61 ∷ 32 ∷ 48 ∷ []) zeros .0 ≡ refusedAs 7 0
-unfolding classOf span same wordKind longestMark markWidth tokenKind widthOf tokenHere tokenAt tokensIn tokensFrom code nameCode decimalFrom decimal numberValue startFactor step finish run deeper position negated put acts judged readOf checkedOf orderOf referenceCount sizesFit frameKind
-refused-7 = refl
-
--- 8: 2^62 and 1 more
--- events a; notes t; t(a[i])*t(a[i])+1 < 1
-refused-8 : readOf (101 ∷ 118 ∷ 101 ∷ 110 ∷ 116 ∷ 115 ∷ 32 ∷ 97 ∷ 59 ∷ 32 ∷ 110 ∷ 111 ∷ 116 ∷ 101 ∷ 115 ∷ 32 ∷ 116 ∷ 59 ∷ 32 ∷ 116 ∷ 40 ∷ 97 ∷ 91 ∷ 105 ∷ 93 ∷ 41 ∷ 42 ∷ 116 ∷ 40 ∷ 97 ∷ 91 ∷ 105 ∷ 93 ∷ 41 ∷ 43 ∷ 49 ∷ 32 ∷ 60 ∷ 32 ∷ 49 ∷ []) zeros .0 ≡ refusedAs 8 0
-unfolding classOf span same wordKind longestMark markWidth tokenKind widthOf tokenHere tokenAt tokensIn tokensFrom code nameCode decimalFrom decimal numberValue startFactor step finish run deeper position negated put acts judged readOf checkedOf orderOf referenceCount sizesFit frameKind
-refused-8 = refl
-
--- its frames, and zero after the last
-rule-frames : take 48 (readOf (101 ∷ 118 ∷ 101 ∷ 110 ∷ 116 ∷ 115 ∷ 32 ∷ 105 ∷ 110 ∷ 32 ∷ 111 ∷ 117 ∷ 116 ∷ 59 ∷ 32 ∷ 110 ∷ 111 ∷ 116 ∷ 101 ∷ 115 ∷ 32 ∷ 116 ∷ 59 ∷ 32 ∷ 116 ∷ 40 ∷ 111 ∷ 117 ∷ 116 ∷ 91 ∷ 105 ∷ 93 ∷ 41 ∷ 32 ∷ 45 ∷ 32 ∷ 116 ∷ 40 ∷ 105 ∷ 110 ∷ 91 ∷ 105 ∷ 93 ∷ 41 ∷ 32 ∷ 60 ∷ 61 ∷ 32 ∷ 50 ∷ 53 ∷ []) zeros .1) ≡ 3 ∷ 1 ∷ 0 ∷ 1 ∷ 0 ∷ 0 ∷ 0 ∷ 0 ∷ 3 ∷ 0 ∷ 0 ∷ 1 ∷ 0 ∷ 0 ∷ 0 ∷ 0 ∷ 18 ∷ 0 ∷ 0 ∷ 0 ∷ 0 ∷ 0 ∷ 0 ∷ 0 ∷ 1 ∷ 0 ∷ 0 ∷ 0 ∷ 0 ∷ 0 ∷ 0 ∷ 25 ∷ 36 ∷ 0 ∷ 0 ∷ 0 ∷ 0 ∷ 0 ∷ 0 ∷ 0 ∷ 0 ∷ 0 ∷ 0 ∷ 0 ∷ 0 ∷ 0 ∷ 0 ∷ 0 ∷ []
+-- the frames of document 01's own rule, and zero after the last
+rule-frames : readOf (bytes "events in out; notes t; t(out[i]) - t(in[i]) <= 25") (replicate bufferBytes 7) .1
+    ≡ (3 ∷ 1 ∷ 0 ∷ 1 ∷ 0 ∷ 0 ∷ 0 ∷ 0 ∷ 3 ∷ 0 ∷ 0 ∷ 1 ∷ 0 ∷ 0 ∷ 0 ∷ 0 ∷ 0x12 ∷ 0 ∷ 0 ∷ 0 ∷ 0 ∷ 0 ∷ 0 ∷ 0
+    ∷ 1 ∷ 0 ∷ 0 ∷ 0 ∷ 0 ∷ 0 ∷ 0 ∷ 25 ∷ 0x24 ∷ []) ++ replicate 479 0
 unfolding classOf span same wordKind longestMark markWidth tokenKind widthOf tokenHere tokenAt tokensIn tokensFrom code nameCode decimalFrom decimal numberValue startFactor step finish run deeper position negated put acts judged readOf checkedOf orderOf referenceCount sizesFit frameKind
 rule-frames = refl
-
--- 1 and 2
-refused-1 : readOf (101 ∷ 118 ∷ 101 ∷ 110 ∷ 116 ∷ 115 ∷ []) [] .0 ≡ refusedAs 1 0
-unfolding readOf
-refused-1 = refl
-
-refused-2 : readOf [] zeros .0 ≡ refusedAs 2 0
-unfolding readOf
-refused-2 = refl

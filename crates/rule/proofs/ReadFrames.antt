@@ -13,15 +13,14 @@ use Rattle.rule.specs.Measure.{frames, depth}
 use Rattle.rule.proofs.ReaderRefusals.{Outcome, read-as, telling, outcome}
 use Rattle.rule.specs.Memory.{Mem, fresh, memoryAnswer, codeAt, valueAt, acts}
 use Rattle.rule.specs.Check.{checkedOf}
-use Rattle.rule.specs.Opening.{refused}
 use Rattle.rule.specs.Reading.{afterCheck, concluded, readOf}
 use Rattle.rule.proofs.ReaderFrames.{treeBytes}
 use Rattle.rule.specs.Meaning.{meaning}
-use Rattle.rule.specs.Answers.{Within, ReadAs, refusedAs}
-use Rattle.rule.specs.declared.Checked.{Checked}
-use Rattle.rule.specs.declared.Checked.the-variants.{Accepted}
-use Rattle.rule.specs.declared.Reading.{Reading}
-use Rattle.rule.specs.declared.Reading.the-variants as reading
+use Rattle.rule.specs.Answers.{Within, ReadAs}
+use Rattle.rule.specs.CheckTold.{CheckAnswer}
+use Rattle.rule.specs.CheckTold as checking
+use Rattle.rule.specs.ReadTold.{ReadAnswer}
+use Rattle.rule.specs.ReadTold as reading
 use Rattle.rule.proofs.GrammarWalk.{readRule}
 use Rattle.rule.proofs.ReaderRegisters.{told-right}
 use Rattle.rule.proofs.ReaderBuffer.{bytes-read}
@@ -47,9 +46,9 @@ concluded-frames : (b : List ℕ) (m : Mem) (n : ℕ) (s : List ℕ) → memoryA
 concluded-frames b m n s e f =
     let z : memoryAnswer m .0 ≡ 0 = ap (λ (q : ℕ × ℕ). q .0) e in
     let c : m .count ≡ n = sym (memory-answer-count m z) ∙ ap (λ (q : ℕ × ℕ). q .1) e in
-    (subst (λ (q : ℕ × ℕ). cond (eqb (q .0) 0) (afterCheck b m (checkedOf (take (m .count * 8) (m .bytes)))) (refusedAs (q .0) (q .1), b) ≡ afterCheck b m (checkedOf (take (n * 8) s))) (sym e) (rw (c, f)), c)
+    (subst (λ (q : ℕ × ℕ). cond (eqb (q .0) 0) (afterCheck b m (checkedOf (take (m .count * 8) (m .bytes)))) (reading.refused (q .0) (q .1), b) ≡ afterCheck b m (checkedOf (take (n * 8) s))) (sym e) (rw (c, f)), c)
 
-pairs : {u v : Reading} {l m : List ℕ} → u ≡ v → l ≡ m → _≡_ {A = Reading × List ℕ} (u, l) (v, m)
+pairs : {u v : ReadAnswer} {l m : List ℕ} → u ≡ v → l ≡ m → _≡_ {A = ReadAnswer × List ℕ} (u, l) (v, m)
 pairs e f = rw (e, f)
 
 module _ (text b : List ℕ) (fit : length b ≡ 512) where
@@ -69,24 +68,24 @@ module _ (text b : List ℕ) (fit : length b ≡ 512) where
     unfolding acts
     bytes-tree = bytes-read (codeAt text) (valueAt text) (replicate 512 0) x (coded-names text x w)
 
-    its-answer : (a : Checked) → checkedOf (take (length (frames x) * 8) (treeBytes text x)) ≡ a → readOf text b ≡ afterCheck b after a
+    its-answer : (a : CheckAnswer) → checkedOf (take (length (frames x) * 8) (treeBytes text x)) ≡ a → readOf text b ≡ afterCheck b after a
     its-answer a q =
         in-grammar text b fit (w .spelled .sized .some-bytes) (w .spelled .sized .few-bytes) x (w .spelled .spells)
-        ∙ (concluded-frames b after (length (frames x)) (treeBytes text x) told-tree bytes-tree .0 ∙ ap (λ (c : Checked). afterCheck b after c) q)
+        ∙ (concluded-frames b after (length (frames x)) (treeBytes text x) told-tree bytes-tree .0 ∙ ap (λ (c : CheckAnswer). afterCheck b after c) q)
 
     -- 7 or 8 of its frames
-    pub tree-refused : (k p : ℕ) → checkedOf (take (length (frames x) * 8) (treeBytes text x)) ≡ refused k p → readOf text b ≡ (refusedAs k p, b)
-    tree-refused k p = its-answer (refused k p)
+    pub tree-refused : (k p : ℕ) → checkedOf (take (length (frames x) * 8) (treeBytes text x)) ≡ checking.refused k p → readOf text b ≡ (reading.refused k p, b)
+    tree-refused k p = its-answer (checking.refused k p)
 
-    tree-accepted : checkedOf (take (length (frames x) * 8) (treeBytes text x)) ≡ Accepted → readOf text b ≡ (reading.Frames (length (frames x)), treeBytes text x)
+    tree-accepted : checkedOf (take (length (frames x) * 8) (treeBytes text x)) ≡ checking.accepted → readOf text b ≡ (reading.frames (length (frames x)), treeBytes text x)
     tree-accepted q =
-        its-answer Accepted q
-        ∙ pairs (ap (λ (k : ℕ). reading.Frames k) (concluded-frames b after (length (frames x)) (treeBytes text x) told-tree bytes-tree .1)) bytes-tree
+        its-answer checking.accepted q
+        ∙ pairs (ap (λ (k : ℕ). reading.frames k) (concluded-frames b after (length (frames x)) (treeBytes text x) told-tree bytes-tree .1)) bytes-tree
 
   -- or accepted
-  pub tree-read : (n : ℕ) (s : List ℕ) → ReadAs text n s → readOf text b ≡ (reading.Frames n, s)
+  pub tree-read : (n : ℕ) (s : List ℕ) → ReadAs text n s → readOf text b ≡ (reading.frames n, s)
   tree-read n s r =
       let c : length (frames (r .tree)) ≡ n = sym (r .count ∙ meaning-count text (r .tree)) in
       tree-accepted (r .tree) (r .within) (check-accepted text (r .tree) (r .within) .1 (r .named, r .exact))
-      ∙ pairs (ap (λ (k : ℕ). reading.Frames k) c)
+      ∙ pairs (ap (λ (k : ℕ). reading.frames k) c)
       (tree-bytes text (r .tree) (r .within) ∙ (ap (λ (k : ℕ). bytesOf (postfix (meaning text (r .tree))) ++ replicate (512 - k * 8) 0) c ∙ sym (r .bytes)))

@@ -1,13 +1,13 @@
--- Refusals 3 to 8 of `read`, each both ways, with the places of 3, 4 and 5. Assumes nothing.
+-- Refusals 3 to 8 of `read`, each both ways, with the places of 3, 4 and 5; and every answer both ways. Assumes nothing.
 use mathlib.Core.Path.{_≡_, refl, ap, subst, _∙_}
 use mathlib.Core.Logic.{_↔_, inl, inr}
 use mathlib.Core.Bool.{Bool, true, false, cond}
 use mathlib.Core.List.{List, []}
 use Prim.Native.Nat.{ℕ, zero, suc, _<_}
 use native.Mathlib.Omega.{arith}
-use lib.Dec.{ltb}
+use lib.Dec.{ltb, eqb}
 use lib.ListN.{length}
-use borrow.Author.Tests.{lt-ltb}
+use borrow.Author.Tests.{eqb-true, eqb-false, lt-ltb, ltb-true, ltb-false}
 use Rattle.rule.specs.Token.{tokens}
 use Rattle.rule.specs.Grammar.{Rule, Wrong-at}
 use Rattle.rule.specs.Tree.{references, parts, NoneExceeds}
@@ -17,14 +17,15 @@ use Rattle.rule.specs.Memory.{codeAt, valueAt}
 use Rattle.rule.specs.Meaning.{meaning}
 use Rattle.rule.specs.Reading.{readOf}
 use Rattle.rule.specs.Limits.{bufferBytes}
-use Rattle.rule.specs.Answers.{Spelled, BadName, NamesGood, BadNumber, NumbersGood, Oversized, Within, Answered, refused-1, refused-2, refused-3, refused-4, refused-5, refused-6, refused-7, refused-8, accepted, refusedAs}
+use Rattle.rule.specs.Answers.{Spelled, BadName, NamesGood, BadNumber, NumbersGood, Oversized, Within, Answered, refused-1, refused-2, refused-3, refused-4, refused-5, refused-6, refused-7, refused-8, accepted}
 use Rattle.rule.specs.Answers as answers
-use Rattle.rule.specs.declared.Reading.{Reading}
-use Rattle.rule.specs.declared.Reading.the-variants as reading
+use Rattle.rule.specs.ReadTold.{ReadAnswer}
+use Rattle.rule.specs.ReadTold as reading
+use Rattle.rule.proofs.ReaderConclusion.{one, two-none, two-many}
 use Rattle.rule.proofs.ReadText.{outside, as-judged}
 use Rattle.rule.proofs.FrameTrees.{meaning-count}
 use Rattle.rule.proofs.ReadChecks.{check-7, check-8}
-use Rattle.rule.proofs.ReadFrames.{tree-refused}
+use Rattle.rule.proofs.ReadFrames.{tree-refused, tree-read}
 use Rattle.rule.proofs.ReadAnswers.{answered}
 use Rattle.rule.proofs.SpellSame.{first-name-same, first-number-same}
 use Rattle.rule.proofs.SpellTrees.{tree-unique}
@@ -33,6 +34,10 @@ use Rattle.rule.proofs.SpellTrees.{tree-unique}
 module _ (text : List ℕ) (P : Rule → Type 0) where
   of-all : (x : Rule) → Spelled text x → P x → (y : Rule) → Spelled text y → P y
   of-all x s p y t = subst P (tree-unique x y (tokens text) (s .spells) (t .spells)) p
+
+-- the answer alone, without the buffer
+abbrev answer-of : ReadAnswer × List ℕ → ReadAnswer
+answer-of a = a .0
 
 -- ---- what an answer says of the text
 module _ (text b : List ℕ) where
@@ -56,11 +61,11 @@ module _ (text b : List ℕ) where
   Said (suc (suc (suc (suc (suc (suc (suc (suc zero)))))))) p = (x : Rule) → Spelled text x → Exceeding x
   Said (suc (suc (suc (suc (suc (suc (suc (suc (suc k))))))))) p = Unit {0}
 
-  abbrev SaidBy : Reading → Type 0
-  SaidBy (reading.Frames n) = Unit {0}
-  SaidBy (reading.Refused r) = Said (r .number) (r .place)
+  abbrev SaidBy : ReadAnswer → Type 0
+  SaidBy (reading.frames n) = Unit {0}
+  SaidBy (reading.refused k p) = Said k p
 
-  says : {a : Reading × List ℕ} → Answered text b a → SaidBy (a .0)
+  says : {a : ReadAnswer × List ℕ} → Answered text b a → SaidBy (a .0)
   says (refused-1 h) = tt
   says (refused-2 h s) = tt
   says (refused-3 h s w) = w
@@ -71,27 +76,35 @@ module _ (text b : List ℕ) where
   says (refused-8 {x} h w r o) = of-all text Exceeding x (w .spelled) (w, r, o)
   says (accepted h r) = tt
 
-  said : (k p : ℕ) → readOf text b .0 ≡ refusedAs k p → Said k p
+  said : (k p : ℕ) → readOf text b .0 ≡ reading.refused k p → Said k p
   said k p e = subst SaidBy e (says (answered text b))
 
   -- ---- each refusal both ways
   module _ (fit : length b ≡ bufferBytes) where
     -- 3: the first token that with those before it begins no rule
-    pub place-3 : answers.LengthFits (length text) → (p : ℕ) → (readOf text b .0 ≡ refusedAs 3 p) ↔ Wrong-at (length text) (tokens text) p
-    place-3 s p = (said 3 p, λ w. ap (λ (z : Reading × List ℕ). z .0) (outside text b fit (s .some-bytes) (s .few-bytes) p w))
+    wrong-token : answers.LengthFits (length text) → (p : ℕ) → Wrong-at (length text) (tokens text) p → readOf text b ≡ (reading.refused 3 p, b)
+    wrong-token s p w = outside text b fit (s .some-bytes) (s .few-bytes) p w
+
+    pub place-3 : answers.LengthFits (length text) → (p : ℕ) → (readOf text b .0 ≡ reading.refused 3 p) ↔ Wrong-at (length text) (tokens text) p
+    place-3 s p = (said 3 p, λ w. ap answer-of (wrong-token s p w))
 
     module _ (x : Rule) (y : Spelled text x) where
-      judged : (k p : ℕ) → outcome (codeAt text) (valueAt text) x ≡ refused-by k p → (k ≡ 0 → ⊥) → readOf text b .0 ≡ refusedAs k p
-      judged k p v ne = ap (λ (z : Reading × List ℕ). z .0) (as-judged text b fit (y .sized .some-bytes) (y .sized .few-bytes) x (y .spells) k p v ne)
+      judged : (k p : ℕ) → outcome (codeAt text) (valueAt text) x ≡ refused-by k p → (k ≡ 0 → ⊥) → readOf text b ≡ (reading.refused k p, b)
+      judged = as-judged text b fit (y .sized .some-bytes) (y .sized .few-bytes) x (y .spells)
 
       -- 4: the first bad name of the tree
-      pub place-4 : (p : ℕ) → (readOf text b .0 ≡ refusedAs 4 p) ↔ BadName text x p
-      place-4 p = (λ e. said 4 p e x y, λ f. judged 4 p (rw (first-name-same text x (y .spells) ∙ f .first, f .starts)) (λ z. omega arith))
+      bad-name : (p : ℕ) → BadName text x p → readOf text b ≡ (reading.refused 4 p, b)
+      bad-name p f = judged 4 p (rw (first-name-same text x (y .spells) ∙ f .first, f .starts)) (λ z. omega arith)
+
+      pub place-4 : (p : ℕ) → (readOf text b .0 ≡ reading.refused 4 p) ↔ BadName text x p
+      place-4 p = (λ e. said 4 p e x y, λ f. ap answer-of (bad-name p f))
 
       -- 5: the first number of the tree that is beyond its limit, where no name is bad
-      pub place-5 : (p : ℕ) → (readOf text b .0 ≡ refusedAs 5 p) ↔ (NamesGood text x × BadNumber text x p)
-      place-5 p =
-          (λ e. said 5 p e x y, λ (e, f). judged 5 p (rw (first-name-same text x (y .spells) ∙ e, first-number-same text x ∙ f .first, f .starts)) (λ z. omega arith))
+      bad-number : (p : ℕ) → NamesGood text x → BadNumber text x p → readOf text b ≡ (reading.refused 5 p, b)
+      bad-number p e f = judged 5 p (rw (first-name-same text x (y .spells) ∙ e, first-number-same text x ∙ f .first, f .starts)) (λ z. omega arith)
+
+      pub place-5 : (p : ℕ) → (readOf text b .0 ≡ reading.refused 5 p) ↔ (NamesGood text x × BadNumber text x p)
+      place-5 p = (λ e. said 5 p e x y, λ (e, f). ap answer-of (bad-number p e f))
 
       over : NamesGood text x → NumbersGood text x → Oversized text x → outcome (codeAt text) (valueAt text) x ≡ refused-by 6 0
       over e f (inl h) = rw (first-name-same text x (y .spells) ∙ e, first-number-same text x ∙ f, lt-ltb 16 (depth x) h)
@@ -102,13 +115,40 @@ module _ (text b : List ℕ) where
           either-way false = refl
 
       -- 6: too deep or too many frames, where no name and no number is bad
-      pub place-6 : (readOf text b .0 ≡ refusedAs 6 0) ↔ (NamesGood text x × NumbersGood text x × Oversized text x)
-      place-6 = (λ e. said 6 0 e x y, λ (e, f, o). judged 6 0 (over e f o) (λ z. omega arith))
+      oversized : NamesGood text x → NumbersGood text x → Oversized text x → readOf text b ≡ (reading.refused 6 0, b)
+      oversized e f o = judged 6 0 (over e f o) (λ z. omega arith)
+
+      pub place-6 : (readOf text b .0 ≡ reading.refused 6 0) ↔ (NamesGood text x × NumbersGood text x × Oversized text x)
+      place-6 = (λ e. said 6 0 e x y, λ (e, f, o). ap answer-of (oversized e f o))
 
       -- 7: no reference, where 4, 5 and 6 leave the tree
-      pub place-7 : (readOf text b .0 ≡ refusedAs 7 0) ↔ (Within text x × (references (meaning text x) ≡ []))
-      place-7 = (λ e. said 7 0 e x y, λ (w, r). ap (λ (z : Reading × List ℕ). z .0) (tree-refused text b fit x w 7 0 (check-7 text x w .1 r)))
+      pub place-7 : (readOf text b .0 ≡ reading.refused 7 0) ↔ (Within text x × (references (meaning text x) ≡ []))
+      place-7 = (λ e. said 7 0 e x y, λ (w, r). ap answer-of (tree-refused text b fit x w 7 0 (check-7 text x w .1 r)))
 
       -- 8: a magnitude over 2^62, where 4 to 7 leave the tree
-      pub place-8 : (readOf text b .0 ≡ refusedAs 8 0) ↔ (Within text x × (references (meaning text x) ≡ [] → ⊥) × (NoneExceeds (parts (meaning text x)) → ⊥))
-      place-8 = (λ e. said 8 0 e x y, λ (w, r, o). ap (λ (z : Reading × List ℕ). z .0) (tree-refused text b fit x w 8 0 (check-8 text x w .1 (r, o))))
+      pub place-8 : (readOf text b .0 ≡ reading.refused 8 0) ↔ (Within text x × (references (meaning text x) ≡ [] → ⊥) × (NoneExceeds (parts (meaning text x)) → ⊥))
+      place-8 = (λ e. said 8 0 e x y, λ (w, r, o). ap answer-of (tree-refused text b fit x w 8 0 (check-8 text x w .1 (r, o))))
+
+-- ---- and no other answer has what its case says
+-- 2: no byte, or over 1,024
+wrong-size : (text b : List ℕ) → length b ≡ bufferBytes → (answers.LengthFits (length text) → ⊥) → readOf text b ≡ (reading.refused 2 0, b)
+wrong-size text b h z = go (eqb (length text) 0) refl (ltb 1024 (length text)) refl
+  where
+    go : (x : Bool) → eqb (length text) 0 ≡ x → (y : Bool) → ltb 1024 (length text) ≡ y → readOf text b ≡ (reading.refused 2 0, b)
+    go true e y f = two-none text b h (eqb-true (length text) 0 e)
+    go false e true f = two-many text b h (eqb-false (length text) 0 e) (ltb-true 1024 (length text) f)
+    go false e false f = absurd (z (record { some-bytes = eqb-false (length text) 0 e; few-bytes = ltb-false 1024 (length text) f }))
+
+answer : {text b : List ℕ} {a : ReadAnswer × List ℕ} → Answered text b a → readOf text b ≡ a
+answer {text} {b} (refused-1 h) = one text b h
+answer {text} {b} (refused-2 h z) = wrong-size text b h z
+answer {text} {b} (refused-3 {p} h s w) = wrong-token text b h s p w
+answer {text} {b} (refused-4 {x} {p} h s f) = bad-name text b h x s p f
+answer {text} {b} (refused-5 {x} {p} h s e f) = bad-number text b h x s p e f
+answer {text} {b} (refused-6 {x} h s e f o) = oversized text b h x s e f o
+answer {text} {b} (refused-7 {x} h w r) = tree-refused text b h x w 7 0 (check-7 text x w .1 r)
+answer {text} {b} (refused-8 {x} h w r o) = tree-refused text b h x w 8 0 (check-8 text x w .1 (r, o))
+answer {text} {b} (accepted {n} {s} h r) = tree-read text b h n s r
+
+pub read-iff : (text b : List ℕ) (a : ReadAnswer × List ℕ) → (readOf text b ≡ a) ↔ Answered text b a
+read-iff text b a = (λ e. subst (λ (z : ReadAnswer × List ℕ). Answered text b z) e (answered text b), answer)

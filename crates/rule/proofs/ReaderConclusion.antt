@@ -11,26 +11,26 @@ use Rattle.rule.specs.Memory.{Mem, fresh, listed, mem}
 use Rattle.rule.specs.ReadsPart.{runFrom}
 use Rattle.rule.specs.Check.{checkedOf}
 use Rattle.rule.specs.Reading.{judged, afterCheck, concluded, afterGrammar, readOf, unread}
-use Rattle.rule.specs.Answers.{refusedAs}
+use Rattle.rule.specs.ReadTold as reading
 use Rattle.rule.specs.declared.memory.Registers.{Registers}
 use Rattle.rule.proofs.TokenLists.{rising}
 use Rattle.rule.proofs.ReaderEnd.{Kept, OkA, run-ok}
 
 -- ---- 4 to 8
 module _ (b : List ℕ) (t : Registers) (tb bytes : List ℕ) where
-  pub four : (t .name ≡ 0 → ⊥) → concluded b (mem t tb bytes) ≡ (refusedAs 4 (t .name - 1), b)
+  pub four : (t .name ≡ 0 → ⊥) → concluded b (mem t tb bytes) ≡ (reading.refused 4 (t .name - 1), b)
   unfolding mem
   four h = rw (ne-eqb (t .name) 0 h)
 
-  pub five : t .name ≡ 0 → (t .number ≡ 0 → ⊥) → concluded b (mem t tb bytes) ≡ (refusedAs 5 (t .number - 1), b)
+  pub five : t .name ≡ 0 → (t .number ≡ 0 → ⊥) → concluded b (mem t tb bytes) ≡ (reading.refused 5 (t .number - 1), b)
   unfolding mem
   five e h = rw (e, ne-eqb (t .number) 0 h)
 
-  pub six-deep : t .name ≡ 0 → t .number ≡ 0 → t .deep ≡ true → concluded b (mem t tb bytes) ≡ (refusedAs 6 0, b)
+  pub six-deep : t .name ≡ 0 → t .number ≡ 0 → t .deep ≡ true → concluded b (mem t tb bytes) ≡ (reading.refused 6 0, b)
   unfolding mem
   six-deep e f g = rw (e, f, g)
 
-  pub six-frames : t .name ≡ 0 → t .number ≡ 0 → t .deep ≡ false → 64 < t .count → concluded b (mem t tb bytes) ≡ (refusedAs 6 0, b)
+  pub six-frames : t .name ≡ 0 → t .number ≡ 0 → t .deep ≡ false → 64 < t .count → concluded b (mem t tb bytes) ≡ (reading.refused 6 0, b)
   unfolding mem
   six-frames e f g h = rw (e, f, g, lt-ltb 64 (t .count) h)
 
@@ -40,15 +40,15 @@ module _ (b : List ℕ) (t : Registers) (tb bytes : List ℕ) where
 
 -- ---- 1 to 3
 module _ (text b : List ℕ) where
-  pub one : (length b ≡ 512 → ⊥) → readOf text b ≡ (refusedAs 1 0, b)
+  pub one : (length b ≡ 512 → ⊥) → readOf text b ≡ (reading.refused 1 0, b)
   unfolding readOf
   one h = rw (ne-eqb (length b) 512 h)
 
-  pub two-none : length b ≡ 512 → length text ≡ 0 → readOf text b ≡ (refusedAs 2 0, b)
+  pub two-none : length b ≡ 512 → length text ≡ 0 → readOf text b ≡ (reading.refused 2 0, b)
   unfolding readOf
   two-none e f = rw (e, f)
 
-  pub two-many : length b ≡ 512 → (length text ≡ 0 → ⊥) → 1024 < length text → readOf text b ≡ (refusedAs 2 0, b)
+  pub two-many : length b ≡ 512 → (length text ≡ 0 → ⊥) → 1024 < length text → readOf text b ≡ (reading.refused 2 0, b)
   unfolding readOf
   two-many e h l = rw (e, ne-eqb (length text) 0 h, lt-ltb 1024 (length text) l)
 

@@ -81,14 +81,19 @@ one-low b e =
     let t = among-every low oneByteMarks b tt e in
     (ltb→lt 6 b (and-l (ltb 6 b) (ltb b 130) t), ltb→lt b 130 (and-r (ltb 6 b) (ltb b 130) t))
 
--- a mark byte with 0 after it, as at the end of a text, is a token of one byte
-pub width-alone : (b : ℕ) → markWidth (longestMark b 0) ≡ 1
-unfolding longestMark markWidth
-width-alone b = simp and-false (go (among oneByteMarks b) refl)
+-- what is no mark of two bytes is a token of one byte
+pub one-width : (b : ℕ) → markWidth (oneByteMark b) ≡ 1
+unfolding markWidth
+one-width b = go (among oneByteMarks b) refl
   where
     go : (t : Bool) → among oneByteMarks b ≡ t → _≡_ {A = ℕ} (cond (leb 130 (cond t b 255) && leb (cond t b 255) 135) 2 1) 1
     go true e = rw (lt-leb 130 b (one-low b e .1))
     go false e = refl
+
+-- so is a mark byte with 0 after it, as at the end of a text
+pub width-alone : (b : ℕ) → markWidth (longestMark b 0) ≡ 1
+unfolding longestMark
+width-alone b = simp and-false (one-width b)
 
 two-high : (b n : ℕ) → (twoByteMark b n ≡ 0 → ⊥) → 6 < twoByteMark b n
 two-high b n ne = go (eqb b 45 && eqb n 62) (eqb b 124 && eqb n 124) (eqb b 38 && eqb n 38) (eqb b 33 && eqb n 61) (eqb b 60 && eqb n 61) (eqb b 62 && eqb n 61) ne

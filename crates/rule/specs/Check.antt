@@ -6,11 +6,9 @@ use Prim.Native.Nat.{ℕ, _*_, _%_}
 use lib.Dec.{leb, eqb}
 use lib.ListN.{length}
 use Rattle.rule.specs.Limits.{frameLimit, frameBytes}
-use Rattle.rule.specs.Opening.{refused}
 use Rattle.rule.specs.Order.{orderOf}
 use Rattle.rule.specs.Sizes.{sizesFit}
-use Rattle.rule.specs.declared.Checked.{Checked}
-use Rattle.rule.specs.declared.Checked.the-variants.{Accepted}
+use Rattle.rule.specs.CheckTold.{CheckAnswer, accepted, refused}
 use Rattle.rule.specs.declared.order.Ordered.{Ordered}
 use Rattle.rule.specs.declared.order.Ordered.the-variants.{Fine, At}
 
@@ -19,10 +17,10 @@ abbrev pub wholeFrames : ℕ → Bool
 wholeFrames n = (leb frameBytes n && leb n (frameLimit * frameBytes)) && eqb (n % frameBytes) 0
 
 -- 10 with its place, then 7: "no reference", then 8: "a magnitude over 2^62"
-abbrev pub afterOrder : List ℕ → Ordered → Checked
+abbrev pub afterOrder : List ℕ → Ordered → CheckAnswer
 afterOrder s (At p) = refused 10 p
-afterOrder s (Fine m) = cond (eqb m 0) (refused 7 0) (cond (sizesFit s) Accepted (refused 8 0))
+afterOrder s (Fine m) = cond (eqb m 0) (refused 7 0) (cond (sizesFit s) accepted (refused 8 0))
 
 -- the answer for any bytes
-unfoldable pub checkedOf : List ℕ → Checked
+unfoldable pub checkedOf : List ℕ → CheckAnswer
 checkedOf s = cond (wholeFrames (length s)) (afterOrder s (orderOf s)) (refused 9 0)

@@ -11,7 +11,8 @@ pub mod Measure
 pub mod Spelling
 pub mod Tree
 pub mod Meaning
-pub mod Told
+pub mod CheckTold
+pub mod ReadTold
 pub mod Opening
 pub mod Answers
 -- What the contracts of the code are said by; the theorems in proofs/Main tie it to the definitions above.

@@ -6,12 +6,8 @@ use Prim.Native.Nat.{ℕ, suc, _*_, _%_, _≤_, _<_}
 use lib.ListN.{length, take}
 use Rattle.rule.specs.Limits.{frameLimit, frameBytes}
 use Rattle.rule.specs.Tree.{Cond, Limits, postfix, bytesOf, IsRule, references, parts, NoneExceeds}
-use Rattle.rule.specs.declared.Checked.{Checked}
-use Rattle.rule.specs.declared.Checked.the-variants.{Accepted, Refused}
-
--- "A refusal returns its number and place (0 if none is named)"
-abbrev pub refused : ℕ → ℕ → Checked
-refused n p = Refused (record { number = n; place = p })
+use Rattle.rule.specs.CheckTold.{CheckAnswer, refused}
+use Rattle.rule.specs.CheckTold as checking
 
 -- "8 to 512 in steps of 8"
 pub record Whole (n : ℕ) : Type 0 where
@@ -32,14 +28,14 @@ pub record PlaceOf10 (s : List ℕ) (p : ℕ) : Type 0 where
   pub end : p * frameBytes ≡ length s → IsRule s → ⊥
 
 -- each answer, with what holds of the bytes and what the earlier checks leave
-pub data Opening (s : List ℕ) : Checked → Type 0 where
+pub data Opening (s : List ℕ) : CheckAnswer → Type 0 where
   refused-9 : (Whole (length s) → ⊥) → Opening s (refused 9 0)
   refused-10 : {p : ℕ} → Whole (length s) → PlaceOf10 s p → Opening s (refused 10 p)
   refused-7 : Whole (length s) → (r : IsRule s) → references (r .tree) ≡ [] → Opening s (refused 7 0)
   refused-8 : Whole (length s) → (r : IsRule s) → (references (r .tree) ≡ [] → ⊥)
       → (NoneExceeds (parts (r .tree)) → ⊥) → Opening s (refused 8 0)
   accepted : Whole (length s) → (r : IsRule s) → (references (r .tree) ≡ [] → ⊥) → NoneExceeds (parts (r .tree))
-      → Opening s Accepted
+      → Opening s checking.accepted
 
 -- frames that opening takes: of a tree within the limits, at most 64, with a reference, no magnitude over 2^62
 pub record Proper (s : List ℕ) : Type 0 where

@@ -9,13 +9,12 @@ use Rattle.rule.specs.Limits.{frameBytes, bufferBytes}
 use Rattle.rule.specs.ReadLimits.{textLimit}
 use Rattle.rule.specs.Token.{tokens}
 use Rattle.rule.specs.Machine.{start, MachineAnswer, accepted, refused, run}
-use Rattle.rule.specs.Answers.{refusedAs}
 use Rattle.rule.specs.Memory.{Mem, fresh, memoryAnswer, acts, mem}
 use Rattle.rule.specs.Check.{checkedOf}
-use Rattle.rule.specs.declared.Checked.{Checked}
-use Rattle.rule.specs.declared.Checked.the-variants.{Accepted, Refused}
-use Rattle.rule.specs.declared.Reading.{Reading}
-use Rattle.rule.specs.declared.Reading.the-variants as reading
+use Rattle.rule.specs.CheckTold.{CheckAnswer}
+use Rattle.rule.specs.CheckTold as checking
+use Rattle.rule.specs.ReadTold.{ReadAnswer}
+use Rattle.rule.specs.ReadTold as reading
 use Rattle.rule.specs.declared.memory.Registers.{Registers}
 use Rattle.rule.specs.declared.memory.Step.{Step}
 use Rattle.rule.specs.declared.memory.Step.the-variants.{Go, No}
@@ -25,29 +24,29 @@ unfoldable pub judged : List ℕ → MachineAnswer Mem
 judged text = run Mem (acts text) (length text) start (fresh (replicate bufferBytes 0)) (tokens text)
 
 -- 7 and 8, which opening checks too: of the frames that were put
-abbrev pub afterCheck : List ℕ → Mem → Checked → Reading × List ℕ
-afterCheck b m Accepted = (reading.Frames (m .count), m .bytes)
-afterCheck b m (Refused r) = (reading.Refused r, b)
+abbrev pub afterCheck : List ℕ → Mem → CheckAnswer → ReadAnswer × List ℕ
+afterCheck b m checking.accepted = (reading.frames (m .count), m .bytes)
+afterCheck b m (checking.refused number place) = (reading.refused number place, b)
 
 -- 4 to 6, then 7 and 8; a refusal "changes nothing", else the buffer holds the frames, and zero after the last
-abbrev pub concluded : List ℕ → Mem → Reading × List ℕ
+abbrev pub concluded : List ℕ → Mem → ReadAnswer × List ℕ
 concluded b m =
     cond (eqb (memoryAnswer m .0) 0) (afterCheck b m (checkedOf (take (m .count * frameBytes) (m .bytes))))
-    (refusedAs (memoryAnswer m .0) (memoryAnswer m .1), b)
+    (reading.refused (memoryAnswer m .0) (memoryAnswer m .1), b)
 
 -- 3, then the rest
-abbrev pub afterGrammar : List ℕ → MachineAnswer Mem → Reading × List ℕ
-afterGrammar b (refused p) = (refusedAs 3 p, b)
+abbrev pub afterGrammar : List ℕ → MachineAnswer Mem → ReadAnswer × List ℕ
+afterGrammar b (refused p) = (reading.refused 3 p, b)
 afterGrammar b (accepted m) = concluded b m
 
 -- 1: "the frame buffer isn't 512 bytes", 2: "the text has 0 or over 1,024 bytes", then the rest: the answer, and the buffer b then
-unfoldable pub readOf : List ℕ → List ℕ → Reading × List ℕ
+unfoldable pub readOf : List ℕ → List ℕ → ReadAnswer × List ℕ
 readOf text b =
     cond (eqb (length b) bufferBytes)
-    (cond (eqb (length text) 0) (refusedAs 2 0, b)
-    (cond (ltb textLimit (length text)) (refusedAs 2 0, b)
+    (cond (eqb (length text) 0) (reading.refused 2 0, b)
+    (cond (ltb textLimit (length text)) (reading.refused 2 0, b)
     (afterGrammar b (judged text))))
-    (refusedAs 1 0, b)
+    (reading.refused 1 0, b)
 
 -- ---- for the code's own contracts
 -- the registers at first

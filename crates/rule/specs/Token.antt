@@ -2,7 +2,7 @@
 use Prim.Native.Nat.{ℕ, zero, suc, _+_, _-_, _≤_, _<_}
 use mathlib.Core.Path.{_≡_}
 use mathlib.Core.Bool.{Bool, true, false, _&&_, cond}
-use mathlib.Core.List.{List, [], _∷_}
+use mathlib.Core.List.{List, [], _∷_, List·Memᴰ}
 use lib.ListN.{length, getD, take, drop}
 use lib.Dec.{leb, eqb}
 use Rattle.rule.specs.Class.{letter, digit, blank, mark, among, oneByteMarks, classOf, span}
@@ -157,6 +157,37 @@ tokensFrom text at = tokensIn (length text - at) text at
 -- a text's tokens
 abbrev pub tokens : List ℕ → List Token
 tokens text = tokensFrom text 0
+
+-- ---- what is said of tokens, in the document's words
+-- "marks (those quoted below)": the bytes of each, and the kind of its token
+pub data Quoted : List ℕ → ℕ → Type 0 where
+  of-one-byte : (b : ℕ) → among oneByteMarks b ≡ true → Quoted (b ∷ []) b
+  arrow : Quoted (minusMark ∷ moreMark ∷ []) arrowKind
+  bars : Quoted (bar ∷ bar ∷ []) barsKind
+  ampersands : Quoted (ampersand ∷ ampersand ∷ []) ampersandsKind
+  unequal : Quoted (bang ∷ equalMark ∷ []) unequalKind
+  at-most : Quoted (lessMark ∷ equalMark ∷ []) atMostKind
+  at-least : Quoted (moreMark ∷ equalMark ∷ []) atLeastKind
+
+-- the bytes m stand in the text from s on
+abbrev pub StandsAt : List ℕ → ℕ → List ℕ → Type 0
+StandsAt text s m = take (length m) (drop s text) ≡ m
+
+-- "marks (those quoted below) take the longest match. .. a mark byte in no quoted mark, is a token that no rule has"
+pub data LongestMatch (text : List ℕ) (t : Token) : Type 0 where
+  in-quoted : Quoted (spelling text t) (t .kind)
+      → ((m : List ℕ) (k : ℕ) → Quoted m k → StandsAt text (t .start) m → length m ≤ t .end - t .start)
+      → LongestMatch text t
+  in-none : t .kind ≡ foreignKind → t .end ≡ t .start + 1
+      → ((m : List ℕ) (k : ℕ) → Quoted m k → StandsAt text (t .start) m → ⊥)
+      → LongestMatch text t
+
+-- the byte at k is one of a token's
+pub record OfToken (ts : List Token) (k : ℕ) : Type 0 where
+  pub token : Token
+  pub one : List·Memᴰ token ts
+  pub starts : token .start ≤ k
+  pub ends : k < token .end
 
 -- places rise from lo on, up to hi: a token has a byte at least, and ends before the next one begins
 abbrev pub Rising : ℕ → ℕ → List Token → Type 0

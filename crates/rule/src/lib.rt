@@ -26,8 +26,7 @@ pub use order::reference_count;
 pub use reader::read;
 ghost use mathlib.Core.Path.{_≡_};
 ghost use Rattle.rule.specs.Check.{wholeFrames, checkedOf};
-ghost use Rattle.rule.specs.Told.{checkTold};
-ghost use Rattle.rule.specs.Opening.{refused};
+ghost use Rattle.rule.specs.CheckTold.{refused, checkTold};
 
 // A refusal: document 01's number, and its place, 0 where none is named.
 pub struct Refusal {
@@ -71,15 +70,14 @@ fn whole_frames(n: usize) -> bool
 }
 
 fn refuse(number: u8, place: u32) -> Checked
-    ensures { λ r. ⌜ r ≡ refused number place ⌝ }
+    ensures { λ r. ⌜ checkTold r ≡ refused number place ⌝ }
 {
     Checked::Refused(Refusal { number, place })
 }
 
 // What opening checks of frames, whatever the bytes are: 9, 10, 7 and 8, in this order.
 pub fn check(frames: &[u8]) -> Checked
-    ensures { λ r. ⌜ r ≡ checkedOf (now (frames .entry)) ⌝ }
-    ensures { λ r. ⌜ checkTold r ≡ checkTold (checkedOf (now (frames .entry))) ⌝ }
+    ensures { λ r. ⌜ checkTold r ≡ checkedOf (now (frames .entry)) ⌝ }
 {
     if whole_frames(frames.len()) {
         let found = order::order(frames);

@@ -19,15 +19,14 @@ ghost use Prim.Native.Nat.{ℕ, _+_, _≤_};
 ghost use lib.ListN.{length};
 ghost use Rattle.rule.specs.Limits.{bufferBytes};
 ghost use Rattle.rule.specs.ReadLimits.{textLimit};
-ghost use Rattle.rule.specs.Told.{readTold};
+ghost use Rattle.rule.specs.ReadTold.{refused, readTold};
 ghost use Rattle.rule.specs.Machine.{start};
 ghost use Rattle.rule.specs.Memory.{mem};
 ghost use Rattle.rule.specs.ReadsPart.{runFrom};
 ghost use Rattle.rule.specs.Reading.{concluded, readOf, unread, readerAnswer};
-ghost use Rattle.rule.specs.Answers.{refusedAs};
 
 fn refuse(number: u8, place: u32) -> Reading
-    ensures { λ r. ⌜ r ≡ refusedAs number place ⌝ }
+    ensures { λ r. ⌜ readTold r ≡ refused number place ⌝ }
 {
     Reading::Refused(Refusal { number, place })
 }
@@ -86,7 +85,7 @@ fn whole(text: &[u8], names: &mut [u64; 12], buf: &mut [u8; 512]) -> Step
 fn conclude(buf: &[u8], frames: &mut [u8], m: Registers) -> Reading
     requires { ⌜ (length (now buf) ≡ bufferBytes) × (length (now frames) ≡ bufferBytes)
         × (m .name ≤ textLimit + 1) × (m .number ≤ textLimit + 1) ⌝ }
-    ensures { λ r. ⌜ ((tb : List ℕ) → (r ≡ concluded (now (frames .entry)) (mem m tb (now (buf .entry))) .0)
+    ensures { λ r. ⌜ ((tb : List ℕ) → (readTold r ≡ concluded (now (frames .entry)) (mem m tb (now (buf .entry))) .0)
         × (now (frames .exit) ≡ concluded (now (frames .entry)) (mem m tb (now (buf .entry))) .1)) ⌝ }
 {
     if m.name != 0 {
@@ -116,9 +115,8 @@ fn conclude(buf: &[u8], frames: &mut [u8], m: Registers) -> Reading
 // Reads a rule's text into frames, for every text and every buffer: refusals 1 to 8 in this order. A refusal leaves the buffer
 // as it was; else it holds the frames, and zero after the last.
 pub fn read(text: &[u8], frames: &mut [u8]) -> Reading
-    ensures { λ r. ⌜ (r ≡ readOf (now (text .entry)) (now (frames .entry)) .0)
+    ensures { λ r. ⌜ (readTold r ≡ readOf (now (text .entry)) (now (frames .entry)) .0)
         × (now (frames .exit) ≡ readOf (now (text .entry)) (now (frames .entry)) .1) ⌝ }
-    ensures { λ r. ⌜ readTold r ≡ readTold (readOf (now (text .entry)) (now (frames .entry)) .0) ⌝ }
 {
     if frames.len() != limits::BUFFER_BYTES {
         return refuse(1, 0);

@@ -8,7 +8,7 @@ use Rattle.rule.specs.Limits.{referenceMagnitude}
 use Rattle.rule.specs.Tree.{Reference, Sum, Cond, IsRule, references, magnitude}
 use Rattle.rule.specs.Build.{treeOf}
 use Rattle.rule.specs.Check.{checkedOf}
-use Rattle.rule.specs.declared.Checked.the-variants.{Accepted}
+use Rattle.rule.specs.CheckTold as checking
 use Rattle.verdict.specs.Found.{instanceLimit, Found, foundIn, Given, givenIn}
 use Rattle.verdict.specs.Value.{noteOf, valueS, value}
 use Rattle.verdict.specs.Settled.{settled, judgement}
@@ -23,7 +23,7 @@ use Rattle.verdict.proofs.Means
 
 -- what judge answers of accepted frames is the document's: the value of the rule's tree where the instance is settled,
 -- whatever the references are, so long as the arrays tell it
-pub judge-accepted : (s : List ℕ) (g : Given) (marks : List ℕ) (notes : List ℤ) → checkedOf s ≡ Accepted → TellAll s (g .found) marks notes
+pub judge-accepted : (s : List ℕ) (g : Given) (marks : List ℕ) (notes : List ℤ) → checkedOf s ≡ checking.accepted → TellAll s (g .found) marks notes
     → judgementOf s (g .instance) marks notes ≡ judgement g (treeOf s)
 judge-accepted = Means.judge-accepted
 

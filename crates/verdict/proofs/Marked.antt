@@ -12,8 +12,7 @@ use Rattle.rule.specs.Order.{orderOf}
 use Rattle.rule.specs.References.{referenceCount}
 use Rattle.rule.specs.Sizes.{sizesFit}
 use Rattle.rule.specs.Check.{checkedOf}
-use Rattle.rule.specs.Opening.{refused}
-use Rattle.rule.specs.declared.Checked.the-variants.{Accepted}
+use Rattle.rule.specs.CheckTold as checking
 use Rattle.rule.proofs.Laws.{latency}
 use Rattle.verdict.specs.Found.{givenIn}
 use Rattle.verdict.specs.Settled.{judgement}
@@ -93,10 +92,10 @@ product = arithmetic multiply (t 0 (pos 0)) (t 1 (pos 0))
 abbrev opened : Sum → List ℕ
 opened a = bytesOf (postfix (relation more a (literal 0)))
 
-m11 : checkedOf (opened product) ≡ Accepted
+m11 : checkedOf (opened product) ≡ checking.accepted
 unfolding checkedOf orderOf referenceCount sizesFit kindOf
 m11 = refl
 
-m11-more : checkedOf (opened (arithmetic add product (literal 1))) ≡ refused 8 0
+m11-more : checkedOf (opened (arithmetic add product (literal 1))) ≡ checking.refused 8 0
 unfolding checkedOf orderOf referenceCount sizesFit kindOf
 m11-more = refl

@@ -6,7 +6,7 @@ use lib.IntN.{ℤ}
 use Rattle.rule.specs.Tree.{IsRule}
 use Rattle.rule.specs.Build.{treeOf}
 use Rattle.rule.specs.Check.{checkedOf}
-use Rattle.rule.specs.declared.Checked.the-variants.{Accepted}
+use Rattle.rule.specs.CheckTold as checking
 use Rattle.rule.proofs.Main.{tree-of}
 use Rattle.rule.proofs.Laws.{passed, rule-fine}
 use Rattle.verdict.specs.Found.{Given}
@@ -15,7 +15,7 @@ use Rattle.verdict.specs.Marks.{TellAll}
 use Rattle.verdict.specs.Pass.{judgementOf}
 use Rattle.verdict.proofs.Mirror.{judge-tree}
 
-pub judge-accepted : (s : List ℕ) (g : Given) (marks : List ℕ) (notes : List ℤ) → checkedOf s ≡ Accepted → TellAll s (g .found) marks notes
+pub judge-accepted : (s : List ℕ) (g : Given) (marks : List ℕ) (notes : List ℤ) → checkedOf s ≡ checking.accepted → TellAll s (g .found) marks notes
     → judgementOf s (g .instance) marks notes ≡ judgement g (treeOf s)
 judge-accepted s g marks notes e t = judge-tree s g marks notes (passed s e .order) t
 

@@ -9,7 +9,7 @@ use Rattle.rule.specs.Frames.{frameAt, frameCount}
 use Rattle.rule.specs.Tree.{Reference}
 use Rattle.rule.specs.References.{referenceByte, referenceOf}
 use Rattle.rule.specs.Check.{checkedOf}
-use Rattle.rule.specs.declared.Checked.the-variants.{Accepted}
+use Rattle.rule.specs.CheckTold as checking
 use Rattle.verdict.specs.Found.{instanceLimit, Found, present, pending, void}
 
 -- "a mark (00 present, 01 pending, 02 void)": 00
@@ -38,7 +38,7 @@ TellAll s found marks notes =
 
 -- what judge requires: frames that opening would not refuse, not "p over 1,009,999", an entry for each frame
 pub record Judgeable (s : List ℕ) (i : ℕ) (marks : List ℕ) (notes : List ℤ) : Type 0 where
-  pub accepted : checkedOf s ≡ Accepted
+  pub accepted : checkedOf s ≡ checking.accepted
   pub instance-in : i ≤ instanceLimit
   pub marked : frameCount s ≤ length marks
   pub noted : frameCount s ≤ length notes

@@ -10,7 +10,7 @@ run-first-requires c κs =
     let at-read = at-count .before .before .before in
     let entry = at-read .before .before .before in
     let r = at-read .read in
-    read-room (entry .args .text .now) _ (r .result) _ _ (r .ensures .0 .0) (r .ensures .0 .1) (at-count .count .given .1)
+    read-room (entry .args .text .now) _ (r .result) _ _ (r .ensures .0) (r .ensures .1) (at-count .count .given .1)
 
 pub run-text-spec : {M : Type 1} → statement M
 run-text-spec =

@@ -1,5 +1,5 @@
 -- `rule::check` meets its contract. Assumes nothing.
-use mathlib.Core.Path.{_≡_, ap, sym, _∙_}
+use mathlib.Core.Path.{_≡_, sym, _∙_}
 use mathlib.Core.Bool.{true, false}
 use Prim.Native.Nat.{_≤_}
 use native.Mathlib.Omega.{arith}
@@ -9,9 +9,7 @@ use borrow.Author.Tests.{eq-eqb, ne-eqb}
 use Rattle.rule.specs.Frames.{frameCount}
 use Rattle.rule.specs.Order.{orderOf}
 use Rattle.rule.specs.Sizes.{sizesFit}
-use Rattle.rule.specs.Told.{checkTold}
 use Rattle.rule.specs.Check.{wholeFrames, checkedOf}
-use Rattle.rule.specs.declared.Checked.{Checked}
 use Rattle.rule.specs.declared.order.Ordered.the-variants.{Fine, At}
 use Rattle.rule.proofs.FrameOrder.{place-le, fine-order}
 use Rattle.rule.proofs.FrameLength.{true-whole}
@@ -46,10 +44,6 @@ sizes-fit-requires c κs =
     let o : orderOf s ≡ Fine m = sym (at-order .order .ensures) ∙ at-found2 .found2 .given .1 in
     (fine-order s m o, true-whole (length s) w .most)
 
--- the answer, and what it tells
-with-told : {a b : Checked} → a ≡ b → (a ≡ b) × (checkTold a ≡ checkTold b)
-with-told e = (e, ap checkTold e)
-
 returns : tie.Need-returns
 unfolding checkedOf
 returns c =
@@ -62,7 +56,7 @@ returns c =
     let w : wholeFrames (length s) ≡ true = sym (at-whole-frames .whole-frames .ensures) ∙ at-if1 .if1 .taken in
     let p = at-found .found .given .0 .0 in
     let o : orderOf s ≡ At p = sym (at-order .order .ensures) ∙ at-found .found .given .1 in
-    with-told (rw (w, o) (c .refuse .ensures))
+    rw (w, o) (c .refuse .ensures)
 
 returns-2 : tie.Need-returns-2
 unfolding checkedOf
@@ -76,7 +70,7 @@ returns-2 c =
     let w : wholeFrames (length s) ≡ true = sym (at-whole-frames .whole-frames .ensures) ∙ at-if1 .if1 .taken in
     let m = at-found2 .found2 .given .0 .0 in
     let o : orderOf s ≡ Fine m = sym (at-order .order .ensures) ∙ at-found2 .found2 .given .1 in
-    with-told (rw (w, o, eq-eqb m 0 (c .before .if2 .taken)) (c .refuse2 .ensures))
+    rw (w, o, eq-eqb m 0 (c .before .if2 .taken)) (c .refuse2 .ensures)
 
 returns-3 : tie.Need-returns-3
 unfolding checkedOf
@@ -92,7 +86,7 @@ returns-3 c =
     let m = at-found2 .found2 .given .0 .0 in
     let o : orderOf s ≡ Fine m = sym (at-order .order .ensures) ∙ at-found2 .found2 .given .1 in
     let z : sizesFit s ≡ true = sym (c .before .sizes-fit .ensures) ∙ c .if3 .taken in
-    with-told (rw (w, o, ne-eqb m 0 (at-if2 .if2 .left), z))
+    rw (w, o, ne-eqb m 0 (at-if2 .if2 .left), z)
 
 returns-4 : tie.Need-returns-4
 unfolding checkedOf
@@ -109,7 +103,7 @@ returns-4 c =
     let m = at-found2 .found2 .given .0 .0 in
     let o : orderOf s ≡ Fine m = sym (at-order .order .ensures) ∙ at-found2 .found2 .given .1 in
     let z : sizesFit s ≡ false = sym (at-sizes-fit .sizes-fit .ensures) ∙ c .before .if3 .left in
-    with-told (rw (w, o, ne-eqb m 0 (at-if2 .if2 .left), z) (c .refuse3 .ensures))
+    rw (w, o, ne-eqb m 0 (at-if2 .if2 .left), z) (c .refuse3 .ensures)
 
 returns-5 : tie.Need-returns-5
 unfolding checkedOf
@@ -118,7 +112,7 @@ returns-5 c =
     let entry = at-whole-frames .before .before in
     let s = entry .args .frames .now in
     let w : wholeFrames (length s) ≡ false = sym (at-whole-frames .whole-frames .ensures) ∙ c .before .if1 .left in
-    with-told (rw w (c .refuse4 .ensures))
+    rw w (c .refuse4 .ensures)
 
 pub check-spec : {M : Type 1} → statement M
 check-spec =

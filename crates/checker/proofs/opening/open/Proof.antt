@@ -8,7 +8,8 @@ use lib.IntN.{pos}
 use lib.ListN.{length, replicate}
 use Rattle.numbers.proofs.Bools.{and-true}
 use Rattle.rule.specs.Check.{checkedOf}
-use Rattle.rule.specs.declared.Checked.the-variants.{Accepted, Refused}
+use Rattle.rule.specs.CheckTold.{checkTold}
+use Rattle.rule.specs.CheckTold as checking
 use Rattle.rule.proofs.Laws.{passed}
 use Rattle.checker.specs.Limits.{windowWords}
 use Rattle.checker.specs.Open.{widthFits, openDef, openOutcome}
@@ -22,7 +23,7 @@ fresh-requires c κs =
     let at-enum-told = c .before .before .before .before .before .before in
     let at-check = at-enum-told .before .before in
     let entry = at-check .before .before in
-    passed (entry .args .frames .now) (sym (at-check .check .ensures .0) ∙ at-enum-told .enum-told .given .1) .whole .most
+    passed (entry .args .frames .now) (sym (at-check .check .ensures) ∙ ap checkTold (at-enum-told .enum-told .given .1)) .whole .most
 
 returns : tie.Need-returns
 unfolding openDef
@@ -30,7 +31,8 @@ returns c =
     let at-checked = c .before .before in
     let at-check = at-checked .before .before in
     let entry = at-check .before .before in
-    let e : checkedOf (entry .args .frames .now) ≡ Refused (at-checked .checked .given .0 .0) = sym (at-check .check .ensures .0) ∙ at-checked .checked .given .1 in
+    let why = at-checked .checked .given .0 .0 in
+    let e : checkedOf (entry .args .frames .now) ≡ checking.refused (why .number) (why .place) = sym (at-check .check .ensures) ∙ ap checkTold (at-checked .checked .given .1) in
     rw e (ap (λ (x : Opened). openOutcome x (entry .args .window .now)) (c .refuse .ensures))
 
 returns-2 : tie.Need-returns-2
@@ -46,7 +48,7 @@ returns-2 c =
     let a = entry .args in
     let s = a .frames .now in
     let win = a .window .now in
-    let e : checkedOf s ≡ Accepted = sym (at-check .check .ensures .0) ∙ at-enum-told .enum-told .given .1 in
+    let e : checkedOf s ≡ checking.accepted = sym (at-check .check .ensures) ∙ ap checkTold (at-enum-told .enum-told .given .1) in
     let t : (widthFits (a .width) && eqb (length win) (windowWords (a .width))) ≡ true = rw (at-width-fits .width-fits .ensures, at-window-fits .window-fits .ensures) at (at-if1 .if1 .taken) in
     let l : length win ≡ windowWords (a .width) = eqb-true (length win) (windowWords (a .width)) (and-true (widthFits (a .width)) (eqb (length win) (windowWords (a .width))) t .1) in
     let w = at-clear .clear .ensures ∙ ap (λ (n : ℕ). replicate n (pos 0)) l in
@@ -63,7 +65,7 @@ returns-3 c =
     let a = entry .args in
     let s = a .frames .now in
     let win = a .window .now in
-    let e : checkedOf s ≡ Accepted = sym (at-check .check .ensures .0) ∙ at-enum-told .enum-told .given .1 in
+    let e : checkedOf s ≡ checking.accepted = sym (at-check .check .ensures) ∙ ap checkTold (at-enum-told .enum-told .given .1) in
     let t : (widthFits (a .width) && eqb (length win) (windowWords (a .width))) ≡ false = rw (at-width-fits .width-fits .ensures, at-window-fits .window-fits .ensures) at (c .before .if1 .left) in
     rw (e, t) (ap (λ (x : Opened). openOutcome x win) (c .refuse2 .ensures))
 

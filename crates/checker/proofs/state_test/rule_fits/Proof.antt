@@ -18,7 +18,7 @@ returns c =
     let at-check = c .before .before in
     let at-if1 = at-check .before .before in
     let entry = at-if1 .before .before in
-    rw (le-leb (entry .args .len) 64 (at-if1 .if1 .taken), c .before .accepted .ensures, at-check .check .ensures .0, c .width-fits .ensures)
+    rw (le-leb (entry .args .len) 64 (at-if1 .if1 .taken), c .before .accepted .ensures, at-check .check .ensures, c .width-fits .ensures)
 
 returns-2 : tie.Need-returns-2
 returns-2 c = rw (lt-leb (c .before .before .args .len) 64 (c .if1 .left))

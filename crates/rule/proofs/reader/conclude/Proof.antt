@@ -6,8 +6,8 @@ use denote.Ref.{now}
 use lib.Seq.{length-take-le}
 use Rattle.rule.specs.Memory.{mem}
 use Rattle.rule.specs.Reading.{afterCheck}
-use Rattle.rule.specs.declared.Reading.{Reading}
-use Rattle.rule.specs.declared.Checked.{Checked}
+use Rattle.rule.specs.ReadTold.{ReadAnswer}
+use Rattle.rule.specs.CheckTold.{CheckAnswer, checkTold}
 use Rattle.rule.proofs.ReaderConclusion.{four, five, six-deep, six-frames, seven-eight}
 use borrow.Author.Needs.{needs}
 use Rattle.rule.proofs.reader.conclude.Statement.{statement}
@@ -21,7 +21,7 @@ returns c =
     let at-if1 = c .before .before in
     let entry = at-if1 .before .before .before .before in
     λ tb. let e = four (now (entry .args .frames)) (entry .args .m) tb (now (entry .args .buf)) (at-if1 .if1 .taken) in
-    (c .refuse .ensures ∙ sym (ap (λ (x : Reading × List ℕ). x .0) e), sym (ap (λ (x : Reading × List ℕ). x .1) e))
+    (c .refuse .ensures ∙ sym (ap (λ (x : ReadAnswer × List ℕ). x .0) e), sym (ap (λ (x : ReadAnswer × List ℕ). x .1) e))
 
 cast-refuse-2 : tie.Need-cast-refuse-2
 cast-refuse-2 c = omega arith
@@ -32,7 +32,7 @@ returns-2 c =
     let at-if1 = at-if2 .before .before in
     let entry = at-if1 .before .before .before .before in
     λ tb. let e = five (now (entry .args .frames)) (entry .args .m) tb (now (entry .args .buf)) (at-if1 .if1 .left) (at-if2 .if2 .taken) in
-    (c .refuse2 .ensures ∙ sym (ap (λ (x : Reading × List ℕ). x .0) e), sym (ap (λ (x : Reading × List ℕ). x .1) e))
+    (c .refuse2 .ensures ∙ sym (ap (λ (x : ReadAnswer × List ℕ). x .0) e), sym (ap (λ (x : ReadAnswer × List ℕ). x .1) e))
 
 returns-3 : tie.Need-returns-3
 returns-3 c =
@@ -40,7 +40,7 @@ returns-3 c =
     let at-if1 = at-if2 .before .before in
     let entry = at-if1 .before .before .before .before in
     λ tb. let e = six-deep (now (entry .args .frames)) (entry .args .m) tb (now (entry .args .buf)) (at-if1 .if1 .left) (at-if2 .if2 .left) (c .before .if3 .taken) in
-    (c .refuse3 .ensures ∙ sym (ap (λ (x : Reading × List ℕ). x .0) e), sym (ap (λ (x : Reading × List ℕ). x .1) e))
+    (c .refuse3 .ensures ∙ sym (ap (λ (x : ReadAnswer × List ℕ). x .0) e), sym (ap (λ (x : ReadAnswer × List ℕ). x .1) e))
 
 returns-4 : tie.Need-returns-4
 returns-4 c =
@@ -49,7 +49,7 @@ returns-4 c =
     let at-if1 = at-if2 .before .before in
     let entry = at-if1 .before .before .before .before in
     λ tb. let e = six-frames (now (entry .args .frames)) (entry .args .m) tb (now (entry .args .buf)) (at-if1 .if1 .left) (at-if2 .if2 .left) (at-if3 .if3 .left) (c .before .if4 .taken) in
-    (c .refuse4 .ensures ∙ sym (ap (λ (x : Reading × List ℕ). x .0) e), sym (ap (λ (x : Reading × List ℕ). x .1) e))
+    (c .refuse4 .ensures ∙ sym (ap (λ (x : ReadAnswer × List ℕ). x .0) e), sym (ap (λ (x : ReadAnswer × List ℕ). x .1) e))
 
 slice-aggregate-check : tie.Need-slice-aggregate-check
 slice-aggregate-check c =
@@ -75,8 +75,8 @@ returns-5 c =
     let at-if1 = at-if2 .before .before in
     let entry = at-if1 .before .before .before .before in
     λ tb. let e = seven-eight (now (entry .args .frames)) (entry .args .m) tb (now (entry .args .buf)) (at-if1 .if1 .left) (at-if2 .if2 .left) (at-if3 .if3 .left) (at-if4 .if4 .left) in
-    let q = e ∙ ap (λ (a : Checked). afterCheck (now (entry .args .frames)) (mem (entry .args .m) tb (now (entry .args .buf))) a) (sym (at-check .check .ensures .0) ∙ c .before .answer .given .1) in
-    (sym (ap (λ (x : Reading × List ℕ). x .0) q), sym (ap (λ (x : Reading × List ℕ). x .1) q))
+    let q = e ∙ ap (λ (a : CheckAnswer). afterCheck (now (entry .args .frames)) (mem (entry .args .m) tb (now (entry .args .buf))) a) (sym (at-check .check .ensures) ∙ ap checkTold (c .before .answer .given .1)) in
+    (sym (ap (λ (x : ReadAnswer × List ℕ). x .0) q), sym (ap (λ (x : ReadAnswer × List ℕ). x .1) q))
 
 returns-6 : tie.Need-returns-6
 unfolding mem
@@ -90,8 +90,8 @@ returns-6 c =
     let at-if1 = at-if2 .before .before in
     let entry = at-if1 .before .before .before .before in
     λ tb. let e = seven-eight (now (entry .args .frames)) (entry .args .m) tb (now (entry .args .buf)) (at-if1 .if1 .left) (at-if2 .if2 .left) (at-if3 .if3 .left) (at-if4 .if4 .left) in
-    let q = e ∙ ap (λ (a : Checked). afterCheck (now (entry .args .frames)) (mem (entry .args .m) tb (now (entry .args .buf))) a) (sym (at-check .check .ensures .0) ∙ at-enum-told .enum-told .given .1) in
-    (sym (ap (λ (x : Reading × List ℕ). x .0) q), at-copy .copy .ensures ∙ sym (ap (λ (x : Reading × List ℕ). x .1) q))
+    let q = e ∙ ap (λ (a : CheckAnswer). afterCheck (now (entry .args .frames)) (mem (entry .args .m) tb (now (entry .args .buf))) a) (sym (at-check .check .ensures) ∙ ap checkTold (at-enum-told .enum-told .given .1)) in
+    (sym (ap (λ (x : ReadAnswer × List ℕ). x .0) q), at-copy .copy .ensures ∙ sym (ap (λ (x : ReadAnswer × List ℕ). x .1) q))
 
 pub conclude-spec : {M : Type 1} → statement M
 conclude-spec = tie.close (tie.spec

@@ -4,11 +4,10 @@ use mathlib.Core.List.{List}
 use Prim.Native.Nat.{ℕ}
 use denote.Ref.{now}
 use lib.ListN.{length, replicate}
-use Rattle.rule.specs.Told.{readTold}
 use Rattle.rule.specs.Machine.{MachineAnswer}
 use Rattle.rule.specs.Memory.{Mem}
 use Rattle.rule.specs.Reading.{readerAnswer}
-use Rattle.rule.specs.declared.Reading.{Reading}
+use Rattle.rule.specs.ReadTold.{ReadAnswer}
 use Rattle.rule.specs.declared.memory.Step.{Step}
 use Rattle.rule.proofs.ReaderEnd.{OkA}
 use Rattle.rule.proofs.ReaderConclusion.{one, two-none, two-many, three, starts, judged-ok, kept-name, kept-number, kept-long}
@@ -16,22 +15,18 @@ use borrow.Author.Needs.{needs}
 use Rattle.rule.proofs.reader.read.Statement.{statement}
 use Rattle.rule.proofs.reader.read.Tie as tie
 
--- the answer and the buffer, and what the answer tells
-with-told : {a b : Reading} {s t : List ℕ} → a ≡ b → s ≡ t → ((a ≡ b) × (s ≡ t)) × (readTold a ≡ readTold b)
-with-told e f = ((e, f), ap readTold e)
-
 returns : tie.Need-returns
 returns c =
     let entry = c .before .before .before .before in
     let e = one (now (entry .args .text)) (now (entry .args .frames)) (c .before .if1 .taken) in
-    with-told (c .refuse .ensures ∙ sym (ap (λ (x : Reading × List ℕ). x .0) e)) (sym (ap (λ (x : Reading × List ℕ). x .1) e))
+    (c .refuse .ensures ∙ sym (ap (λ (x : ReadAnswer × List ℕ). x .0) e), sym (ap (λ (x : ReadAnswer × List ℕ). x .1) e))
 
 returns-2 : tie.Need-returns-2
 returns-2 c =
     let at-if1 = c .before .before in
     let entry = at-if1 .before .before .before in
     let e = two-none (now (entry .args .text)) (now (entry .args .frames)) (at-if1 .if1 .left) (c .before .if2 .taken) in
-    with-told (c .refuse2 .ensures ∙ sym (ap (λ (x : Reading × List ℕ). x .0) e)) (sym (ap (λ (x : Reading × List ℕ). x .1) e))
+    (c .refuse2 .ensures ∙ sym (ap (λ (x : ReadAnswer × List ℕ). x .0) e), sym (ap (λ (x : ReadAnswer × List ℕ). x .1) e))
 
 returns-3 : tie.Need-returns-3
 returns-3 c =
@@ -39,7 +34,7 @@ returns-3 c =
     let at-if1 = at-if2 .before in
     let entry = at-if1 .before .before .before in
     let e = two-many (now (entry .args .text)) (now (entry .args .frames)) (at-if1 .if1 .left) (at-if2 .if2 .left) (c .before .if3 .taken) in
-    with-told (c .refuse3 .ensures ∙ sym (ap (λ (x : Reading × List ℕ). x .0) e)) (sym (ap (λ (x : Reading × List ℕ). x .1) e))
+    (c .refuse3 .ensures ∙ sym (ap (λ (x : ReadAnswer × List ℕ). x .0) e), sym (ap (λ (x : ReadAnswer × List ℕ). x .1) e))
 
 whole-requires : tie.Need-whole-requires
 whole-requires c κs = refl
@@ -83,7 +78,7 @@ returns-4 c =
     let entry = at-if1 .before .before .before in
     let j = starts (now (entry .args .text)) (replicate 12 0) ∙ (at-whole .whole .ensures ∙ ap (λ (q : Step). readerAnswer q (at-whole .whole .last .1 .0) (at-whole .whole .last .1 .1 .0)) (at-p .p .given .1)) in
     let e = three (now (entry .args .text)) (now (entry .args .frames)) _ (at-if1 .if1 .left) (at-if2 .if2 .left) (at-if3 .if3 .left) j in
-    with-told (c .refuse4 .ensures ∙ sym (ap (λ (x : Reading × List ℕ). x .0) e)) (sym (ap (λ (x : Reading × List ℕ). x .1) e))
+    (c .refuse4 .ensures ∙ sym (ap (λ (x : ReadAnswer × List ℕ). x .0) e), sym (ap (λ (x : ReadAnswer × List ℕ). x .1) e))
 
 returns-5 : tie.Need-returns-5
 returns-5 c =
@@ -97,7 +92,7 @@ returns-5 c =
     let j = starts (now (entry .args .text)) (replicate 12 0) ∙ (at-whole .whole .ensures ∙ ap (λ (q : Step). readerAnswer q (at-whole .whole .last .1 .0) (at-whole .whole .last .1 .1 .0)) (at-m .m .given .1)) in
     let e = three (now (entry .args .text)) (now (entry .args .frames)) _ (at-if1 .if1 .left) (at-if2 .if2 .left) (at-if3 .if3 .left) j in
     let s = at-conclude .conclude .ensures (at-whole .whole .last .1 .0) in
-    with-told (s .0 ∙ sym (ap (λ (x : Reading × List ℕ). x .0) e)) (s .1 ∙ sym (ap (λ (x : Reading × List ℕ). x .1) e))
+    (s .0 ∙ sym (ap (λ (x : ReadAnswer × List ℕ). x .0) e), s .1 ∙ sym (ap (λ (x : ReadAnswer × List ℕ). x .1) e))
 
 pub read-spec : {M : Type 1} → statement M
 read-spec = tie.close (tie.spec

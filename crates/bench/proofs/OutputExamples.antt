@@ -1,0 +1,272 @@
+-- What the program prints for document 01's own example, and for a rule that has a false verdict before the first line, computed from
+-- the definition step by step. Assumes nothing.
+use mathlib.Core.Path.{_≡_, refl, ap, _∙_}
+use mathlib.Core.Bool.{true, false}
+use mathlib.Core.List.{List, [], _∷_, _++_}
+use Prim.Native.Nat.{ℕ, suc}
+use Prim.Native.String.{String}
+use lib.IntN.{ℤ, pos}
+use lib.ListN.{take, replicate}
+use Rattle.rule.specs.Limits.{bufferBytes}
+use Rattle.rule.specs.Class.{classOf, span}
+use Rattle.rule.specs.Token.{same, wordKind, longestMark, markWidth, tokenKind, widthOf, tokenHere, tokenAt, tokensIn, tokensFrom}
+use Rattle.rule.specs.Name.{code, nameCode}
+use Rattle.rule.specs.Number.{numberValue}
+use Rattle.rule.specs.Spelling.{decimalFrom, decimal}
+use Rattle.rule.specs.Machine.{deeper, startFactor, step, finish, run}
+use Rattle.rule.specs.Memory.{position, negated, put, acts}
+use Rattle.rule.specs.Frames.{kindOf}
+use Rattle.rule.specs.References.{referenceCount}
+use Rattle.rule.specs.Order.{orderOf}
+use Rattle.rule.specs.Sizes.{sizesFit}
+use Rattle.rule.specs.Build.{treeOf}
+use Rattle.rule.specs.Check.{checkedOf}
+use Rattle.rule.specs.ReadTold as reading
+use Rattle.rule.specs.Reading.{judged, readOf}
+use Rattle.rule.proofs.Laws.{bytes}
+use Rattle.log.specs.Digit.{digitValue}
+use Rattle.log.specs.Line.{digitsAtFront, badPlace, lineOf}
+use Rattle.log.specs.Walk.{linesOf}
+use Rattle.checker.specs.Limits.{windowWords}
+use Rattle.checker.specs.Base.{ofEvent, referenced, smallest, base, firstInstance}
+use Rattle.checker.specs.State.{stateWith, freshState, withTally}
+use Rattle.checker.specs.Ring.{stored, kept}
+use Rattle.checker.specs.Open.{openDef}
+use Rattle.checker.specs.StateTest.{rulePasses, countPasses, allTo, tallyPasses, statePasses}
+use Rattle.checker.specs.Admission.{admission}
+use Rattle.checker.specs.Feed.{feedEvent, feedDef}
+use Rattle.checker.specs.Report.{reportBytes}
+use Rattle.checker.specs.Pull.{pullRead, pullDef}
+use Rattle.bench.specs.Print.{hexOf}
+use Rattle.bench.specs.Progress.{Progress, pullOf, isVerdict, pulledOnce, pulls, pullLimit, fedLine, afterLine, afterLines}
+use Rattle.bench.specs.Output.{benchWidth, beforeLog, withTotals, begun, wholeRun, openedFor, outputOf}
+use Rattle.bench.proofs.Whole.{output-run, output-refused}
+
+-- lines, each with its LF
+abbrev lines : List String → List ℕ
+lines [] = []
+lines (l ∷ ls) = bytes l ++ (10 ∷ lines ls)
+
+-- ---- pulls, one by one
+-- nothing is settled, and nothing changes
+pub record Waits (x : Progress) : Type 0 where
+  pub none : isVerdict (pullOf x .answer) ≡ false
+  pub same : pulledOnce x ≡ x
+
+-- a verdict, after which the run has come to y
+pub record Pulls (x y : Progress) : Type 0 where
+  pub some : isVerdict (pullOf x .answer) ≡ true
+  pub then : pulledOnce x ≡ y
+
+waits : (k : ℕ) {x : Progress} → Waits x → pulls (suc k) x ≡ x
+unfolding pulls
+waits k w = rw (w .none) (w .same)
+
+one-verdict : (k : ℕ) {x y : Progress} → Pulls x y → Waits y → pulls (suc (suc k)) x ≡ y
+unfolding pulls
+one-verdict k p w = rw (p .some, p .then) (waits k w)
+
+-- ---- document 01's example
+abbrev latency : String
+latency = "events in out; notes t; t(out[i]) - t(in[i]) <= 25"
+
+-- its five frames, and the buffer that `read` fills
+abbrev framesOf5 : List ℕ
+framesOf5 =
+    0x03 ∷ 1 ∷ 0 ∷ 1 ∷ 0 ∷ 0 ∷ 0 ∷ 0 ∷ 0x03 ∷ 0 ∷ 0 ∷ 1 ∷ 0 ∷ 0 ∷ 0 ∷ 0 ∷ 0x12 ∷ 0 ∷ 0 ∷ 0 ∷ 0 ∷ 0 ∷ 0 ∷ 0
+    ∷ 0x01 ∷ 0 ∷ 0 ∷ 0 ∷ 0 ∷ 0 ∷ 0 ∷ 25 ∷ 0x24 ∷ 0 ∷ 0 ∷ 0 ∷ 0 ∷ 0 ∷ 0 ∷ 0 ∷ []
+
+abbrev filled : List ℕ
+filled = framesOf5 ++ replicate 472 0
+
+read-latency : readOf (bytes latency) (replicate bufferBytes 0) ≡ (reading.frames 5, filled)
+unfolding classOf span same wordKind longestMark markWidth tokenKind widthOf tokenHere tokenAt tokensIn tokensFrom code nameCode decimalFrom decimal numberValue startFactor step finish run deeper position negated put acts judged readOf kindOf referenceCount orderOf sizesFit checkedOf
+read-latency = refl
+
+-- how far the program has come with so many frames: lines of events 0 and 1, p and the totals, the window's words, what is printed,
+-- lines accepted
+abbrev come : List ℕ → ℕ → ℕ → ℕ → ℕ → ℕ → ℕ → List ℤ → List ℕ → ℕ → Progress
+come frames len ins outs p held failed words said n =
+    record {
+      state = stateWith frames len benchWidth (record {
+        counts = ins ∷ (outs ∷ replicate 6 0);
+        next = p;
+        totals = record { held = held; failed = failed; unknown = 0 };
+      });
+      words = words;
+      counts = record { accepted = n; ignored = 0; refused = 0 };
+      said = said;
+    }
+
+-- the words of an event's first two lines
+abbrev twoLines : ℤ → ℤ → List ℤ
+twoLines a b = a ∷ (pos 0 ∷ (pos 0 ∷ (pos 0 ∷ (b ∷ replicate 251 (pos 0)))))
+
+-- the window: `in` 10 and 50, `out` 40 and 75, as they come
+abbrev window : ℤ → ℤ → ℤ → ℤ → List ℤ
+window a b c d = twoLines a b ++ (twoLines c d ++ replicate 1536 (pos 0))
+
+abbrev report : List ℕ
+report = lines ("0000000000020000000028000000000A" ∷ [])
+
+-- ---- before the first line and after each: what was fed, and then each pull
+abbrev start : Progress
+start = come filled 5 0 0 0 0 0 (window (pos 0) (pos 0) (pos 0) (pos 0)) [] 0
+
+abbrev after1 : Progress
+after1 = come filled 5 1 0 0 0 0 (window (pos 10) (pos 0) (pos 0) (pos 0)) [] 1
+
+abbrev fed2 : Progress
+fed2 = come filled 5 1 1 0 0 0 (window (pos 10) (pos 0) (pos 40) (pos 0)) [] 2
+
+abbrev after2 : Progress
+after2 = come filled 5 1 1 1 0 1 (window (pos 10) (pos 0) (pos 40) (pos 0)) report 2
+
+abbrev after3 : Progress
+after3 = come filled 5 2 1 1 0 1 (window (pos 10) (pos 50) (pos 40) (pos 0)) report 3
+
+abbrev fed4 : Progress
+fed4 = come filled 5 2 2 1 0 1 (window (pos 10) (pos 50) (pos 40) (pos 75)) report 4
+
+abbrev after4 : Progress
+after4 = come filled 5 2 2 2 1 1 (window (pos 10) (pos 50) (pos 40) (pos 75)) report 4
+
+abbrev line1 : List ℕ
+line1 = bytes "000000000A000000000000000000000000"
+
+abbrev line2 : List ℕ
+line2 = bytes "0100000028000000000000000000000000"
+
+abbrev line3 : List ℕ
+line3 = bytes "0000000032000000000000000000000000"
+
+abbrev line4 : List ℕ
+line4 = bytes "010000004B000000000000000000000000"
+
+record Feeds : Type 0 where
+  first : fedLine start line1 ≡ after1
+  second : fedLine after1 line2 ≡ fed2
+  third : fedLine after2 line3 ≡ after3
+  fourth : fedLine after3 line4 ≡ fed4
+
+feeds : Feeds
+unfolding kindOf referenceCount orderOf sizesFit treeOf checkedOf digitValue digitsAtFront badPlace lineOf ofEvent referenced smallest base rulePasses countPasses allTo tallyPasses statePasses admission withTally stored kept feedEvent feedDef reportBytes pullRead pullDef hexOf pulledOnce fedLine
+feeds = record { first = refl; second = refl; third = refl; fourth = refl }
+
+record Rests : Type 0 where
+  at-first : Waits start
+  first : Waits after1
+  second : Waits after2
+  third : Waits after3
+  fourth : Waits after4
+
+rests : Rests
+unfolding kindOf referenceCount orderOf sizesFit treeOf checkedOf digitValue digitsAtFront badPlace lineOf ofEvent referenced smallest base rulePasses countPasses allTo tallyPasses statePasses admission withTally stored kept feedEvent feedDef reportBytes pullRead pullDef hexOf pulledOnce fedLine
+rests =
+    record {
+      at-first = record { none = refl; same = refl };
+      first = record { none = refl; same = refl };
+      second = record { none = refl; same = refl };
+      third = record { none = refl; same = refl };
+      fourth = record { none = refl; same = refl };
+    }
+
+-- instance 0 is false, with its report; instance 1 is true
+false-0 : Pulls fed2 after2
+unfolding kindOf referenceCount orderOf sizesFit treeOf checkedOf digitValue digitsAtFront badPlace lineOf ofEvent referenced smallest base rulePasses countPasses allTo tallyPasses statePasses admission withTally stored kept feedEvent feedDef reportBytes pullRead pullDef hexOf pulledOnce fedLine
+false-0 = record { some = refl; then = refl }
+
+true-1 : Pulls fed4 after4
+unfolding kindOf referenceCount orderOf sizesFit treeOf checkedOf digitValue digitsAtFront badPlace lineOf ofEvent referenced smallest base rulePasses countPasses allTo tallyPasses statePasses admission withTally stored kept feedEvent feedDef reportBytes pullRead pullDef hexOf pulledOnce fedLine
+true-1 = record { some = refl; then = refl }
+
+-- opening, and the whole run
+opens : beforeLog (openedFor framesOf5) ≡ start
+unfolding openDef freshState firstInstance checkedOf kindOf orderOf referenceCount sizesFit
+opens = refl
+
+abbrev four : List (List ℕ)
+four = line1 ∷ (line2 ∷ (line3 ∷ (line4 ∷ [])))
+
+run-four : afterLines (begun (openedFor framesOf5)) four ≡ after4
+unfolding afterLines
+run-four =
+    rw (opens, waits 1010000 (rests .at-first), feeds .first, waits 1010000 (rests .first), feeds .second, one-verdict 1009999 false-0 (rests .second), feeds .third, waits 1010000 (rests .third), feeds .fourth, one-verdict 1009999 true-1 (rests .fourth))
+
+-- ---- all that is printed
+abbrev logFour : List String
+logFour =
+    "000000000A000000000000000000000000" ∷ "0100000028000000000000000000000000" ∷ "0000000032000000000000000000000000"
+    ∷ "010000004B000000000000000000000000" ∷ []
+
+abbrev printedFour : List ℕ
+printedFour = lines ("0000000000020000000028000000000A" ∷ "000000010000000100000000000000040000000000000000" ∷ [])
+
+totals-four : withTotals after4 ≡ printedFour
+unfolding hexOf
+totals-four = refl
+
+for-four : (log : List ℕ) → linesOf log ≡ four → outputOf (bytes latency) log ≡ printedFour
+for-four log e =
+    output-run (bytes latency) log 5 filled read-latency
+    ∙ (ap (λ (ls : List (List ℕ)). withTotals (afterLines (begun (openedFor framesOf5)) ls)) e ∙ (ap withTotals run-four ∙ totals-four))
+
+-- the document's example, with the log's last LF and without
+pub document-example : outputOf (bytes latency) (lines logFour) ≡ printedFour
+unfolding linesOf
+document-example = for-four (lines logFour) refl
+
+pub without-last-LF : outputOf (bytes latency) (take 139 (lines logFour)) ≡ printedFour
+unfolding linesOf
+without-last-LF = for-four (take 139 (lines logFour)) refl
+
+-- ---- an empty log, and a rule whose first instance is false before any line: its reference is void
+abbrev atOnce : String
+atOnce = "events a; notes t; t(a[i-1]) > 0 && i > 0"
+
+abbrev framesOf7 : List ℕ
+framesOf7 =
+    0x03 ∷ 0 ∷ 0 ∷ 1 ∷ 255 ∷ 255 ∷ 255 ∷ 255 ∷ 0x01 ∷ 0 ∷ 0 ∷ 0 ∷ 0 ∷ 0 ∷ 0 ∷ 0 ∷ 0x25 ∷ 0 ∷ 0 ∷ 0 ∷ 0 ∷ 0 ∷ 0 ∷ 0
+    ∷ 0x02 ∷ 0 ∷ 0 ∷ 0 ∷ 0 ∷ 0 ∷ 0 ∷ 0 ∷ 0x01 ∷ 0 ∷ 0 ∷ 0 ∷ 0 ∷ 0 ∷ 0 ∷ 0 ∷ 0x25 ∷ 0 ∷ 0 ∷ 0 ∷ 0 ∷ 0 ∷ 0 ∷ 0
+    ∷ 0x32 ∷ 0 ∷ 0 ∷ 0 ∷ 0 ∷ 0 ∷ 0 ∷ 0 ∷ []
+
+abbrev filled7 : List ℕ
+filled7 = framesOf7 ++ replicate 456 0
+
+read-at-once : readOf (bytes atOnce) (replicate bufferBytes 0) ≡ (reading.frames 7, filled7)
+unfolding classOf span same wordKind longestMark markWidth tokenKind widthOf tokenHere tokenAt tokensIn tokensFrom code nameCode decimalFrom decimal numberValue startFactor step finish run deeper position negated put acts judged readOf kindOf referenceCount orderOf sizesFit checkedOf
+read-at-once = refl
+
+abbrev none7 : Progress
+none7 = come filled7 7 0 0 0 0 0 (replicate 2048 (pos 0)) [] 0
+
+abbrev one7 : Progress
+one7 = come filled7 7 0 0 1 0 1 (replicate 2048 (pos 0)) (lines ("0000000000010200000000" ∷ [])) 0
+
+opens-7 : beforeLog (openedFor framesOf7) ≡ none7
+unfolding openDef freshState firstInstance checkedOf kindOf orderOf referenceCount sizesFit
+opens-7 = refl
+
+false-at-once : Pulls none7 one7
+unfolding kindOf referenceCount orderOf sizesFit treeOf checkedOf ofEvent referenced smallest base rulePasses countPasses allTo tallyPasses statePasses admission withTally reportBytes pullRead pullDef hexOf pulledOnce
+false-at-once = record { some = refl; then = refl }
+
+then-waits : Waits one7
+unfolding kindOf referenceCount orderOf sizesFit treeOf checkedOf ofEvent referenced smallest base rulePasses countPasses allTo tallyPasses statePasses admission withTally reportBytes pullRead pullDef hexOf pulledOnce
+then-waits = record { none = refl; same = refl }
+
+begun-7 : begun (openedFor framesOf7) ≡ one7
+begun-7 = rw (opens-7, one-verdict 1009999 false-at-once then-waits)
+
+pub verdict-at-once : outputOf (bytes atOnce) [] ≡ lines ("0000000000010200000000" ∷ "000000000000000100000000000000000000000000000000" ∷ [])
+unfolding linesOf afterLines hexOf
+verdict-at-once = output-run (bytes atOnce) [] 7 filled7 read-at-once ∙ ap withTotals begun-7
+
+-- ---- refused rules, whatever the log: "`EE`, number (1 byte), place (2 bytes) as the only line"
+pub empty-rule : (log : List ℕ) → outputOf [] log ≡ lines ("EE020000" ∷ [])
+unfolding readOf hexOf
+empty-rule log = output-refused [] log 2 0 (replicate bufferBytes 0) refl
+
+pub undeclared-name : (log : List ℕ) → outputOf (bytes "events a; notes t; t(b[i]) > 0") log ≡ lines ("EE040015" ∷ [])
+unfolding classOf span same wordKind longestMark markWidth tokenKind widthOf tokenHere tokenAt tokensIn tokensFrom code nameCode decimalFrom decimal numberValue startFactor step finish run deeper position negated put acts judged readOf kindOf referenceCount orderOf sizesFit checkedOf hexOf
+undeclared-name log = output-refused (bytes "events a; notes t; t(b[i]) > 0") log 4 21 (replicate bufferBytes 0) refl
