@@ -1,21 +1,22 @@
--- Laws of a rule's references: an event's base is at most the start of each of its references, and rises with p.
--- Assumes nothing.
+-- Laws of a rule's references: an event's base is at most the start of each of its references, is that of one of them, and rises
+-- with p. Assumes nothing.
 use mathlib.Core.Path.{_≡_, refl, sym, _∙_, ap}
 use mathlib.Core.Bool.{Bool, true, false, cond}
 use mathlib.Core.List.{List, [], _∷_, map, List·Memᴰ, List·Memᴰ·head, List·Memᴰ·tail, List·Memᴰ·cases-cons}
-use mathlib.Core.Logic.{⊎-elim}
+use mathlib.Core.Logic.{_↔_, inl, inr, ⊎-elim}
 use Prim.Native.Nat.{ℕ, suc, _*_, _-_, _<_, _≤_}
 use native.Mathlib.Nat.{mul-le-mul-left, mul-le-mul-right}
 use native.Mathlib.Omega.{arith}
 use borrow.Author.Tests.{eq-eqb, eqb-true, ltb-true}
-use lib.Dec.{ltb, eqb}
-use lib.IntN.{ℤ, pos, negsuc, natAbs, subℕ, _+ℤ_}
+use lib.Dec.{ltb, eqb, leb→le, le→leb}
+use lib.IntN.{ℤ, pos, negsuc, natAbs, subℕ, _+ℤ_, _*ℤ_, pos-ne-negsuc}
 use Rattle.rule.specs.Tree.{Reference}
 use Rattle.numbers.proofs.Bools.{true-false}
 use Rattle.verdict.specs.Found.{meantBy, pending, Lookup, resolve}
 use Rattle.verdict.proofs.Laws.{resolve-late}
 use Rattle.checker.specs.Base.{ofEvent, isSome, referenced, orZero, startAt, smallest, base}
-use Rattle.checker.proofs.Choices.{cond-case}
+use Rattle.checker.specs.Base.{ReferenceTo, Referenced, Maximum, SmallestStart}
+use Rattle.checker.proofs.Choices.{cond-case, less-or}
 
 -- ---- an event's references
 in-event : (e : ℕ) (refs : List Reference) (r : Reference) → r .event ≡ e → List·Memᴰ r refs → List·Memᴰ r (ofEvent e refs)
@@ -27,6 +28,23 @@ in-event e (x ∷ xs) r q m =
     (λ (n : List·Memᴰ r xs). cond-case (λ l. List·Memᴰ r l) (eqb (x .event) e) _ _ (λ _. List·Memᴰ·tail (in-event e xs r q n)) (λ _. in-event e xs r q n))
     (List·Memᴰ·cases-cons m)
 
+event-in : (e : ℕ) (refs : List Reference) (r : Reference) → List·Memᴰ r (ofEvent e refs) → ReferenceTo refs e r
+unfolding ofEvent
+event-in e [] r m = elim m [ ]
+event-in e (x ∷ xs) r m = go (eqb (x .event) e) refl m (event-in e xs r)
+  where
+    later : ReferenceTo xs e r → ReferenceTo (x ∷ xs) e r
+    later h = record { one = List·Memᴰ·tail (h .one); names = h .names }
+
+    go : (t : Bool) → eqb (x .event) e ≡ t → List·Memᴰ r (cond t (x ∷ ofEvent e xs) (ofEvent e xs))
+        → (List·Memᴰ r (ofEvent e xs) → ReferenceTo xs e r) → ReferenceTo (x ∷ xs) e r
+    go true d m ih =
+        ⊎-elim
+        (λ (p : r ≡ x). record { one = List·Memᴰ·head p; names = ap (λ (y : Reference). y .event) p ∙ eqb-true (x .event) e d })
+        (λ (n : List·Memᴰ r (ofEvent e xs)). later (ih n))
+        (List·Memᴰ·cases-cons m)
+    go false d m ih = later (ih m)
+
 some-member : (l : List Reference) (r : Reference) → List·Memᴰ r l → isSome l ≡ true
 some-member [] r m = elim m [ ]
 some-member (x ∷ xs) r m = refl
@@ -34,6 +52,17 @@ some-member (x ∷ xs) r m = refl
 pub in-referenced : (refs : List Reference) (r : Reference) → List·Memᴰ r refs → referenced refs (r .event) ≡ true
 unfolding referenced
 in-referenced refs r m = some-member (ofEvent (r .event) refs) r (in-event (r .event) refs r refl m)
+
+some-one : (l : List Reference) → isSome l ≡ true → (r : Reference) × List·Memᴰ r l
+some-one [] q = absurd (true-false (sym q))
+some-one (x ∷ xs) q = (x, List·Memᴰ·head refl)
+
+pub referenced-exactly : (refs : List Reference) (e : ℕ) → (referenced refs e ≡ true) ↔ Referenced refs e
+unfolding referenced
+referenced-exactly refs e = (
+  λ q. (let x = some-one (ofEvent e refs) q in record { reference = x .0; its = event-in e refs (x .0) (x .1) }),
+  λ h. some-member (ofEvent e refs) (h .reference) (in-event e refs (h .reference) (h .its .names) (h .its .one)),
+)
 
 pub referenced-below : (n : ℕ) (refs : List Reference) (e : ℕ) → ((r : Reference) → List·Memᴰ r refs → r .event < n) → referenced refs e ≡ true → e < n
 unfolding referenced ofEvent
@@ -58,6 +87,35 @@ orZero-mono (negsuc k) a b h = rw (orZero-sub a (suc k), orZero-sub b (suc k)) (
 start-mono : (r : Reference) (p q : ℕ) → p ≤ q → startAt p r ≤ startAt q r
 start-mono r p q h = orZero-mono (r .offset) (r .factor * p) (r .factor * q) (mul-le-mul-left (r .factor) h)
 
+-- as a maximum of signed numbers
+start-by : (z : ℤ) (n : ℕ) → (orZero (meantBy z) ≡ n) ↔ Maximum (pos 0) z (pos n)
+start-by (pos k) n = (
+  λ q. record {
+    one = inr (ap pos (sym q));
+    first = record { le = le→leb 0 n (omega arith) };
+    second = record { le = le→leb k n (omega (arith, q)) };
+  },
+  λ m. ⊎-elim
+      (λ (q : pos n ≡ pos 0). let z : n ≡ 0 = ap natAbs q in omega (arith, leb→le k n (m .second .le)))
+      (λ (q : pos n ≡ pos k). sym (ap natAbs q))
+      (m .one),
+)
+start-by (negsuc k) n = (
+  λ q. record {
+    one = inl (ap pos (sym q));
+    first = record { le = le→leb 0 n (omega arith) };
+    second = record { le = tt };
+  },
+  λ m. ⊎-elim
+      (λ (q : pos n ≡ pos 0). sym (ap natAbs q))
+      (λ (q : pos n ≡ negsuc k). absurd (pos-ne-negsuc n k q))
+      (m .one),
+)
+
+pub start-exactly : (p n : ℕ) (r : Reference)
+    → (startAt p r ≡ n) ↔ Maximum (pos 0) (pos (r .factor) *ℤ pos p +ℤ r .offset) (pos n)
+start-exactly p n r = start-by (pos (r .factor) *ℤ pos p +ℤ r .offset) n
+
 -- ---- the smallest
 smallest-le : (f : Reference → ℕ) (l : List Reference) (r : Reference) → List·Memᴰ r l → smallest (map f l) ≤ f r
 unfolding smallest
@@ -70,6 +128,18 @@ smallest-le f (x ∷ (y ∷ l)) r m =
     (λ (n : List·Memᴰ r (y ∷ l)). omega (arith, smallest-le f (y ∷ l) r n))
     (List·Memᴰ·cases-cons m)
 
+smallest-one : (f : Reference → ℕ) (l : List Reference) (r : Reference) → List·Memᴰ r l
+    → (x : Reference) × List·Memᴰ x l × (smallest (map f l) ≡ f x)
+unfolding smallest
+smallest-one f [] r m = elim m [ ]
+smallest-one f (x ∷ []) r m = (x, List·Memᴰ·head refl, refl)
+smallest-one f (x ∷ (y ∷ l)) r m =
+    let n = smallest-one f (y ∷ l) y (List·Memᴰ·head refl) in
+    ⊎-elim
+    (λ (h : f x < smallest (map f (y ∷ l))). (x, List·Memᴰ·head refl, omega arith))
+    (λ (h : smallest (map f (y ∷ l)) ≤ f x). (n .0, List·Memᴰ·tail (n .1), omega (arith, n .2)))
+    (less-or (f x) (smallest (map f (y ∷ l))))
+
 smallest-mono : (f g : Reference → ℕ) → ((r : Reference) → f r ≤ g r) → (l : List Reference) → smallest (map f l) ≤ smallest (map g l)
 unfolding smallest
 smallest-mono f g h [] = omega arith
@@ -79,6 +149,26 @@ smallest-mono f g h (x ∷ (y ∷ l)) = omega (arith, h x, smallest-mono f g h (
 pub base-le : (refs : List Reference) (p : ℕ) (r : Reference) → List·Memᴰ r refs → base refs (r .event) p ≤ startAt p r
 unfolding base
 base-le refs p r m = smallest-le (startAt p) (ofEvent (r .event) refs) r (in-event (r .event) refs r refl m)
+
+pub base-exactly : (refs : List Reference) (e p b : ℕ) → Referenced refs e → (base refs e p ≡ b) ↔ SmallestStart refs e p b
+unfolding base
+base-exactly refs e p b h =
+    let n = smallest-one (startAt p) (ofEvent e refs) (h .reference) (its-in (h .reference) (h .its)) in
+    let i = event-in e refs (n .0) (n .1) in (
+      λ q. record {
+        reference = n .0;
+        its = i;
+        equal = sym q ∙ n .2;
+        at-most = λ r j. omega (arith, q, least r j);
+      },
+      λ m. omega (arith, least (m .reference) (m .its), m .equal, m .at-most (n .0) i, n .2),
+    )
+  where
+    its-in : (r : Reference) → ReferenceTo refs e r → List·Memᴰ r (ofEvent e refs)
+    its-in r j = in-event e refs r (j .names) (j .one)
+
+    least : (r : Reference) → ReferenceTo refs e r → smallest (map (startAt p) (ofEvent e refs)) ≤ startAt p r
+    least r j = smallest-le (startAt p) (ofEvent e refs) r (its-in r j)
 
 pub base-mono : (refs : List Reference) (e p q : ℕ) → p ≤ q → base refs e p ≤ base refs e q
 unfolding base

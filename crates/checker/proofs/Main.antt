@@ -4,13 +4,13 @@ use mathlib.Core.Bool.{true, false}
 use mathlib.Core.List.{List, [], _∷_, map, List·Memᴰ}
 use mathlib.Core.Logic.{_↔_, _≢_}
 use Prim.Native.Nat.{ℕ, _+_, _*_, _≤_, _<_}
-use lib.IntN.{ℤ, pos}
+use lib.IntN.{ℤ, pos, _+ℤ_, _*ℤ_}
 use lib.ListN.{length, take, getD, replicate}
 use Rattle.rule.specs.Limits.{frameBytes}
 use Rattle.rule.specs.Token.{tokens}
 use Rattle.rule.specs.Grammar.{Rule, yield, words}
 use Rattle.rule.specs.Frames.{Bytes}
-use Rattle.rule.specs.Tree.{references}
+use Rattle.rule.specs.Tree.{Reference, references}
 use Rattle.rule.specs.Build.{treeOf}
 use Rattle.rule.specs.Opening.{Proper}
 use Rattle.rule.specs.Reading.{readOf}
@@ -28,7 +28,7 @@ use Rattle.verdict.specs.declared.Verdict.{Verdict}
 use Rattle.verdict.specs.declared.Verdict.the-variants.{False, Unknown}
 use Rattle.checker.specs.Limits.{widthLimit, windowWords, lineLimit, reportLeast}
 use Rattle.checker.specs.Answer.{opened, accepted, waiting, verdict, refused}
-use Rattle.checker.specs.Base.{referenced, base, firstFor}
+use Rattle.checker.specs.Base.{referenced, startAt, base, Referenced, Maximum, SmallestStart, firstFor}
 use Rattle.checker.specs.State.{tallyIn, stateFrames, zeroState, SameRule}
 use Rattle.checker.specs.Ring.{wordAt}
 use Rattle.checker.specs.Open.{openDef}
@@ -60,6 +60,7 @@ use Rattle.checker.proofs.Charges
 use Rattle.checker.proofs.TariffExamples
 use Rattle.checker.proofs.Unchanged
 use Rattle.checker.proofs.Stays
+use Rattle.checker.proofs.Bases
 
 -- ---- a list of calls, whatever its lines and report buffers, from an unrefused opening, whatever W
 module _ {frames : List ℕ} {w : ℕ} {win : List ℤ} (o : Unrefused frames w win) (cs : List Call) where
@@ -249,6 +250,20 @@ zero-charge = Charges.zero-charge
 pub opens-exactly : {frames : List ℕ} (w : ℕ) (win : List ℤ) → Bytes frames
     → (openDef frames w win .answer ≡ opened) ↔ (Proper frames × (1 ≤ w) × (w ≤ widthLimit) × (length win ≡ windowWords w))
 opens-exactly = Exactly.opens-exactly
+
+-- ---- bases, whatever the references, the event and p
+-- an event is referenced exactly where a reference names it
+pub referenced-exactly : (refs : List Reference) (e : ℕ) → (referenced refs e ≡ true) ↔ Referenced refs e
+referenced-exactly = Bases.referenced-exactly
+
+-- "max(0, factor × p + offset)" of a reference, over the signed integers
+pub start-exactly : (p n : ℕ) (r : Reference)
+    → (startAt p r ≡ n) ↔ Maximum (pos 0) (pos (r .factor) *ℤ pos p +ℤ r .offset) (pos n)
+start-exactly = Bases.start-exactly
+
+-- "The base of an event is the smallest of max(0, factor × p + offset) over its references", of every event that is referenced
+pub base-exactly : (refs : List Reference) (e p b : ℕ) → Referenced refs e → (base refs e p ≡ b) ↔ SmallestStart refs e p b
+base-exactly = Bases.base-exactly
 
 -- ---- every call, whatever its arguments: what is refused, ignored or waiting leaves state and lent words as they were
 pub refused-unchanged-open : (frames : List ℕ) (w : ℕ) (win : List ℤ) → openDef frames w win .answer ≢ opened

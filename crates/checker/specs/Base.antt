@@ -1,9 +1,13 @@
 -- Which events a rule references, and an event's base. From document 01, "Feeding, pulling and the window".
 -- Assumes nothing: definitions.
+use mathlib.Core.Path.{_≡_}
 use mathlib.Core.Bool.{Bool, true, false, cond}
-use mathlib.Core.List.{List, [], _∷_, map}
-use Prim.Native.Nat.{ℕ, min}
+use mathlib.Core.List.{List, [], _∷_, map, List·Memᴰ}
+use mathlib.Core.Logic.{_⊎_}
+use Prim.Native.Nat.{ℕ, min, _≤_}
 use lib.Dec.{eqb}
+use lib.IntN.{ℤ}
+use lib.Signed.{_≤ℤ_}
 use Rattle.rule.specs.Tree.{Reference, references}
 use Rattle.rule.specs.Build.{treeOf}
 use Rattle.verdict.specs.Found.{meant}
@@ -43,6 +47,42 @@ smallest (n ∷ (m ∷ ns)) = min n (smallest (m ∷ ns))
 unfoldable pub base : List Reference → ℕ → ℕ → ℕ
 base refs e p = smallest (map (startAt p) (ofEvent e refs))
 
+-- ---- references, starts and base once more, as propositions
+-- "its references": r is one of them, for event e
+pub record ReferenceTo (refs : List Reference) (e : ℕ) (r : Reference) : Type 0 where
+  -- "over its references": the rule has it
+  pub one : List·Memᴰ r refs
+  -- "reference: name "(" name "[" index "]" ")", the note first, then the event": it names that event
+  pub names : r .event ≡ e
+
+-- not "An event that the rule doesn't reference": some reference is one to it
+pub record Referenced (refs : List Reference) (e : ℕ) : Type 0 where
+  -- "its references": one of them
+  pub reference : Reference
+  -- "its references": of that event
+  pub its : ReferenceTo refs e reference
+
+-- "max(..)" of two signed numbers
+pub record Maximum (a b m : ℤ) : Type 0 where
+  -- "max(0, factor × p + offset)": it is one of the two
+  pub one : (m ≡ a) ⊎ (m ≡ b)
+  -- "max(0, ..": at least the first
+  pub first : a ≤ℤ m
+  -- ".. factor × p + offset)": at least the second
+  pub second : b ≤ℤ m
+
+-- "the smallest of max(0, factor × p + offset) over its references": b, of event e
+pub record SmallestStart (refs : List Reference) (e p b : ℕ) : Type 0 where
+  -- "over its references": one of them
+  pub reference : Reference
+  -- "over its references": of that event
+  pub its : ReferenceTo refs e reference
+  -- "of max(0, factor × p + offset)": it is that reference's
+  pub equal : b ≡ startAt p reference
+  -- "the smallest": at most that of each of its references
+  pub at-most : (r : Reference) → ReferenceTo refs e r → b ≤ startAt p r
+
+-- ---- where verdicts begin
 -- "the number p of verdicts pulled .. 0 at first": verdicts are pulled from instance 0 on, whatever a rule's references are
 unfoldable pub firstInstance : List Reference → ℕ
 firstInstance refs = 0
