@@ -25,7 +25,7 @@ use Rattle.checker.specs.declared.Totals.{Totals}
 use Rattle.checker.specs.declared.Tariff.{Tariff}
 use Rattle.checker.specs.declared.ChargeAnswer.{ChargeAnswer}
 use Rattle.checker.specs.declared.ChargeAnswer.the-variants as charges
-use Rattle.checker.proofs.Choices.{less-or}
+use Rattle.checker.proofs.Choices.{never-true, less-or}
 use Rattle.checker.proofs.CodeStateTest.{good-facts}
 use Rattle.checker.proofs.Fresh.{opened-fine}
 use Rattle.checker.proofs.Lists as lists
@@ -179,10 +179,6 @@ pub charge-told-injective : (a b : ChargeAnswer) → chargeTold a ≡ chargeTold
 charge-told-injective a b e = sym (heard-back a) ∙ ap heard e ∙ heard-back b
 
 -- ---- what each refusal says
-never-true : (b : Bool) → (b ≡ true → ⊥) → b ≡ false
-never-true true h = absurd (h refl)
-never-true false h = refl
-
 refused-by : (s : State) (t : Tariff) (x y z : Bool) (n number place : ℕ) → bandsFit t ≡ x → pricesFit t ≡ y → statePasses s ≡ z
     → chargeBy x y z n ≡ turned number place → ChargeRefused s t number place
 refused-by s t true true true n number place a b g e = absurd (true-false (ap isCents e))

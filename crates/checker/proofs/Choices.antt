@@ -21,6 +21,10 @@ cond-case P false a b f g = g refl
 pub cond-true : {A : Type 0} (t : Bool) (a b : A) → t ≡ true → cond t a b ≡ a
 cond-true t a b e = rw e
 
+pub never-true : (b : Bool) → (b ≡ true → ⊥) → b ≡ false
+never-true true h = absurd (h refl)
+never-true false h = refl
+
 pub less-or : (a b : ℕ) → (a < b) ⊎ (b ≤ a)
 less-or a b = go (ltb a b) refl
   where

@@ -42,7 +42,7 @@ isOpened (refused number place) = false
 not-opened : (number place : ℕ) → refused number place ≡ opened → ⊥
 not-opened number place q = true-false (sym (ap isOpened q))
 
-record Passed (frames : List ℕ) (w : ℕ) (win : List ℤ) : Type 0 where
+pub record Passed (frames : List ℕ) (w : ℕ) (win : List ℤ) : Type 0 where
   pub accepted : checkedOf frames ≡ checking.accepted
   pub width : widthFits w ≡ true
   pub result : openDef frames w win ≡ openedAs frames w
@@ -57,7 +57,7 @@ by-check : (frames : List ℕ) (w : ℕ) (win : List ℤ) (c : CheckAnswer) → 
 by-check frames w win (checking.refused number place) e h = absurd (not-opened number place h)
 by-check frames w win checking.accepted e h = (refl, by-width frames w win (widthFits w && windowFits w win) refl h)
 
-passed : (frames : List ℕ) (w : ℕ) (win : List ℤ) → openDef frames w win .answer ≡ opened → Passed frames w win
+pub passed : (frames : List ℕ) (w : ℕ) (win : List ℤ) → openDef frames w win .answer ≡ opened → Passed frames w win
 unfolding openDef
 passed frames w win h =
     let q = by-check frames w win (checkedOf frames) refl h in

@@ -9,6 +9,7 @@ mod Simulation
 mod Fresh
 mod Lists
 mod Stays
+mod Passes
 -- What follows for verdicts, totals, answers and reports: the third demand, and two lists for one rule.
 mod Final
 mod Sums

@@ -32,7 +32,7 @@ use Rattle.checker.specs.Base.{referenced, startAt, base, Referenced, Ma
 use Rattle.checker.specs.State.{tallyIn, stateFrames, zeroState, SameRule}
 use Rattle.checker.specs.Ring.{wordAt}
 use Rattle.checker.specs.Open.{openDef}
-use Rattle.checker.specs.StateTest.{statePasses}
+use Rattle.checker.specs.StateTest.{statePasses, Passing}
 use Rattle.checker.specs.Feed.{feedDef}
 use Rattle.checker.specs.Pull.{pullDef}
 use Rattle.checker.specs.Calls.{Call, Out, outs, checker}
@@ -61,6 +61,7 @@ use Rattle.checker.proofs.TariffExamples
 use Rattle.checker.proofs.Unchanged
 use Rattle.checker.proofs.Stays
 use Rattle.checker.proofs.Bases
+use Rattle.checker.proofs.Passes
 
 -- ---- a list of calls, whatever its lines and report buffers, from an unrefused opening, whatever W
 module _ {frames : List ℕ} {w : ℕ} {win : List ℤ} (o : Unrefused frames w win) (cs : List Call) where
@@ -250,6 +251,10 @@ zero-charge = Charges.zero-charge
 pub opens-exactly : {frames : List ℕ} (w : ℕ) (win : List ℤ) → Bytes frames
     → (openDef frames w win .answer ≡ opened) ↔ (Proper frames × (1 ≤ w) × (w ≤ widthLimit) × (length win ≡ windowWords w))
 opens-exactly = Exactly.opens-exactly
+
+-- ---- 12 lets a state through exactly where none of the document's conditions holds of it
+pub passes-exactly : (s : State) → (statePasses s ≡ true) ↔ Passing s
+passes-exactly = Passes.passes-exactly
 
 -- ---- bases, whatever the references, the event and p
 -- an event is referenced exactly where a reference names it

@@ -43,7 +43,7 @@ use Rattle.checker.proofs.CodeStateTest.{good-facts}
 
 -- ---- the state
 module _ (s : State) (g : statePasses s ≡ true) where
-  sound-in : Sound (refsIn s) (s .width) (tallyIn s)
+  pub sound-in : Sound (refsIn s) (s .width) (tallyIn s)
   unfolding statePasses
   sound-in = tally-facts (refsIn s) (s .width) (tallyIn s) (and-true (rulePasses s) (tallyPasses (refsIn s) (s .width) (tallyIn s)) g .1)
 

@@ -1,18 +1,22 @@
 -- The states that 12 lets through. From document 01, "What is turned down", 12. Assumes nothing: definitions.
+use mathlib.Core.Path.{_≡_}
 use mathlib.Core.Bool.{Bool, true, false, _&&_, cond}
 use mathlib.Core.List.{List}
-use Prim.Native.Nat.{ℕ, zero, suc, _+_}
+use Prim.Native.Nat.{ℕ, zero, suc, _+_, _≤_, _<_}
 use lib.Dec.{leb, eqb}
+use lib.IntN.{ℤ}
+use lib.ListN.{length}
 use Rattle.rule.specs.Limits.{eventLimit, frameLimit}
 use Rattle.rule.specs.Tree.{Reference}
 use Rattle.rule.specs.Check.{checkedOf}
 use Rattle.rule.specs.CheckTold.{CheckAnswer}
 use Rattle.rule.specs.CheckTold as checking
 use Rattle.verdict.specs.Found.{instanceLimit}
-use Rattle.checker.specs.Limits.{lineLimit}
-use Rattle.checker.specs.Base.{referenced, base}
+use Rattle.checker.specs.Limits.{windowWords, lineLimit}
+use Rattle.checker.specs.Answer.{opened}
+use Rattle.checker.specs.Base.{referenced, base, Referenced}
 use Rattle.checker.specs.State.{sumOf, Tally, countOf, tallyIn, stateFrames, refsIn}
-use Rattle.checker.specs.Open.{widthFits}
+use Rattle.checker.specs.Open.{widthFits, openDef}
 use Rattle.checker.specs.declared.State.{State}
 
 -- not "frames .. opening would refuse"
@@ -42,3 +46,23 @@ tallyPasses refs w t =
 -- what 12 lets through: none of "Feeding, pulling: a state whose frames or W opening would refuse .. or a count above base plus W"
 unfoldable pub statePasses : State → Bool
 statePasses s = rulePasses s && tallyPasses (refsIn s) (s .width) (tallyIn s)
+
+-- ---- 12 once more, condition by condition
+-- what 12 lets through: a state of which none of its conditions holds
+pub record Passing (s : State) : Type 0 where
+  -- not "frames .. opening would refuse", by their number: a state has room for 64
+  pub room : s .len ≤ frameLimit
+  -- not "a state whose frames or W opening would refuse": with a window of 32 × W words they are opened
+  pub opens : (win : List ℤ) → length win ≡ windowWords (s .width)
+      → openDef (stateFrames s) (s .width) win .answer ≡ opened
+  -- not "a count over 1,000,000"
+  pub few-lines : (e : ℕ) → e < eventLimit → countOf (tallyIn s) e ≤ lineLimit
+  -- not "p over 1,009,999"
+  pub few-verdicts : s .next .0 ≤ instanceLimit
+  -- not "totals not summing to p"
+  pub sum : sumOf (s .totals) ≡ s .next .0
+  -- not "a nonzero count of an unreferenced event"
+  pub none : (e : ℕ) → e < eventLimit → (Referenced (refsIn s) e → ⊥) → countOf (tallyIn s) e ≡ 0
+  -- not "a count above base plus W"
+  pub within : (e : ℕ) → e < eventLimit → Referenced (refsIn s) e
+      → countOf (tallyIn s) e ≤ base (refsIn s) e (s .next .0) + s .width
