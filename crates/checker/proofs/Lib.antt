@@ -21,6 +21,7 @@ mod Reports
 mod Never
 mod Exactly
 mod Unchanged
+mod Told
 -- Points of document 02: views, logs of the earlier edition, the rework tariff.
 mod Views
 mod Earlier

@@ -27,7 +27,7 @@ use Rattle.verdict.specs.Later.{MoreLines}
 use Rattle.verdict.specs.declared.Verdict.{Verdict}
 use Rattle.verdict.specs.declared.Verdict.the-variants.{False, Unknown}
 use Rattle.checker.specs.Limits.{widthLimit, windowWords, lineLimit, reportLeast}
-use Rattle.checker.specs.Answer.{opened, accepted, waiting, verdict, refused}
+use Rattle.checker.specs.Answer.{opened, accepted, waiting, verdict, refused, openTold, feedTold, pullTold}
 use Rattle.checker.specs.Base.{referenced, startAt, base, Referenced, Maximum, SmallestStart, firstFor}
 use Rattle.checker.specs.State.{tallyIn, stateFrames, zeroState, SameRule}
 use Rattle.checker.specs.Ring.{wordAt}
@@ -43,6 +43,9 @@ use Rattle.checker.specs.View.{viewDef, viewsOut, reportedOut, seen}
 use Rattle.checker.specs.Earlier.{RaisedLog}
 use Rattle.checker.specs.Tariff.{priceLimit, bandsOf, priceSum, centsOf, cents, turned, chargeTold, chargeDef, BandsRise, PricesInRange, ChargeRefused}
 use Rattle.checker.specs.declared.State.{State}
+use Rattle.checker.specs.declared.OpenAnswer.{OpenAnswer}
+use Rattle.checker.specs.declared.FeedAnswer.{FeedAnswer}
+use Rattle.checker.specs.declared.PullAnswer.{PullAnswer}
 use Rattle.checker.specs.declared.Tariff.{Tariff}
 use Rattle.checker.specs.declared.ChargeAnswer.{ChargeAnswer}
 use Rattle.checker.proofs.Lists
@@ -62,6 +65,7 @@ use Rattle.checker.proofs.Unchanged
 use Rattle.checker.proofs.Stays
 use Rattle.checker.proofs.Bases
 use Rattle.checker.proofs.Passes
+use Rattle.checker.proofs.Told
 
 -- ---- a list of calls, whatever its lines and report buffers, from an unrefused opening, whatever W
 module _ {frames : List ℕ} {w : ℕ} {win : List ℤ} (o : Unrefused frames w win) (cs : List Call) where
@@ -269,6 +273,16 @@ start-exactly = Bases.start-exactly
 -- "The base of an event is the smallest of max(0, factor × p + offset) over its references", of every event that is referenced
 pub base-exactly : (refs : List Reference) (e p b : ℕ) → Referenced refs e → (base refs e p ≡ b) ↔ SmallestStart refs e p b
 base-exactly = Bases.base-exactly
+
+-- ---- what is told of an answer fixes it, so that a contract allows one answer only: of opening, feeding and pulling
+pub open-told-injective : (a b : OpenAnswer) → openTold a ≡ openTold b → a ≡ b
+open-told-injective = Told.open-told-injective
+
+pub feed-told-injective : (a b : FeedAnswer) → feedTold a ≡ feedTold b → a ≡ b
+feed-told-injective = Told.feed-told-injective
+
+pub pull-told-injective : (a b : PullAnswer) → pullTold a ≡ pullTold b → a ≡ b
+pull-told-injective = Told.pull-told-injective
 
 -- ---- every call, whatever its arguments: what is refused, ignored or waiting leaves state and lent words as they were
 pub refused-unchanged-open : (frames : List ℕ) (w : ℕ) (win : List ℤ) → openDef frames w win .answer ≢ opened
