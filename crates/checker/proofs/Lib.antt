@@ -29,6 +29,7 @@ mod Prices
 mod Charges
 -- Computed examples.
 mod Marked
+mod CallExamples
 mod ViewExamples
 mod TariffExamples
 -- What the proofs of functions cite: opening, bases, the window, 12, feeding.

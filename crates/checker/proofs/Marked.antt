@@ -97,7 +97,7 @@ abbrev digit : ℕ → ℕ
 digit d = cond (ltb d 10) (48 + d) (55 + d)
 
 -- the last n digits of a number, before others
-abbrev digits : ℕ → ℕ → List ℕ → List ℕ
+abbrev pub digits : ℕ → ℕ → List ℕ → List ℕ
 digits zero x rest = rest
 digits (suc n) x rest = digits n (x / 16) (digit (x % 16) ∷ rest)
 
