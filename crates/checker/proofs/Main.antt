@@ -260,6 +260,13 @@ opens-exactly = Exactly.opens-exactly
 pub passes-exactly : (s : State) → (statePasses s ≡ true) ↔ Passing s
 passes-exactly = Passes.passes-exactly
 
+-- and feeding and pulling answer 12 exactly to the other states, whatever the window, the line and the buffer
+pub feed-12-exactly : (s : State) (win : List ℤ) (line : List ℕ) → (feedDef s win line .answer ≡ refused 12 0) ↔ (Passing s → ⊥)
+feed-12-exactly = Passes.feed-12-exactly
+
+pub pull-12-exactly : (s : State) (win : List ℤ) (buffer : List ℕ) → (pullDef s win buffer .answer ≡ refused 12 0) ↔ (Passing s → ⊥)
+pull-12-exactly = Passes.pull-12-exactly
+
 -- ---- bases, whatever the references, the event and p
 -- an event is referenced exactly where a reference names it
 pub referenced-exactly : (refs : List Reference) (e : ℕ) → (referenced refs e ≡ true) ↔ Referenced refs e

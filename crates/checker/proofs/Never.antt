@@ -23,7 +23,7 @@ use Rattle.checker.proofs.Choices.{cond-case}
 use Rattle.checker.proofs.Lists as lists
 
 -- the number of a refusal, 0 for another answer
-abbrev numberIn : Answer → ℕ
+abbrev pub numberIn : Answer → ℕ
 numberIn opened = 0
 numberIn accepted = 0
 numberIn ignored = 0
@@ -31,10 +31,10 @@ numberIn waiting = 0
 numberIn (verdict v) = 0
 numberIn (refused number place) = number
 
-abbrev Late : Answer → Type 0
+abbrev pub Late : Answer → Type 0
 Late a = (numberIn a ≢ 12) × (numberIn a ≢ 13)
 
-line-number : (s : List ℕ) (refs : List Reference) (w : ℕ) (t : Tally) → Late (feedAnswer (feedRead refs w t (lineOf s)))
+pub line-number : (s : List ℕ) (refs : List Reference) (w : ℕ) (t : Tally) → Late (feedAnswer (feedRead refs w t (lineOf s)))
 unfolding lineOf feedEvent
 line-number s refs w t =
     cond-case (λ (l : LineAnswer). Late (feedAnswer (feedRead refs w t l))) (isLine s) (log.line (byteAt s 0) (noteAt s 0) (noteAt s 1) (noteAt s 2) (noteAt s 3)) (log.refused 15 (badPlace s))
@@ -47,7 +47,7 @@ line-number s refs w t =
     (λ _. (λ q. omega (arith, q), λ q. omega (arith, q))))
     (λ _. (λ q. omega (arith, q), λ q. omega (arith, q)))
 
-pull-number : (x : PullRead) → Late (pullAnswer x)
+pub pull-number : (x : PullRead) → Late (pullAnswer x)
 pull-number short = (λ q. omega (arith, q), λ q. omega (arith, q))
 pull-number waits = (λ q. omega (arith, q), λ q. omega (arith, q))
 pull-number (gave v) = (λ q. omega (arith, q), λ q. omega (arith, q))

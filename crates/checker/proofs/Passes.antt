@@ -1,28 +1,36 @@
--- The states that 12 lets through are those of which none of the document's conditions holds. Assumes nothing.
-use mathlib.Core.Path.{_≡_, sym, ap, _∙_}
-use mathlib.Core.Bool.{Bool, true, cond}
+-- The states that 12 lets through are those of which none of the document's conditions holds; feeding and pulling refuse the others
+-- with 12. Assumes nothing.
+use mathlib.Core.Path.{_≡_, refl, sym, ap, _∙_}
+use mathlib.Core.Bool.{Bool, true, false, cond}
 use mathlib.Core.List.{List}
-use mathlib.Core.Logic.{_↔_}
+use mathlib.Core.Logic.{_↔_, _≢_}
 use Prim.Native.Nat.{ℕ}
+use native.Mathlib.Omega.{arith}
 use borrow.Author.Tests.{le-leb, eq-eqb}
 use lib.Dec.{leb}
 use lib.IntN.{ℤ, pos}
 use lib.ListN.{length, replicate, length-replicate}
 use Rattle.numbers.proofs.Bools.{true-false, true-and}
 use Rattle.rule.specs.Limits.{frameLimit}
+use Rattle.log.specs.Line.{lineOf}
 use Rattle.checker.specs.Limits.{widthLimit, windowWords}
-use Rattle.checker.specs.Answer.{opened}
+use Rattle.checker.specs.Answer.{opened, refused}
 use Rattle.checker.specs.Base.{referenced}
 use Rattle.checker.specs.State.{tallyIn, stateFrames, refsIn}
 use Rattle.checker.specs.Open.{widthFits, windowFits, openedAs, notOpened, afterFrames, openDef}
 use Rattle.checker.specs.StateTest.{isAccepted, rulePasses, statePasses, Passing}
+use Rattle.checker.specs.Admission.{Admission}
+use Rattle.checker.specs.Feed.{FeedRead, turned, skipped, taken, feedAnswer, fedBy, lineIn, fedIf, feedDef}
+use Rattle.checker.specs.Pull.{nextIn, pulledIf, pullDef}
 use Rattle.checker.specs.declared.State.{State}
 use Rattle.checker.proofs.Choices.{never-true}
+use Rattle.checker.proofs.Admissions.{let-in, barred-12, barred-13}
 use Rattle.checker.proofs.Bases.{referenced-exactly}
 use Rattle.checker.proofs.Tallies.{Sound, tally-good}
 use Rattle.checker.proofs.Fresh.{passed}
 use Rattle.checker.proofs.Stays.{sound-in}
 use Rattle.checker.proofs.CodeStateTest.{good-facts}
+use Rattle.checker.proofs.Never.{numberIn, line-number, pull-number}
 
 -- ---- what passes
 module _ (s : State) (g : statePasses s ≡ true) where
@@ -77,3 +85,52 @@ module _ (s : State) (h : Passing s) where
 
 pub passes-exactly : (s : State) → (statePasses s ≡ true) ↔ Passing s
 passes-exactly s = (passing-by s, by-passing s)
+
+-- ---- what is answered
+module _ (s : State) (win : List ℤ) where
+  fed-answer : (f : FeedRead) → fedBy s win f .answer ≡ feedAnswer f
+  fed-answer (turned number place) = refl
+  fed-answer skipped = refl
+  fed-answer (taken e notes) = refl
+
+  -- 12 does not come where the state passes
+  feed-other : statePasses s ≡ true → (line : List ℕ) → numberIn (feedDef s win line .answer) ≢ 12
+  unfolding feedDef
+  feed-other g line = go (windowFits (s .width) win) refl
+    where
+      go : (t : Bool) → windowFits (s .width) win ≡ t → numberIn (feedDef s win line .answer) ≢ 12
+      go true l q =
+          line-number line (refsIn s) (s .width) (tallyIn s) .0
+          (ap numberIn (sym (ap (λ (a : Admission). fedIf s win line a .answer) (let-in s win g l) ∙ fed-answer (lineIn s (lineOf line)))) ∙ q)
+      go false l q =
+          let z : numberIn (feedDef s win line .answer) ≡ 13 = ap (λ (a : Admission). numberIn (fedIf s win line a .answer)) (barred-13 s win g l) in
+          omega (arith, z, q)
+
+  pull-other : statePasses s ≡ true → (buffer : List ℕ) → numberIn (pullDef s win buffer .answer) ≢ 12
+  unfolding pullDef
+  pull-other g buffer = go (windowFits (s .width) win) refl
+    where
+      go : (t : Bool) → windowFits (s .width) win ≡ t → numberIn (pullDef s win buffer .answer) ≢ 12
+      go true l q =
+          pull-number (nextIn s win (length buffer)) .0
+          (sym (ap (λ (a : Admission). numberIn (pulledIf s win buffer a .answer)) (let-in s win g l)) ∙ q)
+      go false l q =
+          let z : numberIn (pullDef s win buffer .answer) ≡ 13 = ap (λ (a : Admission). numberIn (pulledIf s win buffer a .answer)) (barred-13 s win g l) in
+          omega (arith, z, q)
+
+  not-passing : (Passing s → ⊥) → statePasses s ≡ false
+  not-passing h = never-true (statePasses s) (λ g. h (passing-by s g))
+
+  pub feed-12-exactly : (line : List ℕ) → (feedDef s win line .answer ≡ refused 12 0) ↔ (Passing s → ⊥)
+  unfolding feedDef
+  feed-12-exactly line = (
+    λ q h. feed-other (by-passing s h) line (ap numberIn q),
+    λ h. ap (λ (a : Admission). fedIf s win line a .answer) (barred-12 s win (not-passing h)),
+  )
+
+  pub pull-12-exactly : (buffer : List ℕ) → (pullDef s win buffer .answer ≡ refused 12 0) ↔ (Passing s → ⊥)
+  unfolding pullDef
+  pull-12-exactly buffer = (
+    λ q h. pull-other (by-passing s h) buffer (ap numberIn q),
+    λ h. ap (λ (a : Admission). pulledIf s win buffer a .answer) (barred-12 s win (not-passing h)),
+  )
