@@ -48,7 +48,7 @@ unfoldable pub base : List Reference → ℕ → ℕ → ℕ
 base refs e p = smallest (map (startAt p) (ofEvent e refs))
 
 -- ---- references, starts and base once more, as propositions
--- "its references": r is one of them, for event e
+-- "its references": r is one of event e, by the rule's references
 pub record ReferenceTo (refs : List Reference) (e : ℕ) (r : Reference) : Type 0 where
   -- "over its references": the rule has it
   pub one : List·Memᴰ r refs
@@ -62,13 +62,13 @@ pub record Referenced (refs : List Reference) (e : ℕ) : Type 0 where
   -- "its references": of that event
   pub its : ReferenceTo refs e reference
 
--- "max(..)" of two signed numbers
+-- the "max" in "max(0, factor × p + offset)", of any two signed numbers
 pub record Maximum (a b m : ℤ) : Type 0 where
   -- "max(0, factor × p + offset)": it is one of the two
   pub one : (m ≡ a) ⊎ (m ≡ b)
-  -- "max(0, ..": at least the first
+  -- "max(0, factor × p + offset)": the first is not greater
   pub first : a ≤ℤ m
-  -- ".. factor × p + offset)": at least the second
+  -- "max(0, factor × p + offset)": nor is the second
   pub second : b ≤ℤ m
 
 -- "the smallest of max(0, factor × p + offset) over its references": b, of event e
