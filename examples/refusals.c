@@ -1,5 +1,6 @@
-/* Every refusal of the library once, by its name in the header: what provokes it, its number and its place. Fails where a refused
- * call wrote to lent memory or handed back another state, line or price than it should. Then what some violations cost. */
+/* Every refusal of the library once, by its name in the header: what provokes it, its number and its place; and each call with NULL
+ * and length 0. Fails where a refused call wrote to lent memory or handed back another state, line or price than it should. Then what
+ * some violations cost. */
 #include <inttypes.h>
 #include <stdio.h>
 #include <string.h>
@@ -40,6 +41,11 @@ static void say(const char *what, uint32_t want, uint32_t answer, uint32_t numbe
     expect(answer == DILLPLATTER_REFUSED, what);
 }
 
+/* The same call by a pointer to the state answers the same. */
+static void expect_same(dillplatter_told told, dillplatter_result r) {
+    expect(told.answer == r.answer && told.number == r.number && told.place == r.place, "by a pointer to the state the same");
+}
+
 static int all_are(uint8_t value, const uint8_t *bytes, size_t len) {
     for (size_t k = 0; k < len; k++)
         if (bytes[k] != value)
@@ -49,60 +55,84 @@ static int all_are(uint8_t value, const uint8_t *bytes, size_t len) {
 
 static int all_seven(const uint8_t *bytes, size_t len) { return all_are(7, bytes, len); }
 
+static size_t length(const char *text) { return text ? strlen(text) : 0; }
+
+/* The memory; NULL where the length is 0. */
+static uint8_t *bytes_or_null(uint8_t *bytes, size_t len) { return len ? bytes : NULL; }
+static int32_t *words_or_null(int32_t *words, size_t len) { return len ? words : NULL; }
+
 /* A text that is refused, or a buffer. */
 static void refuse_read(const char *what, uint32_t want, const char *rule, size_t len, size_t buffer) {
     memset(frames, 7, sizeof frames);
-    dillplatter_reading r = dillplatter_read((const uint8_t *)rule, len, frames, buffer);
+    dillplatter_reading r = dillplatter_read((const uint8_t *)rule, len, bytes_or_null(frames, buffer), buffer);
     say(what, want, r.answer, r.number, r.place);
     expect(r.frames == 0 && all_seven(frames, sizeof frames), "a refused reading leaves the buffer");
 }
 
 static void refuse_text(const char *what, uint32_t want, const char *rule) {
-    refuse_read(what, want, rule, strlen(rule), sizeof frames);
+    refuse_read(what, want, rule, length(rule), sizeof frames);
 }
 
-/* Frames that are refused, or a window. */
+/* Frames that are refused, or a window; by a pointer to the state too. */
 static void refuse_open(const char *what, uint32_t want, size_t len, uint32_t width, size_t words) {
+    const uint8_t *from = bytes_or_null(frames, len);
+    int32_t *to = words_or_null(window, words);
+    dillplatter_state kept;
+    memset(&kept, 7, sizeof kept);
     memset(window, 7, sizeof window);
     memcpy(before, window, sizeof window);
-    dillplatter_result r = dillplatter_open(frames, len, width, window, words);
+    dillplatter_result r = dillplatter_open(from, len, width, to, words);
     say(what, want, r.answer, r.number, r.place);
+    expect_same(dillplatter_open_at(&kept, from, len, width, to, words), r);
     expect(memcmp(window, before, sizeof window) == 0, "a refused opening leaves the window");
     expect(memcmp(&r.state, &zero, sizeof zero) == 0, "a refused opening gives the zero state");
+    expect(memcmp(&kept, &zero, sizeof zero) == 0, "by a pointer too");
 }
 
 static void refuse_feed(const char *what, uint32_t want, dillplatter_state s, size_t words, const char *line) {
+    int32_t *to = words_or_null(window, words);
+    dillplatter_state kept = s;
     memcpy(before, window, sizeof window);
-    dillplatter_result r = dillplatter_feed(s, window, words, (const uint8_t *)line, strlen(line));
+    dillplatter_result r = dillplatter_feed(s, to, words, (const uint8_t *)line, length(line));
     say(what, want, r.answer, r.number, r.place);
+    expect_same(dillplatter_feed_at(&kept, to, words, (const uint8_t *)line, length(line)), r);
     expect(memcmp(window, before, sizeof window) == 0, "a refused line leaves the window");
     expect(memcmp(&r.state, &s, sizeof s) == 0, "a refused line leaves the state");
+    expect(memcmp(&kept, &s, sizeof s) == 0, "by a pointer too");
 }
 
 static void refuse_pull(const char *what, uint32_t want, dillplatter_state s, size_t words, size_t buffer) {
+    const int32_t *from = words_or_null(window, words);
+    uint8_t *to = bytes_or_null(report, buffer);
+    dillplatter_state kept = s;
     memset(report, 7, sizeof report);
-    dillplatter_result r = dillplatter_pull(s, window, words, report, buffer);
+    memcpy(before, window, sizeof window);
+    dillplatter_result r = dillplatter_pull(s, from, words, to, buffer);
     say(what, want, r.answer, r.number, r.place);
+    expect_same(dillplatter_pull_at(&kept, from, words, to, buffer), r);
     expect(all_seven(report, sizeof report), "a refused pull leaves the report");
+    expect(memcmp(window, before, sizeof window) == 0, "a refused pull leaves the window");
     expect(memcmp(&r.state, &s, sizeof s) == 0, "a refused pull leaves the state");
+    expect(memcmp(&kept, &s, sizeof s) == 0, "by a pointer too");
 }
 
 static void refuse_view(const char *what, uint32_t want, size_t buffer) {
+    const uint8_t *from = bytes_or_null(report, buffer);
     memset(report, 7, sizeof report);
-    dillplatter_part part = {report, buffer};
+    dillplatter_part part = {from, buffer};
     say_number(what, want, dillplatter_view(&part), 0);
-    expect(part.bytes == report && part.len == 0, "a refused view is empty");
+    expect(part.bytes == from && part.len == 0, "a refused view is empty, and begins where the buffer does");
     expect(all_seven(report, sizeof report), "a refused view leaves the report");
 }
 
 static void refuse_raise(const char *what, uint32_t want, const char *old_line) {
-    dillplatter_raised r = dillplatter_raise((const uint8_t *)old_line, strlen(old_line));
+    dillplatter_raised r = dillplatter_raise((const uint8_t *)old_line, length(old_line));
     say_number(what, want, r.number, r.place);
     expect(all_are(0, r.line, sizeof r.line), "a refused old line gives zero bytes");
 }
 
 static void refuse_lower(const char *what, uint32_t want, const char *line) {
-    dillplatter_lowered r = dillplatter_lower((const uint8_t *)line, strlen(line));
+    dillplatter_lowered r = dillplatter_lower((const uint8_t *)line, length(line));
     say_number(what, want, r.number, r.place);
     expect(all_are(0, r.line, sizeof r.line), "a refused line gives zero bytes");
 }
@@ -185,7 +215,6 @@ static void opening(void) {
 
 static void running(void) {
     const char *line = "0000000001000000000000000000000000";
-    dillplatter_part none = {NULL, 0};
     open_good(good_rule);
     refuse_feed("a state that is zero throughout", DILLPLATTER_BAD_STATE, zero, WORDS, line);
     refuse_pull("a state that is zero throughout", DILLPLATTER_BAD_STATE, zero, WORDS, sizeof report);
@@ -193,7 +222,6 @@ static void running(void) {
     refuse_pull("a window one word short", DILLPLATTER_WINDOW_SIZE, state, WORDS - 1, sizeof report);
     refuse_pull("a report buffer of 165 bytes", DILLPLATTER_REPORT_SIZE, state, WORDS, 165);
     refuse_view("a view of a report buffer of 165 bytes", DILLPLATTER_REPORT_SIZE, 165);
-    expect(dillplatter_view(&none) == DILLPLATTER_REPORT_SIZE && !none.bytes && none.len == 0, "no memory has no view");
     refuse_feed("a line with a letter past f", DILLPLATTER_BAD_LINE, state, WORDS, "00000000fg000000000000000000000000");
     refuse_feed("a line of 33 digits", DILLPLATTER_BAD_LINE, state, WORDS, line + 1);
     feed_many(WIDTH, 1);
@@ -204,8 +232,6 @@ static void running(void) {
 }
 
 static void converting(void) {
-    dillplatter_raised none = dillplatter_raise(NULL, 0);
-    expect(none.number == DILLPLATTER_BAD_OLD_LINE && none.place == 0, "no memory is no old line");
     refuse_raise("an old line with a letter past f", DILLPLATTER_BAD_OLD_LINE, "01000fg0000000");
     refuse_raise("an old line of 13 digits", DILLPLATTER_BAD_OLD_LINE, "0100010002000");
     refuse_lower("a line of 33 digits, to be lowered", DILLPLATTER_BAD_LINE, "010000000100000002000000030000000");
@@ -214,6 +240,33 @@ static void converting(void) {
     refuse_lower("a third note of -32,769", DILLPLATTER_WIDE_NOTE, "0100007FFFFFFF8000FFFF7FFF00000000");
     up_and_down("fe7Fff8000fFfE", "FE00007FFFFFFF8000FFFFFFFE00000000", "FE7FFF8000FFFE");
     down_and_up("fe00007fFFffff8000FfffffFe00000000", "FE7FFF8000FFFE", "FE00007FFFFFFF8000FFFFFFFE00000000");
+}
+
+/* NULL with length 0 for each memory that a call takes, and for all that it takes. Charging takes none. */
+static void nothing_lent(void) {
+    const char *line = "0000000001000000000000000000000000";
+    const size_t len = strlen(good_rule);
+    refuse_read("no text", DILLPLATTER_TEXT_SIZE, NULL, 0, sizeof frames);
+    refuse_read("no buffer", DILLPLATTER_BUFFER_SIZE, good_rule, len, 0);
+    refuse_read("neither text nor buffer", DILLPLATTER_BUFFER_SIZE, NULL, 0, 0);
+    read_good(good_rule);
+    refuse_open("no frames", DILLPLATTER_FRAMES_SIZE, 0, WIDTH, WORDS);
+    refuse_open("no window", DILLPLATTER_WINDOW_WIDTH, frames_len, WIDTH, 0);
+    refuse_open("no window and W 0", DILLPLATTER_WINDOW_WIDTH, frames_len, 0, 0);
+    refuse_open("neither frames nor window", DILLPLATTER_FRAMES_SIZE, 0, WIDTH, 0);
+    open_good(good_rule);
+    feed_many(1, 1);
+    refuse_feed("no window, fed", DILLPLATTER_WINDOW_SIZE, state, 0, line);
+    refuse_feed("no line", DILLPLATTER_BAD_LINE, state, WORDS, NULL);
+    refuse_feed("neither window nor line", DILLPLATTER_WINDOW_SIZE, state, 0, NULL);
+    refuse_feed("neither, and a state that is zero throughout", DILLPLATTER_BAD_STATE, zero, 0, NULL);
+    refuse_pull("no window, pulled", DILLPLATTER_WINDOW_SIZE, state, 0, sizeof report);
+    refuse_pull("no report buffer", DILLPLATTER_REPORT_SIZE, state, WORDS, 0);
+    refuse_pull("neither window nor report buffer", DILLPLATTER_WINDOW_SIZE, state, 0, 0);
+    refuse_pull("neither, and a state that is zero throughout", DILLPLATTER_BAD_STATE, zero, 0, 0);
+    refuse_view("a view of no report buffer", DILLPLATTER_REPORT_SIZE, 0);
+    refuse_raise("no old line", DILLPLATTER_BAD_OLD_LINE, NULL);
+    refuse_lower("no line, to be lowered", DILLPLATTER_BAD_LINE, NULL);
 }
 
 /* Each way of 28 and of 29. */
@@ -283,6 +336,7 @@ int main(void) {
     opening();
     running();
     converting();
+    nothing_lent();
     charging();
     costing();
     return wrong;
