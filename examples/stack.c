@@ -1,6 +1,6 @@
 /* Measures how much stack each call of the library takes, over texts, frames, lines, states and tariffs that take the most: each
  * call runs on a stack of its own that was painted before, and the lowest byte that lost its paint is looked up after. Fails where
- * a call takes more than docs/MAKERS.md promises. */
+ * a call takes more than the header says to count on. */
 #define _XOPEN_SOURCE 700
 #include <stdio.h>
 #include <string.h>
@@ -24,6 +24,7 @@ static size_t text_len, frames_len, given_len;
 static int32_t window[DILLPLATTER_WINDOW_WORDS(WIDTH)];
 static dillplatter_reading reading;
 static dillplatter_result result;
+static dillplatter_told told;
 static dillplatter_part part;
 static dillplatter_raised raised;
 static dillplatter_lowered lowered;
@@ -35,6 +36,9 @@ static void do_read(void) { reading = dillplatter_read(text, text_len, frames, s
 static void do_open(void) { result = dillplatter_open(frames, frames_len, WIDTH, window, WORDS); }
 static void do_feed(void) { result = dillplatter_feed(result.state, window, WORDS, line, sizeof line); }
 static void do_pull(void) { result = dillplatter_pull(result.state, window, WORDS, report, sizeof report); }
+static void do_open_at(void) { told = dillplatter_open_at(&result.state, frames, frames_len, WIDTH, window, WORDS); }
+static void do_feed_at(void) { told = dillplatter_feed_at(&result.state, window, WORDS, line, sizeof line); }
+static void do_pull_at(void) { told = dillplatter_pull_at(&result.state, window, WORDS, report, sizeof report); }
 static void do_view(void) { dillplatter_view(&part); }
 static void do_raise(void) { raised = dillplatter_raise(given, given_len); }
 static void do_lower(void) { lowered = dillplatter_lower(given, given_len); }
@@ -124,13 +128,14 @@ static int widest(void) {
     return reading.answer == DILLPLATTER_READ && reading.frames == 63;
 }
 
-/* Feeding and pulling, with verdicts both true and false. */
-static void running_most(size_t *feeding, size_t *pulling) {
+/* Feeding and pulling, with verdicts both true and false; by a state, and by a pointer to it. */
+static void running_most(size_t feeding[2], size_t pulling[2]) {
     for (int k = 0; k < 400; k++) {
+        const int at = k / 2 % 2;
         const int32_t notes[4] = {k % 2 == 0 ? -1 : 1, 0, 0, 0};
         dillplatter_line(line, 0, notes);
-        more(feeding, cost(do_feed));
-        more(pulling, cost(do_pull));
+        more(&feeding[at], cost(at ? do_feed_at : do_feed));
+        more(&pulling[at], cost(at ? do_pull_at : do_pull));
     }
 }
 
@@ -185,24 +190,42 @@ static int within(const char *name, size_t bytes, size_t limit) {
     return bytes <= limit;
 }
 
-int main(void) {
-    size_t opening, feeding = 0, pulling = 0, raising = 0, lowering = 0, charging = 0;
-    int good = within("read, any text", reading_most(sizeof text), 1200000);
-    good &= within("read, depth at most 16", reading_most(16), 40960);
-    if (!widest())
-        return 1;
-    opening = cost(do_open);
-    running_most(&feeding, &pulling);
-    good &= within("open", opening, 4096);
-    good &= within("feed", feeding, 8192);
-    good &= within("pull", pulling, 8192);
-    good &= within("view", viewing(sizeof report), 256);
-    good &= within("view, refused", viewing(0), 256);
+/* Reading, to the depth that a rule may have and to any. */
+static int readings(void) {
+    return within("read, any text", reading_most(sizeof text), DILLPLATTER_STACK_READ_ANY) &
+           within("read, depth at most 16", reading_most(16), DILLPLATTER_STACK_READ);
+}
+
+/* Opening, feeding and pulling. */
+static int runs(void) {
+    size_t feeding[2] = {0, 0}, pulling[2] = {0, 0};
+    int good = within("open, by a pointer", cost(do_open_at), DILLPLATTER_STACK_OPEN);
+    good &= within("open", cost(do_open), DILLPLATTER_STACK_OPEN);
+    running_most(feeding, pulling);
+    good &= within("feed", feeding[0], DILLPLATTER_STACK_FEED);
+    good &= within("feed, by a pointer", feeding[1], DILLPLATTER_STACK_FEED);
+    good &= within("pull", pulling[0], DILLPLATTER_STACK_PULL);
+    good &= within("pull, by a pointer", pulling[1], DILLPLATTER_STACK_PULL);
+    return good & (told.number == 0) & (result.state.totals.held > 0) & (result.state.totals.failed > 0);
+}
+
+/* Viewing, raising and lowering. */
+static int others(void) {
+    size_t raising = 0, lowering = 0;
+    int good = within("view", viewing(sizeof report), DILLPLATTER_STACK_VIEW);
+    good &= within("view, refused", viewing(0), DILLPLATTER_STACK_VIEW);
     converting_most(&raising, &lowering);
-    good &= within("raise", raising, 512);
-    good &= within("lower", lowering, 512);
+    good &= within("raise", raising, DILLPLATTER_STACK_RAISE);
+    return good & within("lower", lowering, DILLPLATTER_STACK_LOWER);
+}
+
+int main(void) {
+    size_t charging = 0;
+    int good = readings();
+    good &= widest();
+    good &= runs();
+    good &= others();
     good &= charging_most(&charging);
-    good &= within("charge", charging, 4096);
-    good &= result.state.totals.held > 0 && result.state.totals.failed > 0;
+    good &= within("charge", charging, DILLPLATTER_STACK_CHARGE);
     return !good;
 }

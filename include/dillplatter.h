@@ -15,7 +15,8 @@
  * What the caller keeps to, and nobody checks:
  * - a pointer and a length stand for that many elements that may be read, and written where the pointer is not to const; the
  *   elements are aligned as their type asks; with length 0 any pointer will do, NULL too;
- * - during a call, memory that it may write overlaps no other memory lent to that call, and nobody else uses it.
+ * - during a call, memory that it may write overlaps no other memory lent to that call, and nobody else uses it;
+ * - the stack has room for the call: "stack" below says how much.
  *
  * The library is for x86-64 with the System V calling convention, as on Linux. It needs memcpy and memset, nothing else.
  */
@@ -69,6 +70,27 @@ extern "C" {
 
 /* A surcharge is 0 to so many percent. */
 #define DILLPLATTER_SURCHARGE_MOST 100
+
+/* ---- stack ----
+ *
+ * Bytes of stack to count on for each call, its arguments and its result by value included. They are measured, with room to spare,
+ * and not part of what is proved: examples/stack.c measures every call and fails above its figure. docs/MAKERS.md has what was
+ * measured, and how. */
+
+#define DILLPLATTER_STACK_OPEN 4096
+#define DILLPLATTER_STACK_FEED 8192
+#define DILLPLATTER_STACK_PULL 8192
+#define DILLPLATTER_STACK_VIEW 256
+#define DILLPLATTER_STACK_RAISE 512
+#define DILLPLATTER_STACK_LOWER 512
+#define DILLPLATTER_STACK_CHARGE 4096
+
+/* Reading a text of depth at most 16. A deeper one is no rule. Depth is how many groups, `!` and `->` stand around a point of the
+ * text; docs/RULES.md has it exactly. */
+#define DILLPLATTER_STACK_READ 40960
+
+/* Reading any text. One with 1,000 opening braces takes a thousand levels: a text that is too deep is still read to its end. */
+#define DILLPLATTER_STACK_READ_ANY 1200000
 
 /* ---- answers and refusals ---- */
 
@@ -205,7 +227,10 @@ typedef struct dillplatter_charged {
  * Answers: read, with the number of frames; or refused with 1, 2, 3, 4, 5, 6, 7 or 8, the first of them that holds of the
  * whole text.
  * Writes: where read, all 512 bytes of `frames`: the rule's frames, and zero after the last. Where refused, none.
- * Memory: `text` is only read. Both are the caller's, before and after. They must not overlap. */
+ * Memory: `text` is only read. Both are the caller's, before and after. They must not overlap.
+ * Stack: count on DILLPLATTER_STACK_READ bytes for a text of depth at most 16, and on DILLPLATTER_STACK_READ_ANY, over 1 MB, for any
+ * text. Where the stack is small, read rules elsewhere, as on another machine or when the controller is built: keep the frames, and
+ * call only dillplatter_open, which checks them again, whatever they are. */
 dillplatter_reading dillplatter_read(const uint8_t *text, size_t text_len, uint8_t *frames, size_t frames_len);
 
 /* Opens a checker for a rule, with window width W.
@@ -216,7 +241,8 @@ dillplatter_reading dillplatter_read(const uint8_t *text, size_t text_len, uint8
  * which feed, pull and charge refuse with 12.
  * Writes: where opened, all words of `window`, to 0. Where refused, none.
  * Memory: `frames` is only read, and not needed after the call. The window stays the caller's; between the calls on this checker
- * nobody may change it. They must not overlap. */
+ * nobody may change it. They must not overlap.
+ * Stack: count on DILLPLATTER_STACK_OPEN bytes. */
 dillplatter_result dillplatter_open(const uint8_t *frames, size_t frames_len, uint32_t width, int32_t *window, size_t window_len);
 
 /* Feeds one log line: 34 digits 0-9, A-F or a-f, the event (2 digits) and four notes (8 digits each, signed, the most
@@ -226,7 +252,8 @@ dillplatter_result dillplatter_open(const uint8_t *frames, size_t frames_len, ui
  * same line again.
  * Gives: where accepted, the state with that event's count one higher; else the state that it was given.
  * Writes: where accepted, at most the four words of that line in `window`. Else none.
- * Memory: `line` is only read, and not needed after the call. `window` must not overlap it. */
+ * Memory: `line` is only read, and not needed after the call. `window` must not overlap it.
+ * Stack: count on DILLPLATTER_STACK_FEED bytes. */
 dillplatter_result dillplatter_feed(dillplatter_state state, int32_t *window, size_t window_len, const uint8_t *line, size_t line_len);
 
 /* Pulls the verdict of the next instance, number `state.next`.
@@ -235,6 +262,7 @@ dillplatter_result dillplatter_feed(dillplatter_state state, int32_t *window, si
  * Gives: with a verdict, the state with `next` and that verdict's total one higher; else the state that it was given.
  * Writes: where false, the first 6 + 5 * references bytes of `report`, at most 166; its later bytes keep. Else none.
  * Memory: `window` is only read. The report buffer is the caller's. They must not overlap.
+ * Stack: count on DILLPLATTER_STACK_PULL bytes.
  *
  * A report: the instance (4 bytes, the most significant first), 00, the number of the rule's references (1 byte), then for each
  * reference in the order of the frames a mark (00 present, 01 pending, 02 void) and the note's value (4 bytes, signed, 0 unless
@@ -248,6 +276,7 @@ dillplatter_result dillplatter_pull(dillplatter_state state, const int32_t *wind
  * Writes: `*part`, and no byte of the buffer.
  * Memory: `*part` must not overlap the buffer. The call looks at no byte of the buffer, so only after a pull into it that answered
  * false does the view show a report; and with the next such pull it shows the next one.
+ * Stack: count on DILLPLATTER_STACK_VIEW bytes.
  *
  * What an operator panel does with it: after each pull that answers false, the controller makes a part of its report buffer, calls
  * dillplatter_view on it, and hands the panel the view in place of the report. The panel reads the instance from the first 4 bytes
@@ -262,7 +291,8 @@ uint32_t dillplatter_view(dillplatter_part *part);
  * Gives: where not refused, the 34 digits of the log line with the same event, the same three notes, signed, and the fourth note 0,
  * in capitals. Where refused, 34 bytes of value 0, which are no line. Lowered again, a raised line gives the old line in capitals.
  * Writes: no lent byte.
- * Memory: `old_line` is only read, and not needed after the call. */
+ * Memory: `old_line` is only read, and not needed after the call.
+ * Stack: count on DILLPLATTER_STACK_RAISE bytes. */
 dillplatter_raised dillplatter_raise(const uint8_t *old_line, size_t old_len);
 
 /* Lowers a log line, as dillplatter_feed takes it, to an old line, where nothing is lost.
@@ -270,7 +300,8 @@ dillplatter_raised dillplatter_raise(const uint8_t *old_line, size_t old_len);
  * Gives: where not refused, the 14 digits of the old line with the same event and the same first three notes, in capitals. Where
  * refused, 14 bytes of value 0, which are no line. Raised again, a lowered line gives the log line in capitals.
  * Writes: no lent byte.
- * Memory: `line` is only read, and not needed after the call. */
+ * Memory: `line` is only read, and not needed after the call.
+ * Stack: count on DILLPLATTER_STACK_LOWER bytes. */
 dillplatter_lowered dillplatter_lower(const uint8_t *line, size_t line_len);
 
 /* Charges rework: tells what the violations that a checker has found cost by a tariff. Their count is `state.totals.failed`.
@@ -283,6 +314,7 @@ dillplatter_lowered dillplatter_lower(const uint8_t *line, size_t line_len);
  * cost 0 cents too, so look at `number`.
  * Writes: no lent byte.
  * Memory: none is lent. The state is only read, and serves the next call.
+ * Stack: count on DILLPLATTER_STACK_CHARGE bytes.
  *
  * What a controller has to see to: the count is that of all violations since the checker was opened, so one that charges twice
  * charges the earlier violations twice. A fresh checker, such as one opened after a refused line, begins at 0 again: charge each
@@ -292,7 +324,7 @@ dillplatter_charged dillplatter_charge(dillplatter_state state, dillplatter_tari
 
 /* ---- the same with a pointer to the state ----
  * Each replaces *state by the state that the call gives back, and returns the rest. After a refused opening *state is zero
- * throughout. Neither *state nor the lent memory may overlap. */
+ * throughout. *state must not overlap the lent memory. Stack: as with the call itself. */
 
 typedef struct dillplatter_told {
     uint32_t answer, number, place;

@@ -59,7 +59,7 @@ fn refusals() -> Vec<Said> {
 }
 
 /// Where two lists differ, in words.
-fn differences<T: PartialEq + std::fmt::Debug>(said: &[T], expected: &[T]) -> Vec<String> {
+pub fn differences<T: PartialEq + std::fmt::Debug>(said: &[T], expected: &[T]) -> Vec<String> {
     let longer = said.len().max(expected.len());
     let pairs = (0..longer).map(|k| (said.get(k), expected.get(k)));
     pairs
@@ -131,7 +131,7 @@ fn header(text: &str) -> Vec<String> {
 }
 
 /// A text of C without its line breaks, and without the marks before the lines of a comment.
-fn flowing(text: &str) -> String {
+pub fn flowing(text: &str) -> String {
     let words = |line: &str| -> Vec<String> {
         let line = line.trim();
         let line = line.strip_prefix("* ").unwrap_or(line);
@@ -168,13 +168,17 @@ fn expected_enumerators() -> Vec<[String; 2]> {
     table().into_iter().map(enumerator).collect()
 }
 
-/// The numbers that the comment before a call says it is refused with.
-fn order_at(text: &str, call: &str) -> Vec<String> {
+/// The comment before a call.
+pub fn comment_of<'t>(text: &'t str, call: &str) -> &'t str {
     let (before, _) = text
         .split_once(&format!(" dillplatter_{call}("))
         .expect("the call is declared");
-    let (_, comment) = before.rsplit_once("/*").expect("it has a comment");
-    let (_, list) = comment
+    before.rsplit_once("/*").expect("it has a comment").1
+}
+
+/// The numbers that it says it is refused with.
+fn order_at(text: &str, call: &str) -> Vec<String> {
+    let (_, list) = comment_of(text, call)
         .split_once("refused with ")
         .expect("it says with what it is refused");
     let end = list.find(|c: char| !(c.is_ascii_digit() || " ,or".contains(c)));
@@ -187,7 +191,7 @@ fn order_at(text: &str, call: &str) -> Vec<String> {
 }
 
 /// What stands between two texts.
-fn between<'t>(text: &'t str, begin: &str, end: &str) -> &'t str {
+pub fn between<'t>(text: &'t str, begin: &str, end: &str) -> &'t str {
     let (_, after) = text.split_once(begin).expect("it begins");
     after.split_once(end).expect("it ends").0
 }

@@ -9,6 +9,7 @@ mod common;
 mod documents;
 mod earlier;
 mod examples;
+mod header;
 mod layout;
 mod logs;
 mod opening;
