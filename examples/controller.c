@@ -48,10 +48,11 @@ static void say_violation(void) {
     printf("instance %" PRIu32 " violates the rule:", instance);
     for (uint32_t at = 0; at < state.len; at++) {
         const uint8_t *frame = state.frames + DILLPLATTER_FRAME_BYTES * at;
-        if (frame[0] != 0x03)
+        if (frame[DILLPLATTER_FRAME_KIND] != DILLPLATTER_KIND_REFERENCE)
             continue;
-        int64_t line = (int64_t)frame[3] * instance + dillplatter_signed(frame + 4);
-        printf("%s %s of %s %" PRId64, k == 0 ? "" : ",", notes[frame[2]], events[frame[1]], line);
+        int64_t line = (int64_t)frame[DILLPLATTER_FRAME_FACTOR] * instance + dillplatter_signed(frame + DILLPLATTER_FRAME_VALUE);
+        printf("%s %s of %s %" PRId64, k == 0 ? "" : ",", notes[frame[DILLPLATTER_FRAME_NOTE]],
+               events[frame[DILLPLATTER_FRAME_EVENT]], line);
         switch (dillplatter_report_mark(report, k)) {
         case DILLPLATTER_PRESENT: printf(" is %" PRId32, dillplatter_report_value(report, k)); break;
         case DILLPLATTER_PENDING: printf(" has not come"); break;

@@ -150,6 +150,42 @@ enum dillplatter_refusal {
     DILLPLATTER_TARIFF_PRICES = 29 /* charge: a price over 10,000 cents or a surcharge over 100 percent */
 };
 
+/* ---- frames ----
+ *
+ * A rule as dillplatter_read writes it and a state has it: 1 to 64 frames of 8 bytes, in postfix order, left operand first: what an
+ * operator joins stands before it. docs/RULES.md has the frames of a rule, byte by byte. */
+
+/* The places of a frame's bytes. Those that a kind does not use are 0. */
+enum dillplatter_frame_byte {
+    DILLPLATTER_FRAME_KIND = 0,   /* enum dillplatter_kind */
+    DILLPLATTER_FRAME_EVENT = 1,  /* of a reference: the event's number, 0 to 7 */
+    DILLPLATTER_FRAME_NOTE = 2,   /* of a reference: the note's number, 0 to 3 */
+    DILLPLATTER_FRAME_FACTOR = 3, /* of a reference: the factor of i, 1 to 9 */
+    DILLPLATTER_FRAME_VALUE = 4   /* 4 to 7, signed, the most significant first, as dillplatter_signed reads them: of a reference its
+                                     offset, -9,999 to 9,999, of a literal its value, 0 to 2,147,483,647 */
+};
+
+/* The kinds of frames. */
+enum dillplatter_kind {
+    DILLPLATTER_KIND_LITERAL = 0x01,
+    DILLPLATTER_KIND_INSTANCE = 0x02, /* i */
+    DILLPLATTER_KIND_REFERENCE = 0x03,
+    DILLPLATTER_KIND_ADD = 0x11, /* of two sums, as the next two */
+    DILLPLATTER_KIND_SUBTRACT = 0x12,
+    DILLPLATTER_KIND_MULTIPLY = 0x13,
+    DILLPLATTER_KIND_ABSOLUTE = 0x14, /* abs, of one sum */
+    DILLPLATTER_KIND_EQUAL = 0x21,    /* of two sums, as the other relations */
+    DILLPLATTER_KIND_UNEQUAL = 0x22,
+    DILLPLATTER_KIND_LESS = 0x23,
+    DILLPLATTER_KIND_AT_MOST = 0x24,
+    DILLPLATTER_KIND_MORE = 0x25,
+    DILLPLATTER_KIND_AT_LEAST = 0x26,
+    DILLPLATTER_KIND_NOT = 0x31, /* of one condition */
+    DILLPLATTER_KIND_AND = 0x32, /* of two conditions, as the next two */
+    DILLPLATTER_KIND_OR = 0x33,
+    DILLPLATTER_KIND_IMPLIES = 0x34
+};
+
 /* ---- what calls take and give ---- */
 
 /* The verdicts pulled so far: how many were true, false, unknown. Their sum is `next` of the state. */

@@ -1,7 +1,7 @@
-//! The marked examples M1 to M13, from their texts.
+//! The marked examples M1 to M13, from their texts, and the frames that docs/RULES.md works out.
 
 use crate::pair::Pair;
-use crate::shared::examples;
+use crate::shared::{examples, frames};
 
 #[test]
 fn m1_m2_m3_the_first_rule() {
@@ -46,4 +46,14 @@ fn m11_product_of_two_notes_but_not_plus_1() {
 fn m12_m13_a_window_of_1() {
     examples::m12::<Pair>();
     examples::m13::<Pair>();
+}
+
+#[test]
+fn each_kind_of_frame_is_that_of_its_example() {
+    frames::kinds::<Pair>();
+}
+
+#[test]
+fn the_frames_of_the_first_rule() {
+    frames::first_rule::<Pair>();
 }

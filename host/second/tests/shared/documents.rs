@@ -21,7 +21,10 @@ pub fn rows<const COLUMNS: usize>(text: &str, columns: [&str; COLUMNS]) -> Vec<[
 /// The cells of a table's line.
 fn cells(line: &str) -> Option<Vec<String>> {
     let inner = line.strip_prefix('|')?.strip_suffix('|')?;
-    Some(inner.split('|').map(|cell| cell.trim().into()).collect())
+    // A bar of the cell's own text stands behind a backslash.
+    let inner = inner.replace("\\|", "\0");
+    let cell = |cell: &str| cell.trim().replace('\0', "|");
+    Some(inner.split('|').map(cell).collect())
 }
 
 /// What stands between commas.

@@ -3,6 +3,7 @@
 pub mod documents;
 pub mod driven;
 pub mod examples;
+pub mod frames;
 pub mod log;
 pub mod random;
 pub mod refusals;
