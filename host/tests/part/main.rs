@@ -3,6 +3,7 @@
 #[path = "../../second/tests/shared/mod.rs"]
 mod shared;
 
+mod assumed;
 mod charges;
 mod damage;
 mod earlier;
