@@ -152,8 +152,8 @@ enum dillplatter_refusal {
 
 /* ---- frames ----
  *
- * A rule as dillplatter_read writes it and a state has it: 1 to 64 frames of 8 bytes, in postfix order, left operand first: what an
- * operator joins stands before it. docs/RULES.md has the frames of a rule, byte by byte. */
+ * A rule as dillplatter_read writes it and a state has it: at most 64 frames of 8 bytes, in postfix order, left operand first. So
+ * what an operator joins stands before it. docs/RULES.md has the frames of a rule, byte by byte. */
 
 /* The places of a frame's bytes. Those that a kind does not use are 0. */
 enum dillplatter_frame_byte {
