@@ -27,7 +27,6 @@ use Rattle.rule.proofs.Laws.{bytes}
 use Rattle.log.specs.Digit.{digitValue}
 use Rattle.log.specs.Line.{digitsAtFront, badPlace, lineOf}
 use Rattle.log.specs.Walk.{linesOf}
-use Rattle.checker.specs.Limits.{windowWords}
 use Rattle.checker.specs.Base.{ofEvent, referenced, smallest, base, firstInstance}
 use Rattle.checker.specs.State.{stateWith, freshState, withTally}
 use Rattle.checker.specs.Ring.{stored, kept}
@@ -38,8 +37,8 @@ use Rattle.checker.specs.Feed.{feedEvent, feedDef}
 use Rattle.checker.specs.Report.{reportBytes}
 use Rattle.checker.specs.Pull.{pullRead, pullDef}
 use Rattle.bench.specs.Print.{hexOf}
-use Rattle.bench.specs.Progress.{Progress, pullOf, isVerdict, pulledOnce, pulls, pullLimit, fedLine, afterLine, afterLines}
-use Rattle.bench.specs.Output.{benchWidth, beforeLog, withTotals, begun, wholeRun, openedFor, outputOf}
+use Rattle.bench.specs.Progress.{Progress, pullOf, isVerdict, pulledOnce, pulls, fedLine, afterLines}
+use Rattle.bench.specs.Output.{benchWidth, beforeLog, withTotals, begun, openedFor, outputOf}
 use Rattle.bench.proofs.Whole.{output-run, output-refused}
 
 -- lines, each with its LF

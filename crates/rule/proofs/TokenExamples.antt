@@ -19,9 +19,9 @@ unfolding classOf span same wordKind longestMark markWidth tokenKind widthOf tok
 reserved-tokens = refl
 
 -- the longest match: ->, then > alone; <=, then =
-marks-longest : tokens (45 ∷ 62 ∷ 62 ∷ 60 ∷ 61 ∷ 61 ∷ 33 ∷ 61 ∷ 61 ∷ 62 ∷ 61 ∷ []) ≡ tok 130 0 2 ∷ tok 62 2 3 ∷ tok 134 3 5 ∷ tok 61 5 6 ∷ tok 133 6 8 ∷ tok 61 8 9 ∷ tok 135 9 11 ∷ []
+marks-of-two : tokens (45 ∷ 62 ∷ 62 ∷ 60 ∷ 61 ∷ 61 ∷ 33 ∷ 61 ∷ 61 ∷ 62 ∷ 61 ∷ []) ≡ tok 130 0 2 ∷ tok 62 2 3 ∷ tok 134 3 5 ∷ tok 61 5 6 ∷ tok 133 6 8 ∷ tok 61 8 9 ∷ tok 135 9 11 ∷ []
 unfolding classOf span same wordKind longestMark markWidth tokenKind widthOf tokenHere tokenAt tokensIn tokensFrom
-marks-longest = refl
+marks-of-two = refl
 
 -- a mark byte alone and a foreign byte are tokens that no rule has
 marks-of-one : tokens (124 ∷ 97 ∷ 38 ∷ 124 ∷ 124 ∷ 32 ∷ 65 ∷ []) ≡ tok 255 0 1 ∷ tok 1 1 2 ∷ tok 255 2 3 ∷ tok 131 3 5 ∷ tok 255 6 7 ∷ []

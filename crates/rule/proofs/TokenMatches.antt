@@ -9,11 +9,11 @@ use native.Mathlib.Omega.{arith}
 use borrow.Author.Tests.{eq-eqb, ne-eqb, eqb-true, eqb-false, ltb-true, ltb-false}
 use lib.Dec.{eqb, ltb}
 use lib.ListN.{length, take, drop, getD, length-drop}
-use lib.Seq.{drop-cons, getD-drop}
+use lib.Seq.{getD-drop}
 use Rattle.numbers.proofs.Bools.{true-false}
 use Rattle.rule.specs.Class.{letter, digit, blank, mark, foreign, among, oneByteMarks, classOf, span}
-use Rattle.rule.specs.Token.{endKind, foreignKind, twoByteMark, oneByteMark, longestMark, markWidth, tokenKind, widthOf, past, tokenHere, tokenAt, tokensIn, tokensFrom, tokens, spelling}
-use Rattle.rule.specs.Token.{Quoted, of-one-byte, arrow, bars, ampersands, unequal, at-most, at-least, StandsAt, LongestMatch, in-quoted, in-none, OfToken}
+use Rattle.rule.specs.Token.{endKind, foreignKind, twoByteMark, oneByteMark, longestMark, markWidth, tokenKind, widthOf, past, tokenHere, tokenAt, tokensIn, tokensFrom, tokens}
+use Rattle.rule.specs.Token.{Quoted, of-one-byte, arrow, bars, ampersands, unequal, at-most, at-least, LongestMatch, in-quoted, in-none, OfToken}
 use Rattle.rule.specs.declared.Token.{Token}
 use Rattle.rule.proofs.TokenSpans.{span-class, span-stops}
 use Rattle.rule.proofs.TokenMarks.{width-some, one-width}
