@@ -87,7 +87,7 @@ fn chunk(
     let mut q = r;
     let mut at = 0;
     while at < s.len() {
-        let Found::Line { start, end, next } = log::walk::line_from(s, at) else {
+        let Found::Line { start, end, next } = log::walk::line_at(s, at) else {
             return q;
         };
         if end < next {

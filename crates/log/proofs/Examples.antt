@@ -1,12 +1,14 @@
 -- Worked lines, computed. Bytes are given by value: 48 is the digit 0. Assumes nothing.
 use mathlib.Core.Path.{_≡_, refl}
+use mathlib.Core.Bool.{cond}
 use mathlib.Core.List.{List, [], _∷_, _++_, map}
 use Prim.Native.Nat.{ℕ, zero, suc, _-_}
 use lib.IntN.{pos, negsuc}
 use lib.ListN.{replicate}
 use Rattle.log.specs.Digit.{digitValue, capital}
 use Rattle.log.specs.Line.{digitsAtFront, badPlace, LineAnswer, line, refused, lineOf}
-use Rattle.log.specs.Walk.{linesOf}
+use Rattle.log.specs.Walk.{linesOf, toLF, lineAt, startOf, lineHere, movedOn, atLogEnd}
+use Rattle.log.specs.declared.walk.LogReader.{LogReader}
 
 -- the bench log: 000000000A000000000000000000000000
 bench-1 : lineOf (replicate 9 48 ++ (65 ∷ []) ++ replicate 24 48) ≡ line 0 (pos 10) (pos 0) (pos 0) (pos 0)
@@ -126,3 +128,19 @@ last-lacks = refl
 no-line : linesOf [] ≡ []
 unfolding linesOf
 no-line = refl
+
+-- a reader at the start of a log that stands somewhere in memory
+reader : List ℕ → LogReader
+reader log = startOf (record { ptr = (0, 0); name = 0; now = log })
+
+-- the lines that a reader hands out in so many steps; at the log's end it hands out none
+handed : ℕ → LogReader → List (List ℕ)
+handed zero r = []
+handed (suc k) r = cond (atLogEnd r) (handed k (movedOn r)) (lineHere r ∷ handed k (movedOn r))
+
+-- no byte; A, LF, B with and without a last LF; A alone; LF, LF; LF: more steps than lines change nothing
+readers-walk : map (λ (log : List ℕ). handed 4 (reader log))
+    ([] ∷ (65 ∷ 10 ∷ 66 ∷ 10 ∷ []) ∷ (65 ∷ 10 ∷ 66 ∷ []) ∷ (65 ∷ []) ∷ (10 ∷ 10 ∷ []) ∷ (10 ∷ []) ∷ [])
+    ≡ [] ∷ ((65 ∷ []) ∷ (66 ∷ []) ∷ []) ∷ ((65 ∷ []) ∷ (66 ∷ []) ∷ []) ∷ ((65 ∷ []) ∷ []) ∷ ([] ∷ [] ∷ []) ∷ ([] ∷ []) ∷ []
+unfolding lineAt toLF reader handed
+readers-walk = refl

@@ -5,12 +5,13 @@ use mathlib.Core.List.{List, [], map}
 use Prim.Native.Nat.{ℕ, _≤_, _<_}
 use lib.IntN.{ℤ, pos}
 use lib.ListN.{length, replicate}
+use denote.Ref.{RefT, now}
 use Rattle.log.specs.Digit.{digitValue, capital, hexDigit}
 use Rattle.log.specs.Line.{digitsAtFront, badPlaceOf, badPlace, byteAt, noteAt, line, refused, lineTold, lineOf}
 use Rattle.log.specs.Line.{AreDigits, AllDigits, BadPlace, PlaceOf15}
 use Rattle.log.specs.Earlier.{oldDigits, lineDigits, oldNoteAt, oldLineOf, done, turned, converted, raiseTold, raisedDef, In16, lowerTold, loweredDef}
 use Rattle.log.specs.Earlier.{LowerRefused}
-use Rattle.log.specs.Walk.{linesOf, endOf, lineAt, walked}
+use Rattle.log.specs.Walk.{linesOf, endOf, lineAt, walked, startOf, Yields}
 use Rattle.log.specs.declared.line.Line.{Line}
 use Rattle.log.specs.declared.earlier.RaiseAnswer.{RaiseAnswer}
 use Rattle.log.specs.declared.earlier.LowerAnswer.{LowerAnswer}
@@ -121,6 +122,11 @@ digit-back = values.digit-back
 -- Walking a log yields exactly its lines, in order, none left out.
 pub walk-exactly : (log : List ℕ) → walked (length log) log 0 ≡ linesOf log
 walk-exactly = walking.walks-all
+
+-- So does a reader: the lines that it hands out from the start of a log, one after the other until it is at the log's end, are the
+-- log's lines, as many and each in its place; it hands out no others.
+pub reader-walks : (log : RefT (List ℕ)) (ls : List (List ℕ)) → Yields (startOf log) ls ↔ ls ≡ linesOf (now log)
+reader-walks = walking.reader-walks
 
 -- A line that is found lies within the log, and the next starts past the place asked for, within the log.
 pub line-within : (log : List ℕ) (at s e n : ℕ) → lineAt log at ≡ found.Line s e n

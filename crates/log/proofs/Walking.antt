@@ -1,15 +1,19 @@
 -- The walk over a log: laws of `toLF`, and that it yields the log's lines. Assumes nothing.
-use mathlib.Core.Path.{_≡_, refl, sym, ap, _∙_}
+use mathlib.Core.Path.{_≡_, refl, sym, ap, subst, _∙_}
 use mathlib.Core.Bool.{Bool, true, false, cond}
+use mathlib.Core.Logic.{_↔_}
 use mathlib.Core.List.{List, [], _∷_}
 use Prim.Native.Nat.{ℕ, zero, suc, _+_, _-_, _≤_, _<_}
 use native.Mathlib.Numerals.{add-one}
 use native.Mathlib.Omega.{arith}
-use lib.Dec.{ltb, eqb}
+use lib.Dec.{ltb, leb, eqb}
 use lib.ListN.{length, take, drop, getD, length-drop, drop-of-length-le}
 use lib.Seq.{drop-cons, drop-drop}
-use borrow.Author.Tests.{ne-eqb, eq-eqb, lt-ltb, le-ltb, ltb-true, ltb-false}
-use Rattle.log.specs.Walk.{onto, linesOf, toLF, endOf, lineAt, onward, walked}
+use borrow.Author.Tests.{ne-eqb, eq-eqb, lt-ltb, le-ltb, ltb-true, ltb-false, leb-true, leb-false}
+use denote.Ref.{RefT, now}
+use Rattle.log.specs.Walk.{onto, linesOf, toLF, endOf, lineAt, onward, walked, foundEnd}
+use Rattle.log.specs.Walk.{startOf, lineHere, movedOn, atLogEnd, Yields, over, more}
+use Rattle.log.specs.declared.walk.LogReader.{LogReader}
 use Rattle.log.specs.declared.walk.Found.the-variants.{Line, End}
 
 -- ---- for the loop that looks for LF
@@ -81,7 +85,15 @@ module _ (log : List ℕ) where
   unfolding lineAt nextOf
   found-line at h = rw (lt-ltb at (length log) h)
 
-  -- it lies beyond this one and within the log, and from there on stand the other lines
+  -- the log's end by the place alone
+  pub end-tested : (at : ℕ) → leb (length log) at ≡ foundEnd (lineAt log at)
+  end-tested at = go (leb (length log) at) refl
+    where
+      go : (t : Bool) → leb (length log) at ≡ t → t ≡ foundEnd (lineAt log at)
+      go true e = sym (ap foundEnd (found-end at (leb-true (length log) at e)))
+      go false e = sym (ap foundEnd (found-line at (leb-false (length log) at e)))
+
+  -- the next line lies beyond this one and within the log, and from there on stand the other lines
   next-rest : (at : ℕ) → at < length log → (at < nextOf at) × (nextOf at ≤ length log) × (linesOf (drop (suc (endOf log at)) log) ≡ linesOf (drop (nextOf at) log))
   unfolding nextOf
   next-rest at h = go (ltb (endOf log at) (length log)) refl
@@ -131,3 +143,64 @@ line-within log at s e n f = go (ltb at (length log)) refl
         let v : endOf log at ≡ e = cc in
         let y : nextOf log at ≡ n = cc in
         (omega arith, omega arith, omega arith, omega arith)
+
+-- ---- the reader
+-- the lines from its place on
+abbrev linesFrom : LogReader → List (List ℕ)
+linesFrom r = linesOf (drop (r .at) (now (r .log)))
+
+module _ (r : LogReader) where
+  end-reached : length (now (r .log)) ≤ r .at → atLogEnd r ≡ true
+  end-reached h = ap foundEnd (found-end (now (r .log)) (r .at) h)
+
+  end-ahead : r .at < length (now (r .log)) → atLogEnd r ≡ false
+  end-ahead h = ap foundEnd (found-line (now (r .log)) (r .at) h)
+
+  -- before the log's end stand its line and those after it
+  lines-here : r .at < length (now (r .log)) → linesFrom r ≡ lineHere r ∷ linesFrom (movedOn r)
+  lines-here h =
+      let log = now (r .log) in
+      let w : endOf log (r .at) - r .at ≡ toLF (drop (r .at) log) = omega arith in
+      rw (found-line log (r .at) h, w, ← next-rest log (r .at) h .2) (lines-next log (r .at) h)
+
+  -- it moves on within the log
+  moves : r .at < length (now (r .log)) → (r .at < movedOn r .at) × (movedOn r .at ≤ length (now (r .log)))
+  moves h = let q = next-rest (now (r .log)) (r .at) h in rw (found-line (now (r .log)) (r .at) h) (q .0, q .1)
+
+-- it hands out all of them
+yields-all : (k : ℕ) (r : LogReader) → r .at ≤ length (now (r .log)) → length (now (r .log)) - r .at ≤ k → Yields r (linesFrom r)
+yields-all zero r h l =
+    let q : length (now (r .log)) ≤ r .at = omega arith in
+    subst (Yields r) (sym (none-past (now (r .log)) (r .at) q)) (over r (end-reached r q))
+yields-all (suc k) r h l = go (ltb (r .at) (length (now (r .log)))) refl (yields-all k (movedOn r))
+  where
+    go : (t : Bool) → ltb (r .at) (length (now (r .log))) ≡ t
+        → (movedOn r .at ≤ length (now (r .log)) → length (now (r .log)) - movedOn r .at ≤ k → Yields (movedOn r) (linesFrom (movedOn r)))
+        → Yields r (linesFrom r)
+    go false e ih =
+        let q = ltb-false (r .at) (length (now (r .log))) e in
+        subst (Yields r) (sym (none-past (now (r .log)) (r .at) q)) (over r (end-reached r q))
+    go true e ih =
+        let q = ltb-true (r .at) (length (now (r .log))) e in
+        let m = moves r q in
+        subst (Yields r) (sym (lines-here r q)) (more r (linesFrom (movedOn r)) (end-ahead r q) (ih (m .1) (omega arith)))
+
+-- and nothing else
+yields-only : (r : LogReader) (ls : List (List ℕ)) → Yields r ls → ls ≡ linesFrom r
+yields-only _ _ (over r e) = go (ltb (r .at) (length (now (r .log)))) refl
+  where
+    go : (t : Bool) → ltb (r .at) (length (now (r .log))) ≡ t → [] ≡ linesFrom r
+    go true q = absurd (let a = end-ahead r (ltb-true (r .at) _ q) in let z : _≡_ {A = ℕ} 0 1 = cc in omega arith)
+    go false q = sym (none-past (now (r .log)) (r .at) (ltb-false (r .at) _ q))
+yields-only _ _ (more r ls e y) = go (ltb (r .at) (length (now (r .log)))) refl (yields-only (movedOn r) ls y)
+  where
+    go : (t : Bool) → ltb (r .at) (length (now (r .log))) ≡ t → ls ≡ linesFrom (movedOn r) → lineHere r ∷ ls ≡ linesFrom r
+    go true q ih = ap (λ (ms : List (List ℕ)). lineHere r ∷ ms) ih ∙ sym (lines-here r (ltb-true (r .at) _ q))
+    go false q ih = absurd (let a = end-reached r (ltb-false (r .at) _ q) in let z : _≡_ {A = ℕ} 0 1 = cc in omega arith)
+
+-- from the start, exactly the log's lines
+pub reader-walks : (log : RefT (List ℕ)) (ls : List (List ℕ)) → Yields (startOf log) ls ↔ ls ≡ linesOf (now log)
+reader-walks log ls = (
+  yields-only (startOf log) ls,
+  λ e. subst (Yields (startOf log)) (sym e) (yields-all (length (now log)) (startOf log) (omega arith) (omega arith)),
+)

@@ -1,9 +1,12 @@
 -- The lines of a log, in document 01's words: "LF ends a line, and the last may lack it". Assumes nothing: definitions.
-use Prim.Native.Nat.{ℕ, zero, suc, _+_, _-_}
-use mathlib.Core.Bool.{cond}
+use mathlib.Core.Path.{_≡_}
+use mathlib.Core.Bool.{Bool, true, false, cond}
 use mathlib.Core.List.{List, [], _∷_}
+use Prim.Native.Nat.{ℕ, zero, suc, _+_, _-_}
 use lib.ListN.{length, take, drop}
 use lib.Dec.{ltb, eqb}
+use denote.Ref.{RefT, now}
+use Rattle.log.specs.declared.walk.LogReader.{LogReader}
 use Rattle.log.specs.declared.walk.Found.{Found}
 use Rattle.log.specs.declared.walk.Found.the-variants.{Line, End}
 
@@ -42,3 +45,53 @@ onward log rest End = []
 unfoldable pub walked : ℕ → List ℕ → ℕ → List (List ℕ)
 walked zero log at = []
 walked (suc k) log at = onward log (walked k log) (lineAt log at)
+
+-- ---- the reader
+-- where in memory a line that was found stands, in a log at a block's offset; the log's own place at its end
+abbrev pub foundPtr : ℕ × ℕ → Found → ℕ × ℕ
+foundPtr p (Line s e n) = (p .0, s + p .1)
+foundPtr p End = p
+
+-- its bytes, without the LF; none at the log's end
+abbrev pub foundBytes : List ℕ → Found → List ℕ
+foundBytes log (Line s e n) = take (e - s) (drop s log)
+foundBytes log End = []
+
+-- where the next line starts; at the log's end the place itself
+abbrev pub foundNext : ℕ → Found → ℕ
+foundNext at (Line s e n) = n
+foundNext at End = at
+
+-- no line was found
+abbrev pub foundEnd : Found → Bool
+foundEnd (Line s e n) = false
+foundEnd End = true
+
+-- a reader at the start of a log
+abbrev pub startOf : RefT (List ℕ) → LogReader
+startOf log = record { log = log; at = 0 }
+
+-- what stands at a reader's place
+abbrev pub here : LogReader → Found
+here r = lineAt (now (r .log)) (r .at)
+
+-- its line is a part of the log: where that stands in memory
+abbrev pub ptrHere : LogReader → ℕ × ℕ
+ptrHere r = foundPtr (r .log .ptr) (here r)
+
+-- its line
+abbrev pub lineHere : LogReader → List ℕ
+lineHere r = foundBytes (now (r .log)) (here r)
+
+-- the reader after that line
+abbrev pub movedOn : LogReader → LogReader
+movedOn r = record { log = r .log; at = foundNext (r .at) (here r) }
+
+-- whether it is at the log's end
+abbrev pub atLogEnd : LogReader → Bool
+atLogEnd r = foundEnd (here r)
+
+-- "yields them line by line": the lines that a reader hands out, each followed by those of the reader after it, until the log's end
+pub data Yields : LogReader → List (List ℕ) → Type 0 where
+  over : (r : LogReader) → atLogEnd r ≡ true → Yields r []
+  more : (r : LogReader) (ls : List (List ℕ)) → atLogEnd r ≡ false → Yields (movedOn r) ls → Yields r (lineHere r ∷ ls)

@@ -1,8 +1,10 @@
-// One reader walks a log of many lines in lent memory. The work is done by `line_at`, on a plain slice and a number.
+// One reader walks a log of many lines in lent memory: `start`, then `line_here` and `moved_on` until `at_log_end`. The work is
+// done by `line_at`, on a plain slice and a number.
 ghost use mathlib.Core.Path.{_≡_};
 ghost use Prim.Native.Nat.{_≤_};
 ghost use lib.ListN.{length};
-ghost use Rattle.log.specs.Walk.{endOf, lineAt};
+ghost use Rattle.log.specs.Walk.{endOf, lineAt, foundPtr, foundBytes, foundNext, foundEnd};
+ghost use Rattle.log.specs.Walk.{startOf, ptrHere, lineHere, movedOn, atLogEnd};
 
 // A log and a place in it.
 pub struct LogReader<'a> {
@@ -58,23 +60,68 @@ pub fn line_at(log: &[u8], at: usize) -> Found
     }
 }
 
-// A reader at a place of a log.
-pub fn at_place<'a>(log: &'a [u8], at: usize) -> LogReader<'a>
-    ensures { λ r. ⌜ (r .log ≡ log .entry) × (r .at ≡ at) ⌝ }
+// The line at a place, a part of the log without its LF; at the log's end the empty part at its start.
+fn part_at<'a>(log: &'a [u8], at: usize) -> &'a [u8]
+    ensures { λ r. ⌜ (r .ptr ≡ foundPtr (log .entry .ptr) (lineAt (now (log .entry)) at))
+        × (now r ≡ foundBytes (now (log .entry)) (lineAt (now (log .entry)) at)) ⌝ }
 {
-    LogReader { log, at }
+    let Found::Line {
+        start,
+        end,
+        next: _,
+    } = line_at(log, at)
+    else {
+        return &log[0..0];
+    };
+    &log[start..end]
 }
 
-// The line at the reader's place.
-pub fn next<'a>(r: LogReader<'a>) -> Found
-    ensures { λ s. ⌜ s ≡ lineAt (now (r .entry .log)) (r .entry .at) ⌝ }
+// Where the next line starts; at the log's end the place itself.
+fn next_at(log: &[u8], at: usize) -> usize
+    ensures { λ r. ⌜ r ≡ foundNext at (lineAt (now (log .entry)) at) ⌝ }
 {
-    line_at(r.log, r.at)
+    match line_at(log, at) {
+        Found::Line {
+            start: _,
+            end: _,
+            next,
+        } => next,
+        Found::End => at,
+    }
 }
 
-// The line at a place of a log, by way of a reader. Its parameters are plain: every other caller uses this one.
-pub fn line_from(log: &[u8], at: usize) -> Found
-    ensures { λ found. ⌜ found ≡ lineAt (now (log .entry)) at ⌝ }
+// Whether no line starts at a place.
+fn is_end(log: &[u8], at: usize) -> bool
+    ensures { λ r. ⌜ r ≡ foundEnd (lineAt (now (log .entry)) at) ⌝ }
 {
-    next(at_place(log, at))
+    log.len() <= at
+}
+
+// A reader at the start of a log.
+pub fn start<'a>(log: &'a [u8]) -> LogReader<'a>
+    ensures { λ r. ⌜ r ≡ startOf (log .entry) ⌝ }
+{
+    LogReader { log, at: 0 }
+}
+
+// The line at the reader's place, a part of the log; at the log's end it is empty.
+pub fn line_here<'a>(r: LogReader<'a>) -> &'a [u8]
+    ensures { λ line. ⌜ (line .ptr ≡ ptrHere (r .entry)) × (now line ≡ lineHere (r .entry)) ⌝ }
+{
+    part_at(r.log, r.at)
+}
+
+// The reader after that line; at the log's end it stays.
+pub fn moved_on<'a>(r: LogReader<'a>) -> LogReader<'a>
+    ensures { λ q. ⌜ q ≡ movedOn (r .entry) ⌝ }
+{
+    let at = next_at(r.log, r.at);
+    LogReader { log: r.log, at }
+}
+
+// Whether the reader is at the log's end.
+pub fn at_log_end<'a>(r: LogReader<'a>) -> bool
+    ensures { λ b. ⌜ b ≡ atLogEnd (r .entry) ⌝ }
+{
+    is_end(r.log, r.at)
 }

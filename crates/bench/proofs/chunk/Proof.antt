@@ -34,31 +34,31 @@ loop-holds c =
 
 returns : tie.Need-returns Inv-loop μ-loop
 returns c =
-    let at-line-from = c .before .before in
-    let at-loop = at-line-from .before .before in
+    let at-line-at = c .before .before in
+    let at-loop = at-line-at .before .before in
     let entry = at-loop .before .before .before .before .before in
-    absurd (never-end (entry .args .s .now) (at-loop .loop .at) (omega arith) (sym (at-line-from .line-from .ensures) ∙ c .enum-told .given .1))
+    absurd (never-end (entry .args .s .now) (at-loop .loop .at) (omega arith) (sym (at-line-at .line-at .ensures) ∙ c .enum-told .given .1))
 
 sub-ended : tie.Need-sub-ended Inv-loop μ-loop
 sub-ended c =
     let at-start = c .before .before .before .before .before in
-    let at-line-from = at-start .before .before in
-    let entry = at-line-from .before .before .before .before .before .before .before in
-    omega (arith, line-within (entry .args .s .now) _ _ _ _ (sym (at-line-from .line-from .ensures) ∙ at-start .start .given .1))
+    let at-line-at = at-start .before .before in
+    let entry = at-line-at .before .before .before .before .before .before .before in
+    omega (arith, line-within (entry .args .s .now) _ _ _ _ (sym (at-line-at .line-at .ensures) ∙ at-start .start .given .1))
 
 part-ended-start : tie.Need-part-ended-start Inv-loop μ-loop
 part-ended-start c =
     let at-start = c .before .before .before .before .before in
-    let at-line-from = at-start .before .before in
-    let entry = at-line-from .before .before .before .before .before .before .before in
-    omega (arith, line-within (entry .args .s .now) _ _ _ _ (sym (at-line-from .line-from .ensures) ∙ at-start .start .given .1))
+    let at-line-at = at-start .before .before in
+    let entry = at-line-at .before .before .before .before .before .before .before in
+    omega (arith, line-within (entry .args .s .now) _ _ _ _ (sym (at-line-at .line-at .ensures) ∙ at-start .start .given .1))
 
 part-ended-end : tie.Need-part-ended-end Inv-loop μ-loop
 part-ended-end c =
     let at-start = c .before .before .before .before .before in
-    let at-line-from = at-start .before .before in
-    let entry = at-line-from .before .before .before .before .before .before .before in
-    omega (arith, line-within (entry .args .s .now) _ _ _ _ (sym (at-line-from .line-from .ensures) ∙ at-start .start .given .1))
+    let at-line-at = at-start .before .before in
+    let entry = at-line-at .before .before .before .before .before .before .before in
+    omega (arith, line-within (entry .args .s .now) _ _ _ _ (sym (at-line-at .line-at .ensures) ∙ at-start .start .given .1))
 
 ended-requires : tie.Need-ended-requires Inv-loop μ-loop
 ended-requires c κs =
@@ -68,20 +68,20 @@ ended-requires c κs =
 loop-less : tie.Need-loop-less Inv-loop μ-loop
 loop-less c =
     let at-start = c .before .before .before .before .before .before .before .before .before .before .before .before in
-    let at-line-from = at-start .before .before in
-    let entry = at-line-from .before .before .before .before .before .before .before in
-    omega (arith, line-within (entry .args .s .now) _ _ _ _ (sym (at-line-from .line-from .ensures) ∙ at-start .start .given .1))
+    let at-line-at = at-start .before .before in
+    let entry = at-line-at .before .before .before .before .before .before .before in
+    omega (arith, line-within (entry .args .s .now) _ _ _ _ (sym (at-line-at .line-at .ensures) ∙ at-start .start .given .1))
 
 loop-again : tie.Need-loop-again Inv-loop μ-loop
 loop-again c =
     let at-ended = c .before .before .before .before .before in
     let at-if1 = at-ended .before .before .before .before .before in
     let at-start = at-if1 .before .before in
-    let at-line-from = at-start .before .before in
-    let at-loop = at-line-from .before .before in
+    let at-line-at = at-start .before .before in
+    let at-loop = at-line-at .before .before in
     let entry = at-loop .before .before .before .before .before in
     let s : List ℕ = entry .args .s .now in
-    let f = sym (at-line-from .line-from .ensures) ∙ at-start .start .given .1 in
+    let f = sym (at-line-at .line-at .ensures) ∙ at-start .start .given .1 in
     let e : at-ended .ended .result .held ≡ 0 = at-ended .ended .ensures .1 in
     record {
       within = omega (arith, line-within s _ _ _ _ f);
@@ -97,23 +97,23 @@ loop-again c =
 sub-keep : tie.Need-sub-keep Inv-loop μ-loop
 sub-keep c =
     let at-start = c .before .before .before in
-    let at-line-from = at-start .before .before in
-    let entry = at-line-from .before .before .before .before .before .before .before in
-    omega (arith, line-within (entry .args .s .now) _ _ _ _ (sym (at-line-from .line-from .ensures) ∙ at-start .start .given .1))
+    let at-line-at = at-start .before .before in
+    let entry = at-line-at .before .before .before .before .before .before .before in
+    omega (arith, line-within (entry .args .s .now) _ _ _ _ (sym (at-line-at .line-at .ensures) ∙ at-start .start .given .1))
 
 part-keep-start : tie.Need-part-keep-start Inv-loop μ-loop
 part-keep-start c =
     let at-start = c .before .before .before in
-    let at-line-from = at-start .before .before in
-    let entry = at-line-from .before .before .before .before .before .before .before in
-    omega (arith, line-within (entry .args .s .now) _ _ _ _ (sym (at-line-from .line-from .ensures) ∙ at-start .start .given .1))
+    let at-line-at = at-start .before .before in
+    let entry = at-line-at .before .before .before .before .before .before .before in
+    omega (arith, line-within (entry .args .s .now) _ _ _ _ (sym (at-line-at .line-at .ensures) ∙ at-start .start .given .1))
 
 part-keep-end : tie.Need-part-keep-end Inv-loop μ-loop
 part-keep-end c =
     let at-start = c .before .before .before in
-    let at-line-from = at-start .before .before in
-    let entry = at-line-from .before .before .before .before .before .before .before in
-    omega (arith, line-within (entry .args .s .now) _ _ _ _ (sym (at-line-from .line-from .ensures) ∙ at-start .start .given .1))
+    let at-line-at = at-start .before .before in
+    let entry = at-line-at .before .before .before .before .before .before .before in
+    omega (arith, line-within (entry .args .s .now) _ _ _ _ (sym (at-line-at .line-at .ensures) ∙ at-start .start .given .1))
 
 loop-less-2 : tie.Need-loop-less-2 Inv-loop μ-loop
 loop-less-2 c = omega arith
@@ -122,11 +122,11 @@ loop-again-2 : tie.Need-loop-again-2 Inv-loop μ-loop
 loop-again-2 c =
     let at-keep = c .before .before in
     let at-start = at-keep .before .before .before .before .before in
-    let at-line-from = at-start .before .before in
-    let at-loop = at-line-from .before .before in
+    let at-line-at = at-start .before .before in
+    let at-loop = at-line-at .before .before in
     let entry = at-loop .before .before .before .before .before in
     let s : List ℕ = entry .args .s .now in
-    let f = sym (at-line-from .line-from .ensures) ∙ at-start .start .given .1 in
+    let f = sym (at-line-at .line-at .ensures) ∙ at-start .start .given .1 in
     let h : List ℕ = take (at-loop .loop .q .held) (at-loop .loop .carry) in
     let l : length h ≤ keptLimit = omega (arith, length-take-le (at-loop .loop .q .held) (at-loop .loop .carry) (omega (arith, at-loop .loop .inv .held, at-loop .loop .inv .carry-long)), at-loop .loop .inv .held) in
     record {
