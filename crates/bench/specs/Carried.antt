@@ -5,8 +5,11 @@ use mathlib.Core.List.{List, [], _++_}
 use Prim.Native.Nat.{ℕ, _≤_}
 use lib.IntN.{ℤ}
 use lib.ListN.{length, take}
+use Rattle.checker.specs.Answer.{opened}
+use Rattle.checker.specs.Open.{OpenResult}
 use Rattle.checker.specs.Parts.{stateOf}
 use Rattle.checker.specs.Ready.{Ready}
+use Rattle.checker.specs.declared.parts.Fields.{Fields}
 use Rattle.bench.specs.Kept.{keptLimit}
 use Rattle.bench.specs.Progress.{Progress, Chunked}
 use Rattle.bench.specs.declared.Run.{Run}
@@ -14,6 +17,10 @@ use Rattle.bench.specs.declared.Run.{Run}
 -- the bytes of the buffer that output waits in
 abbrev pub outBytes : ℕ
 outBytes = 65536
+
+-- what an unrefused opening gave, from the frames and the other fields of its state and its window
+abbrev pub openedWith : List ℕ → Fields → List ℤ → OpenResult
+openedWith frames fields win = record { answer = opened; state = stateOf frames fields; words = win }
 
 -- a run's progress with the checker's frames, with what waits in its output buffer as all that was printed
 abbrev pub progressOf : List ℕ → Run → List ℤ → List ℕ → Progress

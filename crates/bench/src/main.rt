@@ -6,6 +6,7 @@ mod step; // step.rt: one line, and the pulls after it
 
 use checker::Fields;
 use checker::OpenAnswer;
+use checker::Opened;
 use libc::STDIN_FILENO;
 use libc::STDOUT_FILENO;
 use log::walk::Found;
@@ -17,11 +18,14 @@ ghost use mathlib.Core.List.{_++_};
 ghost use Prim.Native.Nat.{_*_, _≤_};
 ghost use lib.ListN.{length, take};
 ghost use Rattle.rule.specs.Limits.{frameBytes};
+ghost use Rattle.checker.specs.Open.{openDef, openOutcome};
 ghost use Rattle.checker.specs.Ready.{Ready};
 ghost use Rattle.bench.specs.Print.{totalsLine};
 ghost use Rattle.bench.specs.Kept.{keptLimit};
 ghost use Rattle.bench.specs.Progress.{afterLine, afterBytes, atEnd};
-ghost use Rattle.bench.specs.Carried.{outBytes, progressOf, Ends, After, chunkedOf, AfterChunked, Holding, Stepped};
+ghost use Rattle.bench.specs.Output.{benchWidth, begun};
+ghost use Rattle.bench.specs.Carried.{outBytes, openedWith, progressOf, Ends, After, chunkedOf, AfterChunked};
+ghost use Rattle.bench.specs.Carried.{Holding, Stepped};
 
 // How many lines were accepted, ignored and refused.
 pub struct Counts {
@@ -173,10 +177,12 @@ fn finish(r: Run, out: &mut [u8])
     io::write_all(STDOUT_FILENO, &out[..n]);
 }
 
-// A checker's whole run over the log.
-fn run_log(frames: &[u8], fields: Fields, carry: &mut [u8], window: &mut [i32], out: &mut [u8])
-    requires { ⌜ Ready (now frames) fields (now window)
-        × ((length (now carry) ≡ keptLimit) × (length (now out) ≡ outBytes)) ⌝ }
+// Verdicts are pulled until waiting, before the first line.
+fn begin(frames: &[u8], fields: Fields, window: &[i32], out: &mut [u8]) -> Run
+    requires { ⌜ Ready (now frames) fields (now window) × (length (now out) ≡ outBytes) ⌝ }
+    ensures { λ r. ⌜ Stepped (now (frames .entry)) r (now (window .entry)) (now (out .exit))
+        (begun (openedWith (now (frames .entry)) fields (now (window .entry))))
+        × (r .held ≡ 0) ⌝ }
 {
     let counts = Counts {
         accepted: 0,
@@ -190,7 +196,15 @@ fn run_log(frames: &[u8], fields: Fields, carry: &mut [u8], window: &mut [i32], 
         full: 0,
         more: true,
     };
-    let r = step::pull_all(frames, first, window, out);
+    step::pull_all(frames, first, window, out)
+}
+
+// A checker's whole run over the log.
+fn run_log(frames: &[u8], fields: Fields, carry: &mut [u8], window: &mut [i32], out: &mut [u8])
+    requires { ⌜ Ready (now frames) fields (now window)
+        × ((length (now carry) ≡ keptLimit) × (length (now out) ≡ outBytes)) ⌝ }
+{
+    let r = begin(frames, fields, window, out);
     let q = all(frames, r, carry, window, out);
     finish(q, out);
 }
@@ -211,9 +225,16 @@ fn say_refused(r: Refusal) {
     io::write_all(STDOUT_FILENO, &line[..n]);
 }
 
+// A checker is opened with the document's W.
+fn open_rule(frames: &[u8], window: &mut [i32]) -> Opened
+    ensures { λ r. ⌜ openOutcome r (now (window .exit)) ≡ openDef (now (frames .entry)) benchWidth (now (window .entry)) ⌝ }
+{
+    checker::open(frames, WIDTH, window)
+}
+
 // A rule's frames are opened with a window and run.
 fn run_in(frames: &[u8], window: &mut [i32]) {
-    let opened = checker::open(frames, WIDTH, window);
+    let opened = open_rule(frames, window);
     let state = opened.state;
     let answer = opened.answer;
     match answer {

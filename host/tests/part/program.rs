@@ -6,6 +6,7 @@ use crate::shared::vectors::bench_cases;
 use dillplatter_host::part::raise;
 use dillplatter_second::line::lines;
 use dillplatter_second::{bench, bench_old, read};
+use std::collections::BTreeSet;
 use std::fs::File;
 use std::io::{Seek, Write};
 use std::os::fd::OwnedFd;
@@ -13,8 +14,14 @@ use std::os::unix::net::UnixDatagram;
 use std::path::{Path, PathBuf};
 use std::process::{Command, Stdio};
 
-/// Bytes of the program's buffer.
+/// Bytes of the program's two buffers, for a read and for what is to be printed.
 const BUFFER: usize = 65_536;
+
+/// With more bytes than these waiting, the program writes them out before it puts a line behind them.
+const ROOMY: usize = 65_200;
+
+/// Bytes of a log line: its digits and the LF.
+const LINE: usize = 35;
 
 const RULE: &[u8] = b"events in out; notes t; t(out[i]) - t(in[i]) <= 25";
 
@@ -271,22 +278,49 @@ fn a_cut_at_every_place() {
     }
 }
 
-#[test]
-fn lines_across_the_end_of_the_buffer() {
-    let room = Room::new("borders");
-    // A refused line of each length moves the border through a line.
-    for length in 0..=36 {
-        let mut log = vec![b'0'; length];
+/// A rule that is false at every instance, and whose report has all notes of two lines.
+const ALL_NOTES: &[u8] = b"events in out; notes t u v w; \
+    abs(t(in[i])) + abs(u(in[i])) + abs(v(in[i])) + abs(w(in[i])) \
+    + abs(t(out[i])) + abs(u(out[i])) + abs(v(out[i])) + abs(w(out[i])) < 0";
+
+/// Lines of two events in turn, with random digits.
+fn noted_log(lines: usize) -> Vec<u8> {
+    let random = &mut Random::new(210_000_000);
+    let mut log = Vec::new();
+    for k in 0..lines {
+        let notes = [0; 4].map(|_: i32| random.below(1 << 32) as u32 as i32);
+        log.extend(line((k % 2) as u8, notes));
         log.push(b'\n');
-        log.extend(even_log(2 * BUFFER / 35 + 10));
-        same(
-            &room.run(RULE, &log),
-            &bench(RULE, &log),
-            &format!("moved by {length}"),
-        );
     }
-    // The log ends near the border.
-    let log = even_log(2 * BUFFER / 35 + 10);
+    log
+}
+
+#[test]
+fn a_line_cut_by_the_buffers_end_at_each_of_its_35_places() {
+    let room = Room::new("cut");
+    let pairs = BUFFER / LINE + 10;
+    let lines = noted_log(2 * pairs);
+    let mut last_bytes = [BTreeSet::new(), BTreeSet::new()];
+    // A first line, which is refused, moves the others past the ends of two buffers.
+    for length in 0..LINE {
+        let log = [&vec![b'x'; length], b"\n".as_slice(), &lines].concat();
+        for (end, seen) in [BUFFER, 2 * BUFFER].into_iter().zip(&mut last_bytes) {
+            let place = (end - 1 - (length + 1)) % LINE;
+            assert_eq!(log[end - 1] == b'\n', place == LINE - 1);
+            seen.insert(place);
+        }
+        let printed = room.run(ALL_NOTES, &log);
+        same(&printed, &bench(ALL_NOTES, &log), &format!("{length}"));
+        assert_eq!(printed.lines().count(), pairs + 1);
+    }
+    let places: BTreeSet<usize> = (0..LINE).collect();
+    assert_eq!(last_bytes, [places.clone(), places]);
+}
+
+#[test]
+fn logs_that_end_near_the_buffers_end() {
+    let room = Room::new("borders");
+    let log = even_log(2 * BUFFER / LINE + 10);
     for length in (BUFFER - 37..=BUFFER + 37).chain(2 * BUFFER - 2..=2 * BUFFER + 2) {
         let printed = room.run(RULE, &log[..length]);
         same(
@@ -337,29 +371,103 @@ fn long_lines() {
 }
 
 #[test]
-fn long_outputs() {
+fn more_output_than_the_buffer() {
     let room = Room::new("outputs");
-    // Each pair of lines makes a report with so many references.
-    for references in [1, 2, 3, 5, 13, 31] {
-        let sum = vec!["t(out[i])"; references].join("+");
-        let rule = format!("events in out; notes t; {sum} < 0");
-        let log = even_log(3_000);
-        let printed = room.run(rule.as_bytes(), &log);
-        same(
-            &printed,
-            &bench(rule.as_bytes(), &log),
-            &format!("{references} references"),
-        );
-        assert_eq!(printed.lines().count(), 1_501);
+    let mut lengths = BTreeSet::new();
+    for references in [1, 2, 3, 5, 15, 31, 32] {
+        // No note is negative, so each pair of lines makes a report with so many references.
+        let half = references / 2;
+        let left = vec!["t(out[i])"; references - half].join("+");
+        let right = vec!["t(out[i])"; half].join("+");
+        let right = if half == 0 { "0" } else { &right };
+        let rule = format!("events in out; notes t; {left} < {right}");
+        let report = 2 * (6 + 5 * references) + 1;
+        // As many reports as can wait when the totals come, some fewer and more, and three buffers full.
+        let most = ROOMY / report;
+        for reports in (most - 1..most + 4).chain([3 * BUFFER / report + 1]) {
+            let log = even_log(2 * reports);
+            let printed = room.run(rule.as_bytes(), &log);
+            same(
+                &printed,
+                &bench(rule.as_bytes(), &log),
+                &format!("{reports} reports of {references} references"),
+            );
+            assert_eq!(printed.len(), reports * report + 49);
+            lengths.insert(reports * report);
+        }
+        assert!(lengths.last() > Some(&(3 * BUFFER)));
     }
-    // More verdicts at once than a window has lines.
-    let rule = b"events a; notes t; t(a[i-9999]) > 0";
-    let log = even_log(5);
-    same(
-        &room.run(rule, &log),
-        &bench(rule, &log),
-        "9,999 void instances",
-    );
+    // The totals were put right where they still have room, and where they have not.
+    let near = lengths.range(ROOMY..=BUFFER);
+    assert!(near.clone().next() == Some(&ROOMY) && near.count() > 1);
+}
+
+#[test]
+fn more_output_than_the_buffer_before_the_first_line() {
+    let room = Room::new("outputs-first");
+    let rule = b"events a; notes t; t(a[i-9999]) > 0 && i < 0";
+    for log in [b"".to_vec(), even_log(5)] {
+        let printed = room.run(rule, &log);
+        same(&printed, &bench(rule, &log), "9,999 void instances");
+        assert!(printed.lines().count() > 9_999 && printed.len() > 3 * BUFFER);
+    }
+}
+
+#[test]
+fn verdicts_before_the_first_line_of_an_empty_log() {
+    let room = Room::new("empty");
+    // Of each rule: what is printed before the totals, and how many verdicts are true, false and unknown.
+    let report = "0000000000010200000000\n";
+    for (rule, reports, totals) in [
+        ("t(a[i-2]) > 0", "", [0, 0, 2]),
+        ("t(a[i-3]) > 0 && i > 0", report, [0, 1, 2]),
+        ("t(a[i-3]) > 0 || i = 1", "", [1, 0, 2]),
+        ("t(a[i]) > 0", "", [0, 0, 0]),
+    ] {
+        let rule = format!("events a; notes t; {rule}");
+        let [held, failed, unknown] = totals;
+        let expected = format!("{reports}{held:08X}{failed:08X}{unknown:08X}{:024X}\n", 0);
+        let printed = room.run(rule.as_bytes(), b"");
+        assert_eq!(printed, expected, "{rule}");
+        same(&printed, &bench(rule.as_bytes(), b""), &rule);
+    }
+}
+
+#[test]
+fn a_last_line_without_lf() {
+    let room = Room::new("last");
+    // The last line makes the only report.
+    let log = even_log(10);
+    let (lacks, shorter) = (&log[..log.len() - 1], &log[..log.len() - LINE]);
+    let printed = room.run(RULE, lacks);
+    same(&printed, &bench(RULE, lacks), "no LF");
+    assert_eq!(printed, room.run(RULE, &log));
+    assert_eq!(printed.lines().count(), 2);
+    assert_eq!(room.run(RULE, shorter).lines().count(), 1);
+    // It comes in one read, and in two.
+    for cut in [log.len() - LINE, log.len() - LINE + 1, log.len() - 2] {
+        let (one, two) = lacks.split_at(cut);
+        assert_eq!(room.run_packets(RULE, &[one, two]), printed, "{cut}");
+    }
+    // A last line of one byte, which is refused, and none after an LF.
+    for (log, refused) in [(b"0".as_slice(), 1), (b"\n", 1), (b"\n0", 2), (b"", 0)] {
+        let printed = room.run(RULE, log);
+        same(&printed, &bench(RULE, log), &log.escape_ascii().to_string());
+        assert_eq!(printed, format!("{refused:048X}\n"));
+    }
+}
+
+/// What is tried above at the buffers' ends is tried there: the sizes are the program's.
+#[test]
+fn the_buffers_are_the_programs() {
+    for (file, text) in [
+        ("main.rt", format!("let mut buf = [0u8; {BUFFER}];")),
+        ("main.rt", format!("let mut out = [0u8; {BUFFER}];")),
+        ("step.rt", format!("const ROOMY: usize = {ROOMY};")),
+    ] {
+        let path = Path::new(crate::TOP).join("crates/bench/src").join(file);
+        assert!(std::fs::read_to_string(path).unwrap().contains(&text));
+    }
 }
 
 #[test]
