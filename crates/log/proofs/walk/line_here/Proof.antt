@@ -67,7 +67,7 @@ module _ {M : Type 1} (𝓤 : URA M) (H : Heap 𝓤) (A : Atoms 𝓤) (W : Given
   R = ShrSlice (named 0) κ u8
 
   abbrev Post : Val → SProp 𝓤
-  Post = walkOf 𝓤 H A line-here.ended stayed (line-here.clauses 𝓤 H A mem run) .post (((κ, tt), (q, tt), tt, (d, tt), ((mach d) ∷ [], tt)), tt)
+  Post = walkOf 𝓤 H A line-here.ended stayed (line-here.clauses 𝓤 H A mem run) .post (((κ, tt), (q, tt), tt, (d, tt), (mach d ∷ [], tt)), tt)
 
   abbrev to : PartAt 𝓤 H A mem run .Ghost
   to = (((κ, tt), (q, tt), tt, (d .log, (d .at, tt)), passed d), tt)
@@ -82,13 +82,13 @@ module _ {M : Type 1} (𝓤 : URA M) (H : Heap 𝓤) (A : Atoms 𝓤) (W : Given
   exits : (r : RefT (List ℕ)) (u : Val) → Part r → ent 𝓤 (⋆ 𝓤 H A (‵ (R .own r (u ∷ [])) ∷ (‵ (flft κ q) ⊛ ‵ ftrue) ∷ ‵ (Own κ d) ∷ [])) (Post u)
   exits r u e =
       qed W (‵ (R .own r (u ∷ [])) ∷ (‵ (flft κ q) ⊛ ‵ ftrue) ∷ ‵ (Own κ d) ∷ []) ∵
-      suffices ! _ (ends-at 𝓤 H A line-here.ended stayed (line-here.clauses 𝓤 H A mem run) W (((κ, tt), (q, tt), tt, (d, tt), ((mach d) ∷ [], tt)), tt) u r (tt, tt) (tt, tt)) $ says ! e $
+      suffices ! _ (ends-at 𝓤 H A line-here.ended stayed (line-here.clauses 𝓤 H A mem run) W (((κ, tt), (q, tt), tt, (d, tt), (mach d ∷ [], tt)), tt) u r (tt, tt) (tt, tt)) $ says ! e $
       move ! (1 ∷ []) $ frame ! $ nothing ! $ move ! (2 ∷ 0 ∷ []) $ fjoin ! $ frame ! $ done !
 
   module _ (C : Calls 𝓤 H) (Λ : Loops 𝓤 H) (fm : FmC 𝓤 H (W .laws) C) (known : Triple 𝓤 (C #log·walk·part-at) (PartAt 𝓤 H A mem run)) where
-    walk : Holds (hasTy (T′.mir (named 0)) (mach d)) × WT (mach d) → ent 𝓤 (onEntry 𝓤 H A line-here.signature (κ, tt) (q, tt) (d, tt) ((mach d) ∷ [], tt)) (WpFn 𝓤 H C Λ code.function ((mach d) ∷ []) Post)
+    walk : Holds (hasTy (T′.mir (named 0)) (mach d)) × WT (mach d) → ent 𝓤 (onEntry 𝓤 H A line-here.signature (κ, tt) (q, tt) (d, tt) (mach d ∷ [], tt)) (WpFn 𝓤 H C Λ code.function (mach d ∷ []) Post)
     walk wt =
-        qed W (raw (onEntry 𝓤 H A line-here.signature (κ, tt) (q, tt) (d, tt) ((mach d) ∷ [], tt)) ∷ []) ∵ enter ! C Λ code.function ((mach d) ∷ []) _ $
+        qed W (raw (onEntry 𝓤 H A line-here.signature (κ, tt) (q, tt) (d, tt) (mach d ∷ [], tt)) ∷ []) ∵ enter ! C Λ code.function (mach d ∷ []) _ $
         alloc1 ! (λ l₀. alloc1 ! (λ l₁. alloc1 ! (λ l₂. alloc1 ! (λ l₃. alloc0 ! $ params1 ! $ pass1 ! (init ! 4 refl wt) $ pass0 ! $
         assigns ! (of-opd ! (load ! (from ! (fld ! refl (stop !))) (look-in ! 4 (sub ! 0 refl (whole !))))) (from ! (stop !)) (init ! 2 refl (tt, wt .1 .0)) $
         assigns ! (of-opd ! (load ! (from ! (fld ! refl (stop !))) (look-in ! 4 (sub ! 1 refl (whole !))))) (from ! (stop !)) (init ! 0 refl (tt, wt .1 .1 .0)) $

@@ -71,7 +71,7 @@ module _ {M : Type 1} (𝓤 : URA M) (H : Heap 𝓤) (A : Atoms 𝓤) (W : Given
   after = movedOn d .at
 
   abbrev Post : Val → SProp 𝓤
-  Post = walkOf 𝓤 H A moved-on.ended stayed (moved-on.clauses 𝓤 H A mem run) .post (((κ, tt), (q, tt), tt, (d, tt), ((mach d) ∷ [], tt)), tt)
+  Post = walkOf 𝓤 H A moved-on.ended stayed (moved-on.clauses 𝓤 H A mem run) .post (((κ, tt), (q, tt), tt, (d, tt), (mach d ∷ [], tt)), tt)
 
   abbrev to : NextAt 𝓤 H A mem run .Ghost
   to = (((κ, tt), (q, tt), tt, (d .log, (d .at, tt)), passed d), tt)
@@ -86,15 +86,15 @@ module _ {M : Type 1} (𝓤 : URA M) (H : Heap 𝓤) (A : Atoms 𝓤) (W : Given
   exits : (n : ℕ) → n < 2 ^ 64 → n ≡ after → ent 𝓤 (⋆ 𝓤 H A ((‵ (flft κ q) ⊛ ‵ ftrue) ∷ ‵ (Own κ d) ∷ [])) (Post (T′.lowered (with-at n)))
   exits n ok e =
       qed W ((‵ (flft κ q) ⊛ ‵ ftrue) ∷ ‵ (Own κ d) ∷ []) ∵
-      suffices ! _ (ends-at 𝓤 H A moved-on.ended stayed (moved-on.clauses 𝓤 H A mem run) W (((κ, tt), (q, tt), tt, (d, tt), ((mach d) ∷ [], tt)), tt) (T′.lowered (with-at n)) (with-at n) (tt, tt) (tt, tt)) $ says ! (ap with-at e) $
-      frame ! $ use1 W (‵ (Own κ d) ⊛ ‵ (Own κ d)) (LL.copy (D κ) (T′.the-copy (namedLft 1 0 tt (κ, tt))) 𝓤 H A W .twice d ((mach d) ∷ [])) $ split ! $ nothing ! $ move ! (1 ∷ 0 ∷ []) $ fjoin ! $ frame ! $
+      suffices ! _ (ends-at 𝓤 H A moved-on.ended stayed (moved-on.clauses 𝓤 H A mem run) W (((κ, tt), (q, tt), tt, (d, tt), (mach d ∷ [], tt)), tt) (T′.lowered (with-at n)) (with-at n) (tt, tt) (tt, tt)) $ says ! (ap with-at e) $
+      frame ! $ use1 W (‵ (Own κ d) ⊛ ‵ (Own κ d)) (LL.copy (D κ) (T′.the-copy (namedLft 1 0 tt (κ, tt))) 𝓤 H A W .twice d (mach d ∷ [])) $ split ! $ nothing ! $ move ! (1 ∷ 0 ∷ []) $ fjoin ! $ frame ! $
       -- [what the struct owns]: the number's facts take the place of at's
       owned ! usize (Is usize) (uint-makes 𝓤 H A W w64) n _ (refl, ok) $ move ! (1 ∷ 0 ∷ []) $ by ! (own-put 𝓤 H A W (D κ) (L κ) 1 (vd κ d) n (mach d))
 
   module _ (C : Calls 𝓤 H) (Λ : Loops 𝓤 H) (fm : FmC 𝓤 H (W .laws) C) (known : Triple 𝓤 (C #log·walk·next-at) (NextAt 𝓤 H A mem run)) where
-    walk : Holds (hasTy (T′.mir (named 0)) (mach d)) × WT (mach d) → ent 𝓤 (onEntry 𝓤 H A moved-on.signature (κ, tt) (q, tt) (d, tt) ((mach d) ∷ [], tt)) (WpFn 𝓤 H C Λ code.function ((mach d) ∷ []) Post)
+    walk : Holds (hasTy (T′.mir (named 0)) (mach d)) × WT (mach d) → ent 𝓤 (onEntry 𝓤 H A moved-on.signature (κ, tt) (q, tt) (d, tt) (mach d ∷ [], tt)) (WpFn 𝓤 H C Λ code.function (mach d ∷ []) Post)
     walk wt =
-        qed W (raw (onEntry 𝓤 H A moved-on.signature (κ, tt) (q, tt) (d, tt) ((mach d) ∷ [], tt)) ∷ []) ∵ enter ! C Λ code.function ((mach d) ∷ []) _ $
+        qed W (raw (onEntry 𝓤 H A moved-on.signature (κ, tt) (q, tt) (d, tt) (mach d ∷ [], tt)) ∷ []) ∵ enter ! C Λ code.function (mach d ∷ []) _ $
         alloc1 ! (λ l₀. alloc1 ! (λ l₁. alloc1 ! (λ l₂. alloc1 ! (λ l₃. alloc1 ! (λ l₄. alloc1 ! (λ l₅. alloc0 ! $ params1 ! $ pass1 ! (init ! 8 refl wt) $ pass0 ! $
         -- [room for _5; …; _4; …; _3; …; _2; …; _1; …; _0; …; the entry]
         assigns ! (of-opd ! (load ! (from ! (fld ! refl (stop !))) (look-in ! 8 (sub ! 0 refl (whole !))))) (from ! (stop !)) (init ! 4 refl (tt, wt .1 .0)) $
