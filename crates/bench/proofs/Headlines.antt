@@ -14,17 +14,20 @@ use Rattle.log.specs.Pair.{pairOf}
 use Rattle.log.specs.Walk.{linesOf}
 use Rattle.log.specs.declared.digit.Pair.the-variants.{Byte}
 use Rattle.verdict.specs.declared.Verdict.the-variants.{False}
-use Rattle.checker.specs.Answer.{verdict}
+use Rattle.checker.specs.Answer.{opened, verdict}
 use Rattle.checker.specs.State.{stateFrames, refsIn}
 use Rattle.checker.specs.Open.{windowFits, OpenResult}
 use Rattle.checker.specs.StateTest.{statePasses}
 use Rattle.checker.specs.Report.{reportBytes}
 use Rattle.checker.specs.Pull.{foundHere, pullDef}
+use Rattle.checker.specs.Parts.{stateOf}
 use Rattle.checker.specs.declared.State.{State}
+use Rattle.checker.specs.declared.parts.Fields.{Fields}
 use Rattle.checker.proofs.Laws.{let-in}
 use Rattle.bench.specs.Print.{refusedLine, reportPart}
 use Rattle.bench.specs.Kept.{keptLimit}
 use Rattle.bench.specs.Progress.{Progress, emptyReport, UntilWaiting, pulls, pullLimit, fedLine, afterLine, afterLines, Chunked, afterBytes, atEnd}
+use Rattle.bench.specs.Carried.{openedWith}
 use Rattle.bench.specs.Output.{beforeLog, withTotals, begun, wholeRun, openedFor, outputOf}
 use Rattle.bench.proofs.ChunkLaws
 use Rattle.bench.proofs.Whole
@@ -45,6 +48,11 @@ module _ (text : List ℕ) (n : ℕ) (s : List ℕ) (r : readOf text (replicate 
       → UntilWaiting (fedLine (afterLines (begun (openedFor (take (n * frameBytes) s))) ls) line)
       (afterLine (afterLines (begun (openedFor (take (n * frameBytes) s))) ls) line)
   line-waits = Waiting.line-waits text _ n s r
+
+-- what `begin` begins from is what `open_rule` gave: the frames of the state, the fields that with them are the state, and the window
+pub opened-handed-on : (o : OpenResult) (fields : Fields) → o .answer ≡ opened → stateOf (o .state .frames) fields ≡ o .state
+    → openedWith (o .state .frames) fields (o .words) ≡ o
+opened-handed-on = Whole.opened-handed-on
 
 -- "a line cut by the buffer's end is one line": chunks one after the other do what all their bytes at once do
 pub chunks-join : (o : Chunked) (s t : List ℕ) → afterBytes o (s ++ t) ≡ afterBytes (afterBytes o s) t

@@ -26,13 +26,16 @@ use Rattle.log.specs.declared.digit.Pair.the-variants.{Byte}
 use Rattle.log.proofs.Main.{digit-back}
 use Rattle.verdict.specs.Found.{Found}
 use Rattle.verdict.specs.declared.Verdict.the-variants.{True, False, Unknown}
-use Rattle.checker.specs.Answer.{opened, verdict}
+use Rattle.checker.specs.Answer.{Answer, opened, verdict}
 use Rattle.checker.specs.State.{refsIn}
 use Rattle.checker.specs.Open.{OpenResult, openDef}
 use Rattle.checker.specs.Report.{entries, reportBytes, written}
 use Rattle.checker.specs.Admission.{Admission, admitted, barred, admission}
 use Rattle.checker.specs.Pull.{nextIn, pulledIf, PullRead, short, waits, gave, foundHere, pulledBy, pullDef}
+use Rattle.checker.specs.Parts.{stateOf}
 use Rattle.checker.specs.declared.State.{State}
+use Rattle.checker.specs.declared.parts.Fields.{Fields}
+use Rattle.bench.specs.Carried.{openedWith}
 use Rattle.bench.specs.Print.{refusedLine, reportPart}
 use Rattle.bench.specs.Kept.{keptLimit, heldWith}
 use Rattle.bench.specs.Progress.{Progress, emptyReport, Chunked, afterLine, afterLines, afterBytes, atEnd}
@@ -97,6 +100,11 @@ run-whole o log = ap withTotals (log-whole (begun o) log)
 pub read-opened : (text b : List ℕ) (n : ℕ) (s : List ℕ) → readOf text b ≡ (reading.frames n, s) → openedFor (take (n * frameBytes) s) .answer ≡ opened
 unfolding openDef
 read-opened text b n s e = rw (read-opens text b n s e)
+
+-- what an unrefused opening gave, put together again from its parts
+pub opened-handed-on : (o : OpenResult) (fields : Fields) → o .answer ≡ opened → stateOf (o .state .frames) fields ≡ o .state
+    → openedWith (o .state .frames) fields (o .words) ≡ o
+opened-handed-on o fields e f = ap₂ (λ (a : Answer) (s : State). record { answer = a; state = s; words = o .words }) (sym e) f
 
 -- there is room for the frames that were read
 pub read-room : (text b : List ℕ) (r : Reading) (n : ℕ) (s : List ℕ) → readTold r ≡ readOf text b .0 → s ≡ readOf text b .1 → r ≡ Frames n → n * frameBytes ≤ length s
