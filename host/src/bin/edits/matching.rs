@@ -6,13 +6,22 @@ pub fn matched(choices: &[Vec<usize>], facts: usize) -> Vec<Option<usize>> {
     for edit in 0..choices.len() {
         find(edit, choices, &mut taken, &mut vec![false; facts]);
     }
-    (0..choices.len()).map(|edit| taken.iter().position(|&by| by == Some(edit))).collect()
+    (0..choices.len())
+        .map(|edit| taken.iter().position(|&by| by == Some(edit)))
+        .collect()
 }
 
 /// Gives an edit a fact, moving others to other facts where that helps.
-fn find(edit: usize, choices: &[Vec<usize>], taken: &mut [Option<usize>], seen: &mut [bool]) -> bool {
+fn find(
+    edit: usize,
+    choices: &[Vec<usize>],
+    taken: &mut [Option<usize>],
+    seen: &mut [bool],
+) -> bool {
     for &fact in &choices[edit] {
-        if !std::mem::replace(&mut seen[fact], true) && taken[fact].map_or(true, |by| find(by, choices, taken, seen)) {
+        if !std::mem::replace(&mut seen[fact], true)
+            && taken[fact].map_or(true, |by| find(by, choices, taken, seen))
+        {
             taken[fact] = Some(edit);
             return true;
         }

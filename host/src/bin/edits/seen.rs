@@ -32,7 +32,7 @@ mod tests {
     use crate::edit;
 
     /// A crate with a function, another that calls it and uses a constant, two definitions, of which one uses the other, with a
-    /// comment between them that has a name as a word, and a law.
+    /// comment between them that has a name as a word, a record, and a law of the second definition and one of the record.
     fn sources() -> Sources {
         let files = [
             (
@@ -43,9 +43,12 @@ mod tests {
             ),
             (
                 "specs/D.antt",
-                "use Prim.Native.Nat.{ℕ, _+_}\n\nabbrev pub flat : ℕ → ℕ\nflat n = n + 1\n\n-- one that is deep\nabbrev pub deep : ℕ → ℕ\ndeep n =\n    flat n + 2\n",
+                "use Prim.Native.Nat.{ℕ, _+_}\n\nabbrev pub flat : ℕ → ℕ\nflat n = n + 1\n\n-- one that is deep\nabbrev pub deep : ℕ → ℕ\ndeep n =\n    flat n + 2\n\npub record Low (n : ℕ) : Type 0 where\n  -- few\n  pub few : n ≤ 2\n",
             ),
-            ("proofs/Law.antt", "use Rattle.c.specs.D.{deep}\nlaw : (n : ℕ) → deep n ≡ n + 3\nlaw n = refl\n"),
+            (
+                "proofs/Law.antt",
+                "use Rattle.c.specs.D.{deep, Low}\nlaw : (n : ℕ) → deep n ≡ n + 3\nlaw n = refl\n\nlow : Low 1\nlow = record { few = le }\n",
+            ),
         ];
         Sources::new(files.map(|(name, text)| (name.to_string(), text.to_string())))
     }
@@ -70,9 +73,11 @@ mod tests {
         "Least.\nfile: src/a.rt\nold: const LEAST: u8 = 1;\nnew: const LEAST: u8 = 2;\n";
     const FLAT: &str = "Flat.\nfile: specs/D.antt\nold: flat n = n + 1\nnew: flat n = n + 2\n";
     const DEEP: &str = "Deep.\nfile: specs/D.antt\nold: flat n + 2\nnew: flat n + 3\n";
+    const FEW: &str = "Few.\nfile: specs/D.antt\nold: few : n ≤ 2\nnew: few : n ≤ 0\n";
     const OF_F: (&str, &str) = ("proofs/a/f/Proof.antt", "returns-f");
     const OF_G: (&str, &str) = ("proofs/a/g/Proof.antt", "returns-g");
     const OF_LAW: (&str, &str) = ("proofs/Law.antt", "law");
+    const OF_LOW: (&str, &str) = ("proofs/Law.antt", "low");
 
     fn some(name: &str) -> Option<String> {
         Some(name.to_string())
@@ -97,6 +102,14 @@ mod tests {
         assert_eq!(places(FLAT, &[OF_G]), [None]);
         assert_eq!(places(DEEP, &[OF_LAW]), [some("law")]);
         assert_eq!(places(DEEP, &[OF_F]), [None]);
+    }
+
+    #[test]
+    fn a_field_is_its_records() {
+        assert_eq!(places(FEW, &[OF_LOW]), [some("low")]);
+        assert_eq!(places(FEW, &[OF_LAW]), [None]);
+        let both = format!("{DEEP}{FEW}");
+        assert_eq!(places(&both, &[OF_LAW, OF_LOW]), [some("law"), some("low")]);
     }
 
     #[test]

@@ -258,8 +258,17 @@ fn items(text: &str) -> Vec<(usize, Item)> {
     all
 }
 
+/// The record that a line of antt begins.
+fn record(line: &str) -> Option<&str> {
+    let words = line.strip_prefix("pub ").unwrap_or(line);
+    words.strip_prefix("record ")?.split(' ').next()
+}
+
 /// The name that a line of antt gives a type.
 fn typed(line: &str) -> Option<&str> {
+    if let Some(name) = record(line) {
+        return Some(name);
+    }
     let name = line.split_once(" : ")?.0.split(' ').next_back()?;
     (!line.starts_with("module ") && !name.starts_with('(')).then_some(name)
 }
@@ -288,7 +297,7 @@ fn declarations(text: &str) -> Vec<(String, String)> {
 }
 
 /// The definition that has a place of a file of specs/: the last line up to there that begins with a name, as far to the right as
-/// the line with its type; none above the first definition.
+/// the line with its type, or that begins a record, whose fields are its own; none above the first definition.
 fn definition_at(text: &str, place: usize) -> Option<String> {
     let indent = |line: &str| line.len() - line.trim_start().len();
     let names: Vec<(usize, &str)> = text
@@ -298,10 +307,10 @@ fn definition_at(text: &str, place: usize) -> Option<String> {
     let end = text[place..]
         .find('\n')
         .map_or(text.len(), |length| place + length);
-    let firsts = text[..end]
-        .lines()
-        .rev()
-        .filter_map(|line| Some((indent(line), line.split_whitespace().next()?)));
+    let firsts = text[..end].lines().rev().filter_map(|line| {
+        let first = record(line).or_else(|| line.split_whitespace().next())?;
+        Some((indent(line), first))
+    });
     let found = firsts.into_iter().find(|first| names.contains(first));
     found.map(|(_, name)| name.to_string())
 }
