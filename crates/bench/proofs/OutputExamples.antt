@@ -16,6 +16,7 @@ use Rattle.rule.specs.Spelling.{decimalFrom, decimal}
 use Rattle.rule.specs.Machine.{deeper, startFactor, step, finish, run}
 use Rattle.rule.specs.Memory.{position, negated, put, acts}
 use Rattle.rule.specs.Frames.{kindOf}
+use Rattle.rule.specs.Tree.{postfix, bytesOf}
 use Rattle.rule.specs.References.{referenceCount}
 use Rattle.rule.specs.Order.{orderOf}
 use Rattle.rule.specs.Sizes.{sizesFit}
@@ -23,7 +24,7 @@ use Rattle.rule.specs.Build.{treeOf}
 use Rattle.rule.specs.Check.{checkedOf}
 use Rattle.rule.specs.ReadTold as reading
 use Rattle.rule.specs.Reading.{judged, readOf}
-use Rattle.rule.proofs.Laws.{bytes}
+use Rattle.rule.proofs.Laws.{latency, latencyText, bytes}
 use Rattle.log.specs.Digit.{digitValue}
 use Rattle.log.specs.Line.{digitsAtFront, badPlace, lineOf}
 use Rattle.log.specs.Walk.{linesOf}
@@ -66,19 +67,14 @@ unfolding pulls
 one-verdict k p w = rw (p .some, p .then) (waits k w)
 
 -- ---- document 01's example
-abbrev latency : String
-latency = "events in out; notes t; t(out[i]) - t(in[i]) <= 25"
-
 -- its five frames, and the buffer that `read` fills
 abbrev framesOf5 : List ℕ
-framesOf5 =
-    0x03 ∷ 1 ∷ 0 ∷ 1 ∷ 0 ∷ 0 ∷ 0 ∷ 0 ∷ 0x03 ∷ 0 ∷ 0 ∷ 1 ∷ 0 ∷ 0 ∷ 0 ∷ 0 ∷ 0x12 ∷ 0 ∷ 0 ∷ 0 ∷ 0 ∷ 0 ∷ 0 ∷ 0
-    ∷ 0x01 ∷ 0 ∷ 0 ∷ 0 ∷ 0 ∷ 0 ∷ 0 ∷ 25 ∷ 0x24 ∷ 0 ∷ 0 ∷ 0 ∷ 0 ∷ 0 ∷ 0 ∷ 0 ∷ []
+framesOf5 = bytesOf (postfix latency)
 
 abbrev filled : List ℕ
 filled = framesOf5 ++ replicate 472 0
 
-read-latency : readOf (bytes latency) (replicate bufferBytes 0) ≡ (reading.frames 5, filled)
+read-latency : readOf (bytes latencyText) (replicate bufferBytes 0) ≡ (reading.frames 5, filled)
 unfolding classOf span same wordKind longestMark markWidth tokenKind widthOf tokenHere tokenAt tokensIn tokensFrom code nameCode decimalFrom decimal numberValue startFactor step finish run deeper position negated put acts judged readOf kindOf referenceCount orderOf sizesFit checkedOf
 read-latency = refl
 
@@ -205,17 +201,17 @@ totals-four : withTotals after4 ≡ printedFour
 unfolding hexOf
 totals-four = refl
 
-for-four : (log : List ℕ) → linesOf log ≡ four → outputOf (bytes latency) log ≡ printedFour
+for-four : (log : List ℕ) → linesOf log ≡ four → outputOf (bytes latencyText) log ≡ printedFour
 for-four log e =
-    output-run (bytes latency) log 5 filled read-latency
+    output-run (bytes latencyText) log 5 filled read-latency
     ∙ (ap (λ (ls : List (List ℕ)). withTotals (afterLines (begun (openedFor framesOf5)) ls)) e ∙ (ap withTotals run-four ∙ totals-four))
 
 -- the document's example, with the log's last LF and without
-pub document-example : outputOf (bytes latency) (lines logFour) ≡ printedFour
+pub document-example : outputOf (bytes latencyText) (lines logFour) ≡ printedFour
 unfolding linesOf
 document-example = for-four (lines logFour) refl
 
-pub without-last-LF : outputOf (bytes latency) (take 139 (lines logFour)) ≡ printedFour
+pub without-last-LF : outputOf (bytes latencyText) (take 139 (lines logFour)) ≡ printedFour
 unfolding linesOf
 without-last-LF = for-four (take 139 (lines logFour)) refl
 

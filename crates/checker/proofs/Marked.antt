@@ -27,7 +27,7 @@ use Rattle.rule.specs.Limits.{bufferBytes}
 use Rattle.rule.specs.Reading.{judged, readOf}
 use Rattle.rule.specs.ReadTold.{ReadAnswer}
 use Rattle.rule.specs.ReadTold as reading
-use Rattle.rule.proofs.Laws.{latency, bytes}
+use Rattle.rule.proofs.Laws.{latency, latencyText, bytes}
 use Rattle.log.specs.Digit.{digitValue}
 use Rattle.log.specs.Line.{digitsAtFront, badPlace, lineOf}
 use Rattle.verdict.specs.declared.Verdict.the-variants.{True, False, Unknown}
@@ -49,10 +49,6 @@ use Rattle.checker.specs.Machine.{atFirst, tabulated, joined, moved, mac
 -- ---- rules, as texts and as trees; t is note 0
 abbrev t : ℕ → ℤ → Sum
 t e o = reference (record { event = e; note = 0; factor = 1; offset = o })
-
--- "the rule above", the bench program's
-abbrev latencyText : String
-latencyText = "events in out; notes t; t(out[i]) - t(in[i]) <= 25"
 
 -- "With `events a b; notes t;` from here on", "(after 003)"
 abbrev after003Text : String

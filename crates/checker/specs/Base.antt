@@ -50,34 +50,30 @@ base refs e p = smallest (map (startAt p) (ofEvent e refs))
 -- ---- references, starts and base once more, as propositions
 -- "its references": r is one of event e, by the rule's references
 pub record ReferenceTo (refs : List Reference) (e : ℕ) (r : Reference) : Type 0 where
-  -- "over its references": the rule has it
+  -- the rule has it
   pub one : List·Memᴰ r refs
-  -- "reference: name "(" name "[" index "]" ")", the note first, then the event": it names that event
+  -- it names that event
   pub names : r .event ≡ e
 
 -- not "An event that the rule doesn't reference": some reference is one to it
 pub record Referenced (refs : List Reference) (e : ℕ) : Type 0 where
-  -- "its references": one of them
   pub reference : Reference
-  -- "its references": of that event
   pub its : ReferenceTo refs e reference
 
 -- the "max" in "max(0, factor × p + offset)", of any two signed numbers
 pub record Maximum (a b m : ℤ) : Type 0 where
-  -- "max(0, factor × p + offset)": it is one of the two
+  -- it is one of the two
   pub one : (m ≡ a) ⊎ (m ≡ b)
-  -- "max(0, factor × p + offset)": the first is not greater
+  -- neither is greater
   pub first : a ≤ℤ m
-  -- "max(0, factor × p + offset)": nor is the second
   pub second : b ≤ℤ m
 
 -- "the smallest of max(0, factor × p + offset) over its references": b, of event e
 pub record SmallestStart (refs : List Reference) (e p b : ℕ) : Type 0 where
   -- "over its references": one of them
   pub reference : Reference
-  -- "over its references": of that event
   pub its : ReferenceTo refs e reference
-  -- "of max(0, factor × p + offset)": it is that reference's
+  -- whose start it is
   pub equal : b ≡ startAt p reference
   -- "the smallest": at most that of each of its references
   pub at-most : (r : Reference) → ReferenceTo refs e r → b ≤ startAt p r

@@ -24,5 +24,5 @@ pub use Rattle.rule.proofs.FrameLists.{bytes-by, bytes-length}
 pub use Rattle.rule.proofs.CheckExactly.{proper-rule}
 -- document 01's first rule
 pub use Rattle.rule.proofs.FrameExamples.{latency}
--- a text's bytes
-pub use Rattle.rule.proofs.ReadExamples.{bytes}
+-- its text, and a text's bytes
+pub use Rattle.rule.proofs.ReadExamples.{latencyText, bytes}

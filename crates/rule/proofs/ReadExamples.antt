@@ -28,6 +28,10 @@ abbrev pub bytes : String → List ℕ
 bytes nil = []
 bytes (cons c s) = charCode c ∷ bytes s
 
+-- document 01's own rule
+abbrev pub latencyText : String
+latencyText = "events in out; notes t; t(out[i]) - t(in[i]) <= 25"
+
 -- so many times the same
 abbrev times : ℕ → String → List ℕ
 times zero s = []
@@ -56,7 +60,7 @@ gives s a = record { text = s; answer = a }
 -- document 01's own rule, and the five kinds of rules of the literature, of which latency is the first again
 abbrev kinds : List Example
 kinds =
-    gives (bytes "events in out; notes t; t(out[i]) - t(in[i]) <= 25") (frames 5)
+    gives (bytes latencyText) (frames 5)
     ∷ gives (bytes "events display; notes t; t(display[i+1]) - t(display[i]) = 10") (frames 5)
     ∷ gives (bytes "events display; notes t; abs(t(display[i]) - (i + 1) * 10) <= 4") (frames 10)
     ∷ gives (bytes "events display; notes t; t(display[i+100]) - t(display[i]) <= 1001") (frames 5)
@@ -174,7 +178,7 @@ unfolding classOf span same wordKind longestMark markWidth tokenKind widthOf tok
 buffers-tested = refl
 
 -- the frames of document 01's own rule, and zero after the last
-rule-frames : readOf (bytes "events in out; notes t; t(out[i]) - t(in[i]) <= 25") (replicate bufferBytes 7) .1
+rule-frames : readOf (bytes latencyText) (replicate bufferBytes 7) .1
     ≡ (3 ∷ 1 ∷ 0 ∷ 1 ∷ 0 ∷ 0 ∷ 0 ∷ 0 ∷ 3 ∷ 0 ∷ 0 ∷ 1 ∷ 0 ∷ 0 ∷ 0 ∷ 0 ∷ 0x12 ∷ 0 ∷ 0 ∷ 0 ∷ 0 ∷ 0 ∷ 0 ∷ 0
     ∷ 1 ∷ 0 ∷ 0 ∷ 0 ∷ 0 ∷ 0 ∷ 0 ∷ 25 ∷ 0x24 ∷ []) ++ replicate 479 0
 unfolding classOf span same wordKind longestMark markWidth tokenKind widthOf tokenHere tokenAt tokensIn tokensFrom code nameCode decimalFrom decimal numberValue startFactor step finish run deeper position negated put acts judged readOf checkedOf orderOf referenceCount sizesFit frameKind

@@ -16,6 +16,7 @@ mod opening;
 mod places;
 mod promises;
 mod refusals;
+mod requires;
 mod states;
 mod tariff;
 mod texts;
