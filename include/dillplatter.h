@@ -130,8 +130,9 @@ enum dillplatter_refusal {
                                       wrong */
     DILLPLATTER_WINDOW_WIDTH = 11, /* open: W outside 1 to 256, or a window not 32 * W words */
     DILLPLATTER_BAD_STATE = 12,    /* feed, pull, charge: a state whose frames or W opening would refuse, a count over 1,000,000, p
-                                      over 1,009,999, totals not summing to p, a count other than 0 of an event that the rule
-                                      doesn't reference, or a count above base plus W. p is the field `next` */
+                                      over 1,009,999 or below the start, totals not summing to p less the start, a count other
+                                      than 0 of an event that the rule doesn't reference, or a count above base plus W. p is the
+                                      field `next`, the start what it was in the opened state */
     DILLPLATTER_WINDOW_SIZE = 13,  /* feed, pull: a window not 32 * W words, with the W of the state */
     DILLPLATTER_REPORT_SIZE = 14,  /* pull, view: a report buffer under 166 bytes */
     DILLPLATTER_BAD_LINE = 15,     /* feed, lower: a line that isn't 34 digits 0-9, A-F or a-f; place: the lower of the first byte
@@ -188,7 +189,8 @@ enum dillplatter_kind {
 
 /* ---- what calls take and give ---- */
 
-/* The verdicts pulled so far: how many were true, false, unknown. Their sum is `next` of the state. */
+/* The verdicts pulled so far: how many were true, false, unknown. Their sum is `next` of the state less the rule's start, the
+ * instance that `next` was in the opened state. */
 typedef struct dillplatter_totals {
     uint32_t held, failed, unknown;
 } dillplatter_totals;
@@ -200,7 +202,7 @@ typedef struct dillplatter_state {
     uint32_t len;                             /* its number of frames, 1 to 64; 0 in the state of a refused opening */
     uint32_t width;                           /* W */
     uint32_t counts[8];                       /* accepted lines of each event */
-    uint32_t next;                            /* the instance that the next pull is about */
+    uint32_t next;                            /* the instance that the next pull is about; opening sets it to the start */
     dillplatter_totals totals;
 } dillplatter_state;
 
@@ -273,8 +275,9 @@ dillplatter_reading dillplatter_read(const uint8_t *text, size_t text_len, uint8
  * `frames` is exactly the rule's frames: of a buffer that dillplatter_read filled, the first 8 * reading.frames bytes. They are
  * copied into the state, and are checked whether or not they come from dillplatter_read.
  * Answers: opened; or refused with 9, 10, 7, 8 or 11, checked in this order.
- * Gives: where opened, the state of a fresh checker: no line, instance 0 next. Where refused, the state that is zero throughout,
- * which feed, pull and charge refuse with 12.
+ * Gives: where opened, the state of a fresh checker: no line, no verdict, and `next` at the rule's start, its first instance with a
+ * reference whose line number is not below 0. It is 0 for a rule with a reference whose offset is 0 or more, 2 for t(a[i-2]) > 0, at
+ * most 9,999. Where refused, the state that is zero throughout, which feed, pull and charge refuse with 12.
  * Writes: where opened, all words of `window`, to 0. Where refused, none.
  * Memory: `frames` is only read, and not needed after the call. The window stays the caller's; between the calls on this checker
  * nobody may change it. They must not overlap.

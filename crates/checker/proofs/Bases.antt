@@ -1,21 +1,25 @@
 -- Laws of a rule's references: an event's base is at most the start of each of its references, is that of one of them, and rises
--- with p. Assumes nothing.
+-- with p; the first instance is the least at which some reference isn't void. Assumes nothing.
 use mathlib.Core.Path.{_≡_, refl, sym, _∙_, ap}
 use mathlib.Core.Bool.{Bool, true, false, cond}
 use mathlib.Core.List.{List, [], _∷_, map, List·Memᴰ, List·Memᴰ·head, List·Memᴰ·tail, List·Memᴰ·cases-cons}
-use mathlib.Core.Logic.{_↔_, inl, inr, ⊎-elim}
-use Prim.Native.Nat.{ℕ, suc, _*_, _-_, _<_, _≤_}
-use native.Mathlib.Nat.{mul-le-mul-left, mul-le-mul-right}
+use mathlib.Core.Logic.{_↔_, _≢_, inl, inr, ⊎-elim}
+use Prim.Native.Nat.{ℕ, suc, _+_, _*_, _-_, _<_, _≤_}
+use native.Mathlib.Nat.{mul-le-mul-left, mul-le-mul-right, mul-comm, suc-mul, div-lt-iff-lt-mul}
 use native.Mathlib.Omega.{arith}
-use borrow.Author.Tests.{eq-eqb, eqb-true, ltb-true}
+use borrow.Author.Tests.{eq-eqb, eqb-true, ltb-true, lt-ltb, le-ltb}
 use lib.Dec.{ltb, eqb, leb→le, le→leb}
 use lib.IntN.{ℤ, pos, negsuc, natAbs, subℕ, _+ℤ_, _*ℤ_, pos-ne-negsuc}
-use Rattle.rule.specs.Tree.{Reference}
+use Rattle.rule.specs.Limits.{offsetLimit}
+use Rattle.rule.specs.Tree.{Reference, LimitsR}
 use Rattle.numbers.proofs.Bools.{true-false}
-use Rattle.verdict.specs.Found.{meantBy, pending, Lookup, resolve}
+use Rattle.verdict.specs.Found.{meantBy, meant, pending, Lookup, resolve}
+use Rattle.verdict.specs.declared.Meant.{Meant}
+use Rattle.verdict.specs.declared.Meant.the-variants.{Void, At}
 use Rattle.verdict.proofs.Laws.{resolve-late}
 use Rattle.checker.specs.Base.{ofEvent, isSome, referenced, orZero, startAt, smallest, base}
 use Rattle.checker.specs.Base.{ReferenceTo, Referenced, Maximum, SmallestStart}
+use Rattle.checker.specs.Base.{roundedUp, firstBy, firstOf, firstInstance, SomeNotVoid, FirstInstance}
 use Rattle.checker.proofs.Choices.{cond-case, less-or}
 
 -- ---- an event's references
@@ -173,6 +177,75 @@ base-exactly refs e p b h =
 pub base-mono : (refs : List Reference) (e p q : ℕ) → p ≤ q → base refs e p ≤ base refs e q
 unfolding base
 base-mono refs e p q h = smallest-mono (startAt p) (startAt q) (λ r. start-mono r p q h) (ofEvent e refs)
+
+-- ---- the first instance at which a reference isn't void
+round-exactly : (n d i : ℕ) → 1 ≤ d → (roundedUp n d ≤ i) ↔ (n ≤ d * i)
+round-exactly n d i h =
+    let b = div-lt-iff-lt-mul {k = d} {x = n + (d - 1)} {y = suc i} (omega arith) in
+    let m = suc-mul i d in
+    let c = mul-comm i d in (
+      λ l. omega (arith, b .0 (omega (arith, l)), m, c),
+      λ l. omega (arith, b .1 (omega (arith, l, m, c))),
+    )
+
+abbrev isVoid : Meant → Bool
+isVoid Void = true
+isVoid (At k) = false
+
+void-sub : (a b : ℕ) → (meantBy (subℕ a b) ≢ Void) ↔ (b ≤ a)
+void-sub a b = (
+  λ n. ⊎-elim (λ (h : a < b). absurd (n (rw (lt-ltb a b h)))) (λ (h : b ≤ a). h) (less-or a b),
+  λ h q. true-false (sym (ap isVoid q) ∙ rw (le-ltb a b h)),
+)
+
+-- by the offset's sign
+void-by : (f i : ℕ) (z : ℤ) → 1 ≤ f → (meantBy (pos (f * i) +ℤ z) ≢ Void) ↔ (firstBy f z ≤ i)
+void-by f i (pos k) h = (λ n. omega arith, λ l q. true-false (sym (ap isVoid q)))
+void-by f i (negsuc k) h =
+    let s = void-sub (f * i) (suc k) in
+    let r = round-exactly (suc k) f i h in
+    (λ n. r .1 (s .0 n), λ l. s .1 (r .0 l))
+
+first-by-most : (f : ℕ) (z : ℤ) → 1 ≤ f → natAbs z ≤ offsetLimit → firstBy f z ≤ offsetLimit
+first-by-most f (pos k) h l = omega arith
+first-by-most f (negsuc k) h l = round-exactly (suc k) f offsetLimit h .1 (omega (arith, l, mul-le-mul-right offsetLimit h))
+
+pub first-of-most : (r : Reference) → LimitsR r → firstOf r ≤ offsetLimit
+first-of-most r l = first-by-most (r .factor) (r .offset) (l .least) (l .offset)
+
+-- of a rule
+module _ (refs : List Reference) (some : refs ≢ []) (limits : (r : Reference) → List·Memᴰ r refs → LimitsR r) where
+  one-first : (x : Reference) × List·Memᴰ x refs × (firstInstance refs ≡ firstOf x)
+  unfolding firstInstance
+  one-first = go refs refl
+    where
+      go : (l : List Reference) → refs ≡ l → (x : Reference) × List·Memᴰ x refs × (smallest (map firstOf refs) ≡ firstOf x)
+      go [] q = absurd (some q)
+      go (r ∷ l) q = smallest-one firstOf refs r (rw q (List·Memᴰ·head refl))
+
+  pub first-on : (i : ℕ) → SomeNotVoid refs i ↔ (firstInstance refs ≤ i)
+  unfolding firstInstance
+  first-on i = (
+    λ s. (let r = s .reference in
+        omega (arith, smallest-le firstOf refs r (s .one), void-by (r .factor) i (r .offset) (limits r (s .one) .least) .0 (s .not-void))),
+    λ h. (let x = one-first in record {
+      reference = x .0;
+      one = x .1;
+      not-void = void-by (x .0 .factor) i (x .0 .offset) (limits (x .0) (x .1) .least) .1 (omega (arith, x .2, h));
+    }),
+  )
+
+  pub first-exactly : (n : ℕ) → (firstInstance refs ≡ n) ↔ FirstInstance refs n
+  first-exactly n = (
+    λ q. record {
+      some = first-on n .1 (omega (arith, q));
+      least = λ i s. omega (arith, q, first-on i .0 s);
+    },
+    λ f. (let m = firstInstance refs in omega (arith, first-on n .0 (f .some), f .least m (first-on m .1 (omega arith)))),
+  )
+
+  pub first-most : firstInstance refs ≤ offsetLimit
+  first-most = let x = one-first in omega (arith, x .2, first-of-most (x .0) (limits (x .0) (x .1)))
 
 -- ---- an instance so late that 1,000,000 lines do not reach its references
 pub late-pending : (l : Lookup) (r : Reference) (p : ℕ) → 1 ≤ r .factor → natAbs (r .offset) ≤ 9999 → l .count (r .event) ≤ 1000000 → 1009999 ≤ p

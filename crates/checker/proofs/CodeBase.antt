@@ -1,18 +1,20 @@
--- The pass over the references finds each event's base, and 12 by it is 12. Assumes nothing.
+-- The pass over the references finds each event's base and the first instance, and 12 by it is 12. Assumes nothing.
 use mathlib.Core.Path.{_≡_, refl, sym, ap, _∙_, subst}
 use mathlib.Core.Bool.{Bool, true, false, _&&_, cond}
 use mathlib.Core.List.{List, [], _∷_, map}
-use Prim.Native.Nat.{ℕ, zero, suc, _+_, _*_, _<_, _≤_, min}
+use mathlib.Core.Logic.{_≢_}
+use Prim.Native.Nat.{ℕ, zero, suc, _+_, _-_, _*_, _/_, _<_, _≤_, min}
 use native.Mathlib.Nat.{mul-le-mul}
 use native.Mathlib.Numerals.{add-one}
 use native.Mathlib.Omega.{arith}
-use borrow.Author.Tests.{eqb-true, eqb-false, eq-eqb, ne-eqb, leb-true}
-use Rattle.numbers.proofs.Bools.{and-false}
+use borrow.Author.Tests.{eqb-true, eqb-false, eq-eqb, ne-eqb, leb-true, ltb-true}
+use Rattle.numbers.proofs.Bools.{true-false, and-false}
 use lib.Dec.{eqb, leb}
-use lib.IntN.{ℤ, pos, negsuc, natAbs, _+ℤ_}
+use lib.IntN.{ℤ, pos, negsuc, natAbs, _+ℤ_, _-ℤ_}
+use lib.Signed.{ltZ}
 use lib.ListN.{length, getD, set, take, replicate, length-set}
 use lib.Seq.{getD-set-same, getD-set-other}
-use Rattle.rule.specs.Limits.{eventLimit}
+use Rattle.rule.specs.Limits.{eventLimit, offsetLimit}
 use Rattle.rule.specs.Frames.{Bytes, frameAt, frameCount}
 use Rattle.rule.specs.Tree.{Reference, Cond, LimitsR, IsRule, references}
 use Rattle.rule.specs.Build.{treeOf}
@@ -24,11 +26,13 @@ use Rattle.rule.proofs.Laws.{AllWithin, references-within, reference-at, passed
 use Rattle.verdict.specs.Found.{instanceLimit, meantBy}
 use Rattle.verdict.proofs.Laws.{natAbs-add}
 use Rattle.checker.specs.Limits.{lineLimit}
-use Rattle.checker.specs.Base.{ofEvent, isSome, referenced, orZero, startAt, smallest, base}
-use Rattle.checker.specs.State.{Tally, sumOf}
-use Rattle.checker.specs.StateTest.{allTo, countPasses, tallyPasses}
+use Rattle.checker.specs.Base.{ofEvent, isSome, referenced, orZero, startAt, smallest, base, firstBy, firstOf, firstInstance, firstFor}
+use Rattle.checker.specs.State.{Tally}
+use Rattle.checker.specs.StateTest.{allTo, countPasses, totalsPass, tallyPasses}
 use Rattle.checker.specs.BasePass.{noBase, lowered, basesWith, basesTo, basesOf, Startable, Passable, countFits, tallyFits}
+use Rattle.checker.specs.BasePass.{earlier, firstWith, firstTo}
 use Rattle.checker.specs.declared.Totals.{Totals}
+use Rattle.checker.proofs.Bases.{first-of-most}
 
 -- ---- the tree of accepted bytes
 pub bytes-take : (n : ℕ) (s : List ℕ) → ((i : ℕ) → getD s i 0 < 256) → Bytes (take n s)
@@ -54,9 +58,20 @@ startable s p k h l x e =
     subst (λ (y : Frame). Startable p y) (sym e)
     (record { instance-in = h .instance-in; limits = λ q. reference-at s k l (passed s (h .accepted) .order) q })
 
-pub bases-next : (s : List ℕ) (p k : ℕ) (x : Frame) → x ≡ frameAt s k → (out out′ : List ℕ) → out ≡ basesTo s p k → out′ ≡ basesWith p x out → out′ ≡ basesTo s p (k + 1)
-bases-next s p k x e out out′ i q =
-    rw (add-one k) (q ∙ ap (basesWith p x) i ∙ ap (λ (y : Frame). basesWith p y (basesTo s p k)) e)
+-- what it holds after the first k frames
+pub record PassHolds (s : List ℕ) (p k : ℕ) (bases : List ℕ) (first : ℕ) : Type 0 where
+  pub long : length bases ≡ eventLimit
+  pub bases-to : bases ≡ basesTo s p k
+  pub first-to : first ≡ firstTo s k
+
+pub pass-next : (s : List ℕ) (p k : ℕ) (x : Frame) → x ≡ frameAt s k → (bases bases′ : List ℕ) (first first′ : ℕ) → PassHolds s p k bases first
+    → length bases′ ≡ eventLimit → bases′ ≡ basesWith p x bases → first′ ≡ firstWith x first → PassHolds s p (k + 1) bases′ first′
+pass-next s p k x e bases bases′ first first′ h l q q′ =
+    record {
+      long = l;
+      bases-to = rw (add-one k) (q ∙ ap (basesWith p x) (h .bases-to) ∙ ap (λ (y : Frame). basesWith p y (basesTo s p k)) e);
+      first-to = rw (add-one k) (q′ ∙ ap (firstWith x) (h .first-to) ∙ ap (λ (y : Frame). firstWith y (firstTo s k)) e);
+    }
 
 -- ---- an event's references
 event-within : (e : ℕ) (rs : List Reference) → AllWithin rs → AllWithin (ofEvent e rs)
@@ -130,13 +145,18 @@ abbrev pub BaseIs : Bool → ℕ → ℕ → Type 0
 BaseIs true b low = (low ≡ b) × (low ≤ 9099990)
 BaseIs false b low = low ≡ noBase
 
+-- taken one by one from a number that the first does not exceed
+min-from : (f : Reference → ℕ) (m : ℕ) (r : Reference) (l : List Reference) → f r ≤ m → minOver m (map f (r ∷ l)) ≡ smallest (map f (r ∷ l))
+min-from f m r l h =
+    let e : min m (f r) ≡ f r = omega arith in
+    ap (λ (n : ℕ). minOver n (map f l)) e ∙ min-over (f r) (map f l)
+
 low-by : (p low : ℕ) (l : List Reference) → AllWithin l → p ≤ instanceLimit → low ≡ minOver noBase (map (startAt p) l)
     → BaseIs (isSome l) (smallest (map (startAt p) l)) low
 low-by p low [] w h q = q
 low-by p low (r ∷ l) w h q =
     let m : startAt p r ≤ 9099990 = start-most p r (w .0) h in
-    let f : min noBase (startAt p r) ≡ startAt p r = omega arith in
-    let e : low ≡ smallest (startAt p r ∷ map (startAt p) l) = q ∙ ap (λ (n : ℕ). minOver n (map (startAt p) l)) f ∙ min-over (startAt p r) (map (startAt p) l) in
+    let e : low ≡ smallest (startAt p r ∷ map (startAt p) l) = q ∙ min-from (startAt p) noBase r l (omega arith) in
     let s : smallest (startAt p r ∷ map (startAt p) l) ≤ startAt p r = smallest-first (startAt p r) (map (startAt p) l) in
     (e, omega arith)
 
@@ -162,6 +182,46 @@ base-is {s} b q p e h l =
     over-references (lowered p) r ls ∙ ap (λ (t : Cond). overReferences (lowered p) (references t) ls) (sym (tree-of r)) in
     low-by p (getD (basesOf s p) e 0) (ofEvent e refs) (event-within e refs (within-in b q)) h
     (ap (λ (x : List ℕ). getD x e 0) over ∙ low-over p e refs ls l ∙ ap (λ (n : ℕ). minOver n (map (startAt p) (ofEvent e refs))) (eights e l))
+
+-- ---- the first instance
+-- by the offset's sign
+pub negated : (z : ℤ) → ltZ z (pos 0) ≡ true → pos 0 -ℤ z ≡ pos (natAbs z)
+negated (pos k) e = absurd (let h : k < 0 = ltb-true k 0 e in omega arith)
+negated (negsuc k) e = ap pos (omega arith)
+
+pub first-below : (f : ℕ) (z : ℤ) → ltZ z (pos 0) ≡ true → (natAbs z + (f - 1)) / f ≡ firstBy f z
+first-below f (pos k) e = absurd (let h : k < 0 = ltb-true k 0 e in omega arith)
+first-below f (negsuc k) e = refl
+
+pub first-above : (f : ℕ) (z : ℤ) → ltZ z (pos 0) ≡ false → 0 ≡ firstBy f z
+first-above f (pos k) e = refl
+first-above f (negsuc k) e = absurd (true-false e)
+
+first-over : (rs : List Reference) (first : ℕ) → overReferences earlier rs first ≡ minOver first (map firstOf rs)
+first-over [] first = refl
+first-over (r ∷ rs) first = first-over rs (min first (firstOf r))
+
+first-from : (rs : List Reference) → rs ≢ [] → AllWithin rs → minOver offsetLimit (map firstOf rs) ≡ firstInstance rs
+unfolding firstInstance
+first-from [] n w = absurd (n refl)
+first-from (r ∷ rs) n w = min-from firstOf offsetLimit r rs (first-of-most r (w .0))
+
+first-is : {s : List ℕ} → Bytes s → checkedOf s ≡ checking.accepted → firstTo s (frameCount s) ≡ firstFor s
+unfolding accepted-rule
+first-is {s} b q =
+    let r : IsRule s = accepted-rule b q in
+    let some : references (treeOf s) ≢ [] = λ z. frames-exactly b .0 q .named (ap references (sym (tree-of r)) ∙ z) in
+    over-references earlier r offsetLimit
+    ∙ first-over (references (r .tree)) offsetLimit
+    ∙ ap (λ (t : Cond). minOver offsetLimit (map firstOf (references t))) (sym (tree-of r))
+    ∙ first-from (references (treeOf s)) some (within-in b q)
+
+-- what it holds in the end
+pub pass-found : {s : List ℕ} → Bytes s → (p k : ℕ) → Passable s p → k ≡ frameCount s → (bases : List ℕ) (first : ℕ) → PassHolds s p k bases first
+    → (bases ≡ basesOf s p) × (first ≡ firstFor s)
+unfolding basesOf
+pass-found {s} b p k h e bases first x =
+    (x .bases-to ∙ ap (basesTo s p) e, x .first-to ∙ ap (firstTo s) e ∙ first-is b (h .accepted))
 
 -- ---- 12
 count-same : (t : Bool) (b low w c : ℕ) → BaseIs t b low → countFits w low c ≡ (leb c lineLimit && cond t (leb c (b + w)) (eqb c 0))
@@ -193,9 +253,9 @@ tally-same {s} b q w counts p totals = go (leb p instanceLimit) refl
         (λ e l. count-same (referenced refs e) (base refs e p) (getD (basesOf s p) e 0) w (getD counts e 0) (base-is b q p e h l))
 
     go : (x : Bool) → leb p instanceLimit ≡ x
-        → (x && (allTo eventLimit (λ e. countFits w (getD (basesOf s p) e 0) (getD counts e 0)) && eqb (sumOf totals) p))
-        ≡ (allTo eventLimit (countPasses refs w t) && (x && eqb (sumOf totals) p))
-    go true d = ap (λ (a : Bool). a && eqb (sumOf totals) p) (all (leb-true p instanceLimit d))
+        → (x && (allTo eventLimit (λ e. countFits w (getD (basesOf s p) e 0) (getD counts e 0)) && totalsPass (firstFor s) p totals))
+        ≡ (allTo eventLimit (countPasses refs w t) && (x && totalsPass (firstFor s) p totals))
+    go true d = ap (λ (a : Bool). a && totalsPass (firstFor s) p totals) (all (leb-true p instanceLimit d))
     go false d = sym (and-false (allTo eventLimit (countPasses refs w t)))
 
 -- ---- a loop over all events

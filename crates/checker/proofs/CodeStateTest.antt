@@ -2,21 +2,24 @@
 use mathlib.Core.Path.{_≡_, refl, sym, ap, _∙_}
 use mathlib.Core.Bool.{Bool, true, false, _&&_}
 use mathlib.Core.List.{List}
-use Prim.Native.Nat.{ℕ, _*_, _<_, _≤_}
-use borrow.Author.Tests.{leb-true, eqb-true, le-leb, lt-leb}
+use mathlib.Core.Logic.{_≢_, ⊎-elim}
+use Prim.Native.Nat.{ℕ, _+_, _*_, _-_, _<_, _≤_}
+use native.Mathlib.Omega.{arith}
+use borrow.Author.Tests.{leb-true, eq-eqb, ne-eqb, le-leb, lt-leb}
 use lib.Dec.{leb, eqb}
 use lib.IntN.{ℤ}
 use lib.ListN.{getD, take}
-use Rattle.numbers.proofs.Bools.{true-false, and-true}
+use Rattle.numbers.proofs.Bools.{true-false, and-true, true-and}
 use Rattle.rule.specs.Limits.{eventLimit, frameLimit, frameBytes}
 use Rattle.rule.specs.Check.{checkedOf}
 use Rattle.rule.specs.CheckTold.{CheckAnswer}
 use Rattle.rule.specs.CheckTold as checking
 use Rattle.verdict.specs.Found.{instanceLimit}
 use Rattle.checker.specs.Limits.{widthLimit}
+use Rattle.checker.specs.Base.{firstFor}
 use Rattle.checker.specs.State.{sumOf, tallyIn, stateFrames, refsIn}
 use Rattle.checker.specs.Open.{widthFits}
-use Rattle.checker.specs.StateTest.{isAccepted, allTo, countPasses, rulePasses, tallyPasses, statePasses}
+use Rattle.checker.specs.StateTest.{isAccepted, allTo, countPasses, totalsPass, rulePasses, tallyPasses, statePasses}
 use Rattle.checker.specs.BasePass.{basesOf, countFits, ruleFits, tallyFits}
 use Rattle.checker.specs.Offer.{Countable}
 use Rattle.checker.specs.Parts.{stateOf}
@@ -24,7 +27,9 @@ use Rattle.checker.specs.Ready.{Ready}
 use Rattle.checker.specs.declared.parts.Fields.{Fields}
 use Rattle.checker.specs.declared.Totals.{Totals}
 use Rattle.checker.specs.declared.State.{State}
+use Rattle.checker.proofs.Choices.{same-or, never-true}
 use Rattle.checker.proofs.Admissions.{in-good}
+use Rattle.checker.proofs.Tallies.{totals-facts, tally-facts}
 
 -- ---- a good state
 pub record Facts (s : State) : Type 0 where
@@ -45,14 +50,13 @@ good-facts s e =
     let b = and-true (leb (s .len) frameLimit && isAccepted (checkedOf (stateFrames s))) (widthFits (s .width)) (a .0) in
     let f = and-true (leb (s .len) frameLimit) (isAccepted (checkedOf (stateFrames s))) (b .0) in
     let w = and-true (leb 1 (s .width)) (leb (s .width) widthLimit) (b .1) in
-    let t = and-true (allTo eventLimit (countPasses (refsIn s) (s .width) (tallyIn s))) (leb (s .next .0) instanceLimit && eqb (sumOf (s .totals)) (s .next .0)) (a .1) in
-    let u = and-true (leb (s .next .0) instanceLimit) (eqb (sumOf (s .totals)) (s .next .0)) (t .1) in
+    let t = tally-facts (refsIn s) (s .width) (tallyIn s) (a .1) in
     record {
       few = leb-true (s .len) frameLimit (f .0);
       accepted = accepted-by (checkedOf (stateFrames s)) (f .1);
       some = leb-true 1 (s .width) (w .0);
       most = leb-true (s .width) widthLimit (w .1);
-      totals = record { sum = eqb-true (sumOf (s .totals)) (s .next .0) (u .1); low = leb-true (s .next .0) instanceLimit (u .0) };
+      totals = record { sum = omega (arith, t .sum); low = t .low };
     }
 
 -- the same of what the inner calls require
@@ -74,17 +78,32 @@ pub bad-by : (s : State) → ruleFits (s .frames) (s .len) (s .width) ≡ false 
 unfolding statePasses rulePasses
 bad-by s q = sym (ap (λ (x : Bool). x && tallyPasses (refsIn s) (s .width) (tallyIn s)) q)
 
+-- one equation says both that p is not below the first instance and what the totals sum to
+pub sum-from : (first p : ℕ) (t : Totals) → eqb (first + sumOf t) p ≡ totalsPass first p t
+sum-from first p t = ⊎-elim same other (same-or (first + sumOf t) p)
+  where
+    same : first + sumOf t ≡ p → eqb (first + sumOf t) p ≡ totalsPass first p t
+    same q =
+        eq-eqb (first + sumOf t) p q
+        ∙ sym (true-and (leb first p) (eqb (sumOf t) (p - first)) (le-leb first p (omega (arith, q))) (eq-eqb (sumOf t) (p - first) (omega (arith, q))))
+
+    other : first + sumOf t ≢ p → eqb (first + sumOf t) p ≡ totalsPass first p t
+    other n =
+        ne-eqb (first + sumOf t) p n
+        ∙ sym (never-true (totalsPass first p t) (λ h. let f = totals-facts first p t h in n (omega (arith, f .0, f .1))))
+
 abbrev allFit : ℕ → List ℕ → List ℕ → Bool
 allFit w bases counts = allTo eventLimit (λ e. countFits w (getD bases e 0) (getD counts e 0))
 
-pub tally-by : (s : List ℕ) (w : ℕ) (counts : List ℕ) (p : ℕ) (totals : Totals) (bases : List ℕ) (a b : Bool) → p ≤ instanceLimit → bases ≡ basesOf s p
-    → a ≡ allTo eventLimit (λ e. countFits w (getD bases e 0) (getD counts e 0)) → b ≡ eqb (sumOf totals) p → (a && b) ≡ tallyFits s w counts p totals
+pub tally-by : (s : List ℕ) (w : ℕ) (counts : List ℕ) (p : ℕ) (totals : Totals) (bases : List ℕ) (first : ℕ) (a b : Bool) → p ≤ instanceLimit
+    → bases ≡ basesOf s p → first ≡ firstFor s → a ≡ allTo eventLimit (λ e. countFits w (getD bases e 0) (getD counts e 0)) → b ≡ totalsPass first p totals
+    → (a && b) ≡ tallyFits s w counts p totals
 unfolding tallyFits
-tally-by s w counts p totals bases a b h l ea eb =
+tally-by s w counts p totals bases first a b h l f ea eb =
     ap (λ (x : Bool). x && b) (ea ∙ ap (λ (x : List ℕ). allFit w x counts) l)
-    ∙ ap (λ (y : Bool). allFit w (basesOf s p) counts && y) eb
-    ∙ sym (ap (λ (x : Bool). x && (allFit w (basesOf s p) counts && eqb (sumOf totals) p)) (le-leb p instanceLimit h))
+    ∙ ap (λ (y : Bool). allFit w (basesOf s p) counts && y) (eb ∙ ap (λ (x : ℕ). totalsPass x p totals) f)
+    ∙ sym (ap (λ (x : Bool). x && (allFit w (basesOf s p) counts && totalsPass (firstFor s) p totals)) (le-leb p instanceLimit h))
 
 pub tally-no : (s : List ℕ) (w : ℕ) (counts : List ℕ) (p : ℕ) (totals : Totals) → instanceLimit < p → false ≡ tallyFits s w counts p totals
 unfolding tallyFits
-tally-no s w counts p totals h = sym (ap (λ (x : Bool). x && (allFit w (basesOf s p) counts && eqb (sumOf totals) p)) (lt-leb p instanceLimit h))
+tally-no s w counts p totals h = sym (ap (λ (x : Bool). x && (allFit w (basesOf s p) counts && totalsPass (firstFor s) p totals)) (lt-leb p instanceLimit h))

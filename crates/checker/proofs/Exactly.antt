@@ -1,9 +1,9 @@
--- After every list of calls: exactly when a pull waits, exactly when a line is accepted or finds the window full, and what the
--- window holds; exactly when opening is not refused. Assumes nothing.
+-- After every list of calls: exactly when a pull waits, that a verdict has a present reference, exactly when a line is accepted or
+-- finds the window full, and what the window holds; exactly when opening is not refused. Assumes nothing.
 use mathlib.Core.Path.{_≡_, refl, sym, _∙_, ap, subst}
 use mathlib.Core.Bool.{Bool, true, false, _&&_, cond}
 use mathlib.Core.List.{List, [], _∷_}
-use mathlib.Core.Logic.{_↔_}
+use mathlib.Core.Logic.{_↔_, _≢_}
 use Prim.Native.Nat.{ℕ, _+_, _<_, _≤_}
 use native.Mathlib.Omega.{arith}
 use borrow.Author.Tests.{eq-eqb, eqb-true, le-leb, lt-leb, leb-true, leb-false, le-ltb, ltb-false}
@@ -11,7 +11,7 @@ use lib.Dec.{ltb, leb}
 use lib.IntN.{ℤ, pos}
 use lib.ListN.{length, getD}
 use Rattle.rule.specs.Frames.{Bytes}
-use Rattle.rule.specs.Tree.{references}
+use Rattle.rule.specs.Tree.{Reference, references}
 use Rattle.rule.specs.Build.{treeOf}
 use Rattle.rule.specs.Check.{checkedOf}
 use Rattle.rule.specs.Opening.{Proper}
@@ -20,17 +20,21 @@ use Rattle.rule.specs.CheckTold as checking
 use Rattle.rule.proofs.Main.{frames-exactly}
 use Rattle.log.specs.Line.{lineOf}
 use Rattle.log.specs.Line as log
-use Rattle.numbers.proofs.Bools.{and-true, true-and}
-use Rattle.verdict.specs.Found.{givenIn}
+use Rattle.numbers.proofs.Bools.{true-false, and-true, true-and}
+use Rattle.verdict.specs.Found.{meant, present, pending, Lookup, foundBy, resolve, byLists, givenIn, isPresent, isPending, someOf}
 use Rattle.verdict.specs.Value.{value}
-use Rattle.verdict.specs.Settled.{settled}
+use Rattle.verdict.specs.Settled.{settledBy, settled}
 use Rattle.verdict.specs.Settled as settling
+use Rattle.verdict.specs.declared.Meant.{Meant}
+use Rattle.verdict.specs.declared.Meant.the-variants.{Void, At}
+use Rattle.verdict.specs.declared.Truth.{Truth}
 use Rattle.verdict.specs.declared.Verdict.{Verdict}
 use Rattle.verdict.specs.declared.Verdict.the-variants.{True, False, Unknown}
 use Rattle.verdict.specs.declared.Judgement.the-variants.{Unsettled}
+use Rattle.verdict.proofs.Laws.{none-so}
 use Rattle.checker.specs.Limits.{widthLimit, windowWords, lineLimit, reportLeast}
 use Rattle.checker.specs.Answer.{Answer, opened, accepted, ignored, waiting, verdict, refused}
-use Rattle.checker.specs.Base.{referenced, base}
+use Rattle.checker.specs.Base.{referenced, base, SomeNotVoid}
 use Rattle.checker.specs.State.{countOf, zeroState}
 use Rattle.checker.specs.Ring.{wordAt}
 use Rattle.checker.specs.Open.{widthFits, windowFits, openedAs, notOpened, afterFrames, openDef}
@@ -43,7 +47,7 @@ use Rattle.checker.specs.Machine.{Machine, atFirst, tallyOf, machineFor}
 use Rattle.checker.specs.Demand.{Unrefused, fresh, answerOf}
 use Rattle.checker.proofs.Simulation.{count-of, out-step}
 use Rattle.checker.proofs.Bases.{referenced-below}
-use Rattle.checker.proofs.Fresh.{opened-fine}
+use Rattle.checker.proofs.Fresh.{opened-fine, first-on}
 use Rattle.checker.proofs.Lists.{in-step}
 
 -- ---- answers told apart by a number; a refusal has 5 more than its own
@@ -65,6 +69,32 @@ waits-by false false v q = (refl, refl)
 
 by-waits : (t s : Bool) (v : Verdict) → t ≡ false → s ≡ false → pullAnswer (cond t short (offered (cond s (settling.verdict v) Unsettled))) ≡ waiting
 by-waits t s v p q = rw (p, q)
+
+-- ---- a verdict is handed out only where a reference is present
+gives-by : (t s : Bool) (v v′ : Verdict) → pullAnswer (cond t short (offered (cond s (settling.verdict v) Unsettled))) ≡ verdict v′ → s ≡ true
+gives-by true s v v′ q = absurd (let z : 19 ≡ 4 = ap codeOf q in omega arith)
+gives-by false true v v′ q = refl
+gives-by false false v v′ q = absurd (let z : 3 ≡ 4 = ap codeOf q in omega arith)
+
+pending-or-present : (l : Lookup) (e n : ℕ) (m : Meant) → m ≢ Void → isPresent (foundBy l e n m) ≡ false → isPending (foundBy l e n m) ≡ true
+pending-or-present l e n Void q h = absurd (q refl)
+pending-or-present l e n (At k) q h = go (ltb (k .0) (l .count e)) h
+  where
+    go : (t : Bool) → isPresent (cond t (present (l .noteAt e n (k .0))) pending) ≡ false → isPending (cond t (present (l .noteAt e n (k .0))) pending) ≡ true
+    go true h = absurd (true-false h)
+    go false h = refl
+
+some-present : (l : Lookup) (i : ℕ) (rs : List Reference) (t : Truth) → SomeNotVoid rs i
+    → settledBy (someOf isPending (resolve l i) rs) (someOf isPresent (resolve l i) rs) t ≡ true → someOf isPresent (resolve l i) rs ≡ true
+some-present l i rs t s = go (someOf isPresent (resolve l i) rs) (someOf isPending (resolve l i) rs) refl refl
+  where
+    go : (a b : Bool) → someOf isPresent (resolve l i) rs ≡ a → someOf isPending (resolve l i) rs ≡ b → settledBy b a t ≡ true → a ≡ true
+    go true b p q h = refl
+    go false true p q h = absurd (true-false (sym h))
+    go false false p q h =
+        let r = s .reference in
+        let z = pending-or-present l (r .event) (r .note) (meant i r) (s .not-void) (none-so isPresent (resolve l i) rs p r (s .one)) in
+        absurd (true-false (sym z ∙ none-so isPending (resolve l i) rs q r (s .one)))
 
 -- ---- when a line is accepted, and when the window is full
 module _ (e : ℕ) (notes : List ℤ) where
@@ -117,6 +147,17 @@ module _ {frames : List ℕ} {w : ℕ} {win : List ℤ} (o : Unrefused frames w 
         λ q. (let h = waits-by t s v (sym a ∙ q) in (ltb-false (length buffer) reportLeast (h .0), h .1)),
         λ h. a ∙ by-waits t s v (le-ltb (length buffer) reportLeast (h .0)) (h .1),
       )
+
+  pub verdict-present : (buffer : List ℕ) (v : Verdict)
+      → pullDef (end checker cs (fresh frames w win) .state) (end checker cs (fresh frames w win) .words) buffer .answer ≡ verdict v
+      → someOf isPresent (givenIn (end (machineFor frames w) cs (atFirst frames) .lists) (end (machineFor frames w) cs (atFirst frames) .next) .found) (references (treeOf frames)) ≡ true
+  unfolding pullRead
+  verdict-present buffer v q =
+      let g = givenIn (machineEnd .lists) (machineEnd .next) in
+      let t = value g (treeOf frames) in
+      some-present (byLists (machineEnd .lists)) (machineEnd .next) (references (treeOf frames)) t
+      (first-on o (machineEnd .next) .1 (in-step o cs .sound .begun))
+      (gives-by (ltb (length buffer) reportLeast) (settled g (treeOf frames)) (settling.verdictOf t) v (sym (pull-answer buffer) ∙ q))
 
   module _ (line : List ℕ) (e : ℕ) (a b c d : ℤ) (l : lineOf line ≡ log.line e a b c d) where
     line-answer : feedDef (end checker cs (fresh frames w win) .state) (end checker cs (fresh frames w win) .words) line .answer

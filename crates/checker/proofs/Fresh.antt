@@ -2,14 +2,14 @@
 use mathlib.Core.Path.{_≡_, refl, sym, _∙_, ap, subst}
 use mathlib.Core.Bool.{Bool, true, false, _&&_, cond}
 use mathlib.Core.List.{List, [], _∷_, List·Memᴰ, List·Memᴰ·cases-cons}
-use mathlib.Core.Logic.{⊎-elim}
+use mathlib.Core.Logic.{_↔_, ⊎-elim}
 use Prim.Native.Nat.{ℕ, _*_, _-_, _/_, _≤_}
 use native.Mathlib.Omega.{arith}
 use borrow.Author.Tests.{le-leb}
 use lib.IntN.{ℤ, pos}
 use lib.ListN.{length, replicate, length-replicate}
 use lib.Seq.{take-at}
-use Rattle.rule.specs.Limits.{frameLimit, frameBytes}
+use Rattle.rule.specs.Limits.{offsetLimit, frameLimit, frameBytes}
 use Rattle.rule.specs.Frames.{Bytes}
 use Rattle.rule.specs.Tree.{Reference, references, postfix, LimitsR}
 use Rattle.rule.specs.Build.{treeOf}
@@ -22,12 +22,13 @@ use Rattle.rule.proofs.Laws.{proper-rule, rule-length, AllWithin, references-wi
 use Rattle.numbers.proofs.Bools.{true-false, and-true}
 use Rattle.checker.specs.Limits.{windowWords}
 use Rattle.checker.specs.Answer.{Answer, opened, accepted, ignored, waiting, verdict, refused}
-use Rattle.checker.specs.Base.{firstInstance}
+use Rattle.checker.specs.Base.{firstFor, SomeNotVoid, FirstInstance}
 use Rattle.checker.specs.State.{countOf, freshState}
 use Rattle.checker.specs.Open.{OpenResult, widthFits, windowFits, openedAs, notOpened, afterFrames, openDef}
 use Rattle.checker.specs.Calls.{Checker}
 use Rattle.checker.specs.Demand.{Unrefused, fresh}
 use Rattle.checker.specs.Machine.{tabulated, atFirst, tallyOf}
+use Rattle.checker.proofs.Bases as bases
 use Rattle.checker.proofs.Simulation.{Fine, Both, count-of}
 
 -- ---- an opening that is not refused
@@ -94,16 +95,18 @@ whole-length frames b e =
 abbrev holding : OpenResult → Checker
 holding x = record { state = x .state; words = x .words }
 
-both-fresh : (frames : List ℕ) (w : ℕ) → Bytes frames → checkedOf frames ≡ checking.accepted → Both frames w (atFirst frames) (holding (openedAs frames w))
-unfolding firstInstance freshState tabulated
-both-fresh frames w b e =
+both-fresh : (frames : List ℕ) (w : ℕ) → Bytes frames → checkedOf frames ≡ checking.accepted → firstFor frames ≤ offsetLimit
+    → Both frames w (atFirst frames) (holding (openedAs frames w))
+unfolding freshState tabulated
+both-fresh frames w b e f =
     let h = whole-length frames b e in
     record {
       sound =
           record {
             counts = λ e h. let z : countOf (tallyOf (atFirst frames)) e ≡ 0 = count-of (atFirst frames) e h in record { few = omega (arith, z); room = λ _. omega (arith, z); none = λ _. z };
-            low = omega arith;
-            sum = refl;
+            low = omega (arith, f);
+            begun = omega arith;
+            sum = omega arith;
           };
       sim =
           record {
@@ -120,7 +123,17 @@ module _ {frames : List ℕ} {w : ℕ} {win : List ℤ} (o : Unrefused frames w 
   pub opened-fine : Fine frames w
   opened-fine = fine frames w win (o .bytes) (passed frames w win (o .answer))
 
+  -- where verdicts begin: at an instance with a reference that isn't void, as are all from there on and none before
+  pub first-on : (i : ℕ) → SomeNotVoid (references (treeOf frames)) i ↔ (firstFor frames ≤ i)
+  first-on = bases.first-on (references (treeOf frames)) (opened-fine .some) (opened-fine .limits)
+
+  pub first-exactly : (n : ℕ) → (firstFor frames ≡ n) ↔ FirstInstance (references (treeOf frames)) n
+  first-exactly = bases.first-exactly (references (treeOf frames)) (opened-fine .some) (opened-fine .limits)
+
+  pub first-most : firstFor frames ≤ offsetLimit
+  first-most = bases.first-most (references (treeOf frames)) (opened-fine .some) (opened-fine .limits)
+
   pub both-opened : Both frames w (atFirst frames) (fresh frames w win)
   both-opened =
       let p = passed frames w win (o .answer) in
-      subst (λ (x : OpenResult). Both frames w (atFirst frames) (holding x)) (sym (p .result)) (both-fresh frames w (o .bytes) (p .accepted))
+      subst (λ (x : OpenResult). Both frames w (atFirst frames) (holding x)) (sym (p .result)) (both-fresh frames w (o .bytes) (p .accepted) first-most)

@@ -30,6 +30,7 @@ mod Charges
 -- Computed examples.
 mod Marked
 mod CallExamples
+mod StartExamples
 mod ViewExamples
 mod TariffExamples
 -- What the proofs of functions cite: opening, bases, the window, 12, feeding.

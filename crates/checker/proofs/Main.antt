@@ -6,7 +6,7 @@ use mathlib.Core.Logic.{_↔_, _≢_}
 use Prim.Native.Nat.{ℕ, _+_, _*_, _≤_, _<_}
 use lib.IntN.{ℤ, pos, _+ℤ_, _*ℤ_}
 use lib.ListN.{length, take, getD, replicate}
-use Rattle.rule.specs.Limits.{frameBytes}
+use Rattle.rule.specs.Limits.{offsetLimit, frameBytes}
 use Rattle.rule.specs.Token.{tokens}
 use Rattle.rule.specs.Grammar.{Rule, yield, words}
 use Rattle.rule.specs.Frames.{Bytes}
@@ -19,7 +19,7 @@ use Rattle.rule.specs.ReadTold as reading
 use Rattle.log.specs.Line.{lineOf}
 use Rattle.log.specs.Line as log
 use Rattle.log.proofs.Main.{zeros-refused, empty-refused}
-use Rattle.verdict.specs.Found.{instanceLimit, givenIn}
+use Rattle.verdict.specs.Found.{instanceLimit, givenIn, isPresent, someOf}
 use Rattle.verdict.specs.Value.{value}
 use Rattle.verdict.specs.Settled.{settled, verdictOf, judgement}
 use Rattle.verdict.specs.Settled as settling
@@ -28,7 +28,7 @@ use Rattle.verdict.specs.declared.Verdict.{Verdict}
 use Rattle.verdict.specs.declared.Verdict.the-variants.{False, Unknown}
 use Rattle.checker.specs.Limits.{widthLimit, windowWords, lineLimit, reportLeast}
 use Rattle.checker.specs.Answer.{opened, accepted, waiting, verdict, refused, openTold, feedTold, pullTold}
-use Rattle.checker.specs.Base.{referenced, startAt, base, Referenced, Maximum, SmallestStart, firstFor}
+use Rattle.checker.specs.Base.{referenced, startAt, base, Referenced, Maximum, SmallestStart, firstFor, SomeNotVoid, FirstInstance}
 use Rattle.checker.specs.State.{tallyIn, stateFrames, zeroState, SameRule}
 use Rattle.checker.specs.Ring.{wordAt}
 use Rattle.checker.specs.Open.{openDef}
@@ -48,6 +48,7 @@ use Rattle.checker.specs.declared.FeedAnswer.{FeedAnswer}
 use Rattle.checker.specs.declared.PullAnswer.{PullAnswer}
 use Rattle.checker.specs.declared.Tariff.{Tariff}
 use Rattle.checker.specs.declared.ChargeAnswer.{ChargeAnswer}
+use Rattle.checker.proofs.Fresh
 use Rattle.checker.proofs.Lists
 use Rattle.checker.proofs.Final
 use Rattle.checker.proofs.Sums
@@ -104,6 +105,13 @@ module _ {frames : List ℕ} {w : ℕ} {win : List ℤ} (o : Unrefused frames w 
       × (settled (givenIn (machineAfter frames w cs .lists) (machineAfter frames w cs .next)) (treeOf frames) ≡ false))
   waiting-exactly = Exactly.waiting-exactly o cs
 
+  -- document 02, point 2, "No verdict before the first piece": where one call more hands out a verdict, a reference of its instance is
+  -- present by the machine's lists
+  pub verdict-present : (buffer : List ℕ) (v : Verdict)
+      → pullDef (checkerAfter frames w win cs .state) (checkerAfter frames w win cs .words) buffer .answer ≡ verdict v
+      → someOf isPresent (givenIn (machineAfter frames w cs .lists) (machineAfter frames w cs .next) .found) (references (treeOf frames)) ≡ true
+  verdict-present = Exactly.verdict-present o cs
+
   -- accepted exactly where the event is referenced, has fewer than 1,000,000 lines and has not reached base plus W
   pub accepted-exactly : (line : List ℕ) (e : ℕ) (a b c d : ℤ) → lineOf line ≡ log.line e a b c d
       → (feedDef (checkerAfter frames w win cs .state) (checkerAfter frames w win cs .words) line .answer ≡ accepted)
@@ -124,6 +132,20 @@ module _ {frames : List ℕ} {w : ℕ} {win : List ℤ} (o : Unrefused frames w 
   pub window-holds : (e k n : ℕ) → e < 8 → base (references (treeOf frames)) e (machineAfter frames w cs .next) ≤ k → k < length (machineAfter frames w cs .lists e) → n < 4
       → getD (checkerAfter frames w win cs .words) (wordAt w e k n) (pos 0) ≡ getD (getD (machineAfter frames w cs .lists e) k []) n (pos 0)
   window-holds = Exactly.window-holds o cs
+
+-- ---- document 02, point 2: where verdicts begin, of every unrefused opening, whatever W
+module _ {frames : List ℕ} {w : ℕ} {win : List ℤ} (o : Unrefused frames w win) where
+  -- "the first i with a reference that isn't void", both ways
+  pub first-exactly : (n : ℕ) → (firstFor frames ≡ n) ↔ FirstInstance (references (treeOf frames)) n
+  first-exactly = Fresh.first-exactly o
+
+  -- from there on, and at none before, some reference isn't void
+  pub first-on : (i : ℕ) → SomeNotVoid (references (treeOf frames)) i ↔ (firstFor frames ≤ i)
+  first-on = Fresh.first-on o
+
+  -- at most 9,999
+  pub first-most : firstFor frames ≤ offsetLimit
+  first-most = Fresh.first-most o
 
 -- ---- from a rule's text to its verdicts: for every text that `read` accepts, the tree that spells it, every W and unrefused opening
 -- with the frames that were filled, and every list of calls: each verdict handed out is that of the value, at its instance over the

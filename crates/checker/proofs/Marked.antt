@@ -1,5 +1,5 @@
--- All thirteen marked examples (M) of document 01 in one table, computed: what reading gives, and the answers of opening, of the
--- plain machine and of the checker's definitions. Assumes nothing.
+-- All thirteen marked examples (M) of document 01 in one table, M8 as point 2 of document 02 has it, computed: what reading gives, and
+-- the answers of opening, of the plain machine and of the checker's definitions. Assumes nothing.
 use mathlib.Core.Path.{_≡_, refl}
 use mathlib.Core.Bool.{cond}
 use mathlib.Core.List.{List, [], _∷_, _++_, map}
@@ -186,15 +186,15 @@ table =
       calls = replicate 10 (line 0 0) ++ (replicate 4 (line 0 200) ++ (replicate 4 next ++ (next ∷ [])));
       answers = replicate 14 accepted ++ (replicate 4 (verdict True) ++ (waiting ∷ []));
     }
-    -- M8
+    -- M8, by document 02, point 2: "M8 becomes: waiting"
     ∷ record {
       text = twoBeforeText;
       reading = reading.frames 3;
       rule = twoBefore;
       width = 4;
       opening = opened;
-      calls = next ∷ next ∷ next ∷ [];
-      answers = verdict Unknown ∷ verdict Unknown ∷ waiting ∷ [];
+      calls = next ∷ [];
+      answers = waiting ∷ [];
     }
     -- M9
     ∷ record {

@@ -3,7 +3,7 @@ use mathlib.Core.Path.{_≡_, sym, _∙_}
 use mathlib.Core.Bool.{Bool, true, false, _&&_, cond}
 use mathlib.Core.List.{List, [], _∷_}
 use mathlib.Core.Logic.{⊎-elim, _≢_}
-use Prim.Native.Nat.{ℕ, zero, suc, _+_, _<_, _≤_}
+use Prim.Native.Nat.{ℕ, zero, suc, _+_, _-_, _<_, _≤_}
 use native.Mathlib.Omega.{arith}
 use borrow.Author.Tests.{leb-true, eqb-true, le-leb, eq-eqb}
 use lib.Dec.{leb, eqb}
@@ -15,9 +15,9 @@ use Rattle.rule.specs.Tree.{Reference}
 use Rattle.verdict.specs.Found.{instanceLimit}
 use Rattle.verdict.specs.declared.Verdict.{Verdict}
 use Rattle.checker.specs.Limits.{lineLimit}
-use Rattle.checker.specs.Base.{referenced, base}
+use Rattle.checker.specs.Base.{referenced, base, firstInstance}
 use Rattle.checker.specs.State.{counted, sumOf, Tally, countOf, withLine, withVerdict}
-use Rattle.checker.specs.StateTest.{allTo, countPasses, tallyPasses}
+use Rattle.checker.specs.StateTest.{allTo, countPasses, totalsPass, tallyPasses}
 use Rattle.checker.specs.declared.Totals.{Totals}
 use Rattle.checker.proofs.Choices.{cond-case, less-or, same-or, allTo-true}
 use Rattle.checker.proofs.Bases.{base-mono}
@@ -31,7 +31,8 @@ pub record Counts (refs : List Reference) (w : ℕ) (t : Tally) (e : ℕ) : Type
 pub record Sound (refs : List Reference) (w : ℕ) (t : Tally) : Type 0 where
   pub counts : (e : ℕ) → e < 8 → Counts refs w t e
   pub low : t .next ≤ instanceLimit
-  pub sum : sumOf (t .totals) ≡ t .next
+  pub begun : firstInstance refs ≤ t .next
+  pub sum : sumOf (t .totals) ≡ t .next - firstInstance refs
 
 all-at : (n : ℕ) (f : ℕ → Bool) → allTo n f ≡ true → (e : ℕ) → e < n → f e ≡ true
 unfolding allTo
@@ -39,6 +40,11 @@ all-at zero f h e l = absurd (omega arith)
 all-at (suc n) f h e l =
     let a = and-true (f n) (allTo n f) h in
     ⊎-elim (λ (q : e < n). all-at n f (a .1) e q) (λ (q : n ≤ e). let p : e ≡ n = omega arith in rw p (a .0)) (less-or e n)
+
+pub totals-facts : (first p : ℕ) (t : Totals) → totalsPass first p t ≡ true → (first ≤ p) × (sumOf t ≡ p - first)
+totals-facts first p t e =
+    let a = and-true (leb first p) (eqb (sumOf t) (p - first)) e in
+    (leb-true first p (a .0), eqb-true (sumOf t) (p - first) (a .1))
 
 module _ (refs : List Reference) (w : ℕ) (t : Tally) where
   count-facts : (e : ℕ) → countPasses refs w t e ≡ true → Counts refs w t e
@@ -62,19 +68,23 @@ module _ (refs : List Reference) (w : ℕ) (t : Tally) where
   pub tally-facts : tallyPasses refs w t ≡ true → Sound refs w t
   unfolding tallyPasses
   tally-facts h =
-      let a = and-true (allTo eventLimit (countPasses refs w t)) (leb (t .next) instanceLimit && eqb (sumOf (t .totals)) (t .next)) h in
-      let b = and-true (leb (t .next) instanceLimit) (eqb (sumOf (t .totals)) (t .next)) (a .1) in
+      let first = firstInstance refs in
+      let a = and-true (allTo eventLimit (countPasses refs w t)) (leb (t .next) instanceLimit && totalsPass first (t .next) (t .totals)) h in
+      let b = and-true (leb (t .next) instanceLimit) (totalsPass first (t .next) (t .totals)) (a .1) in
+      let c = totals-facts first (t .next) (t .totals) (b .1) in
       record {
         counts = λ e l. count-facts e (all-at 8 (countPasses refs w t) (a .0) e l);
         low = leb-true (t .next) instanceLimit (b .0);
-        sum = eqb-true (sumOf (t .totals)) (t .next) (b .1);
+        begun = c .0;
+        sum = c .1;
       }
 
   pub tally-good : Sound refs w t → tallyPasses refs w t ≡ true
   unfolding tallyPasses
   tally-good x =
       true-and _ _ (allTo-true 8 (countPasses refs w t) (λ e l. count-good e (x .counts e l)))
-      (true-and _ _ (le-leb (t .next) instanceLimit (x .low)) (eq-eqb (sumOf (t .totals)) (t .next) (x .sum)))
+      (true-and _ _ (le-leb (t .next) instanceLimit (x .low))
+      (true-and _ _ (le-leb (firstInstance refs) (t .next) (x .begun)) (eq-eqb (sumOf (t .totals)) (t .next - firstInstance refs) (x .sum))))
 
 -- ---- a line is taken
 set-most : (xs : List ℕ) (e v : ℕ) → getD (set xs e v) e 0 ≤ v
@@ -98,7 +108,7 @@ module _ (refs : List Reference) (w : ℕ) (t : Tally) (x : Sound refs w t) wher
           record { few = rw m (c .few); room = λ z. rw m (c .room z); none = λ z. m ∙ c .none z }
 
   pub sound-line : (e : ℕ) → referenced refs e ≡ true → countOf t e < lineLimit → countOf t e < base refs e (t .next) + w → Sound refs w (withLine t e)
-  sound-line e r h₁ h₂ = record { counts = λ f l. count-line e f l r h₁ h₂; low = x .low; sum = x .sum }
+  sound-line e r h₁ h₂ = record { counts = λ f l. count-line e f l r h₁ h₂; low = x .low; begun = x .begun; sum = x .sum }
 
 -- ---- a verdict is given
 pub sum-counted : (t : Totals) (v : Verdict) → sumOf (counted t v) ≡ sumOf t + 1
@@ -115,5 +125,6 @@ sound-verdict refs w t v x l =
         none = c .none;
       };
       low = omega arith;
-      sum = sum-counted (t .totals) v ∙ omega (arith, x .sum);
+      begun = omega (arith, x .begun);
+      sum = sum-counted (t .totals) v ∙ omega (arith, x .begun, x .sum);
     }

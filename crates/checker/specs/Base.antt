@@ -1,12 +1,12 @@
--- Which events a rule references, and an event's base. From document 01, "Feeding, pulling and the window".
--- Assumes nothing: definitions.
+-- Which events a rule references, an event's base, and where verdicts begin. From document 01, "Feeding, pulling and the window", and
+-- document 02, point 2. Assumes nothing: definitions.
 use mathlib.Core.Path.{_≡_}
 use mathlib.Core.Bool.{Bool, true, false, cond}
 use mathlib.Core.List.{List, [], _∷_, map, List·Memᴰ}
-use mathlib.Core.Logic.{_⊎_}
-use Prim.Native.Nat.{ℕ, min, _≤_}
+use mathlib.Core.Logic.{_⊎_, _≢_}
+use Prim.Native.Nat.{ℕ, suc, _+_, _-_, _/_, min, _≤_}
 use lib.Dec.{eqb}
-use lib.IntN.{ℤ}
+use lib.IntN.{ℤ, pos, negsuc}
 use lib.Signed.{_≤ℤ_}
 use Rattle.rule.specs.Tree.{Reference, references}
 use Rattle.rule.specs.Build.{treeOf}
@@ -79,10 +79,38 @@ pub record SmallestStart (refs : List Reference) (e p b : ℕ) : Type 0 where
   pub at-most : (r : Reference) → ReferenceTo refs e r → b ≤ startAt p r
 
 -- ---- where verdicts begin
--- "the number p of verdicts pulled .. 0 at first": verdicts are pulled from instance 0 on, whatever a rule's references are
+-- n / d rounded up
+abbrev pub roundedUp : ℕ → ℕ → ℕ
+roundedUp n d = (n + (d - 1)) / d
+
+-- "the first i" at which factor × i + offset is not below 0: 0 for an offset of 0 or more, else −offset / factor rounded up
+abbrev pub firstBy : ℕ → ℤ → ℕ
+firstBy factor (pos k) = 0
+firstBy factor (negsuc k) = roundedUp (suc k) factor
+
+-- "the first i" at which this reference "isn't void"
+abbrev pub firstOf : Reference → ℕ
+firstOf r = firstBy (r .factor) (r .offset)
+
+-- "Verdicts begin at the first i with a reference that isn't void, and p starts there": the smallest over the rule's references
 unfoldable pub firstInstance : List Reference → ℕ
-firstInstance refs = 0
+firstInstance refs = smallest (map firstOf refs)
 
 -- so of "the rule .. that opening was given", as frames
 abbrev pub firstFor : List ℕ → ℕ
 firstFor frames = firstInstance (references (treeOf frames))
+
+-- ---- where verdicts begin once more, as propositions
+-- not "An instance whose references are all void": one of them isn't at instance i
+pub record SomeNotVoid (refs : List Reference) (i : ℕ) : Type 0 where
+  pub reference : Reference
+  -- the rule has it
+  pub one : List·Memᴰ reference refs
+  pub not-void : meant i reference ≢ Void
+
+-- "the first i with a reference that isn't void": n
+pub record FirstInstance (refs : List Reference) (n : ℕ) : Type 0 where
+  -- it is one
+  pub some : SomeNotVoid refs n
+  -- "the first": none is less
+  pub least : (i : ℕ) → SomeNotVoid refs i → n ≤ i

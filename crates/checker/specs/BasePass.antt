@@ -1,11 +1,12 @@
--- The bases of all events in one pass over the references. No public contract cites it. Assumes nothing: definitions.
+-- The bases of all events and the first instance, in one pass over the references. No public contract cites it. Assumes nothing:
+-- definitions.
 use mathlib.Core.Path.{_≡_}
 use mathlib.Core.Bool.{Bool, _&&_, cond}
 use mathlib.Core.List.{List}
 use Prim.Native.Nat.{ℕ, _+_, _*_, _≤_, min}
 use lib.Dec.{leb, eqb}
 use lib.ListN.{getD, set, take, replicate}
-use Rattle.rule.specs.Limits.{eventLimit, frameLimit, frameBytes}
+use Rattle.rule.specs.Limits.{eventLimit, offsetLimit, frameLimit, frameBytes}
 use Rattle.rule.specs.Tree.{Reference, LimitsR}
 use Rattle.rule.specs.Frames.{frameCount}
 use Rattle.rule.specs.References.{referenceByte, referenceOf, referencesTo}
@@ -14,10 +15,9 @@ use Rattle.rule.specs.declared.Frame.{Frame}
 use Rattle.rule.specs.CheckTold as checking
 use Rattle.verdict.specs.Found.{instanceLimit}
 use Rattle.checker.specs.Limits.{lineLimit}
-use Rattle.checker.specs.Base.{startAt}
-use Rattle.checker.specs.State.{sumOf}
+use Rattle.checker.specs.Base.{startAt, firstOf, firstFor}
 use Rattle.checker.specs.Open.{widthFits}
-use Rattle.checker.specs.StateTest.{isAccepted, allTo}
+use Rattle.checker.specs.StateTest.{isAccepted, allTo, totalsPass}
 use Rattle.checker.specs.declared.Totals.{Totals}
 
 -- in the place of a base, of "an unreferenced event"; no base is as large
@@ -40,6 +40,18 @@ basesTo s p k = referencesTo (lowered p) s (replicate eventLimit noBase) k
 unfoldable pub basesOf : List ℕ → ℕ → List ℕ
 basesOf s p = basesTo s p (frameCount s)
 
+-- "the first i with a reference that isn't void": with one reference more
+abbrev pub earlier : Reference → ℕ → ℕ
+earlier r first = min first (firstOf r)
+
+-- with one frame more
+abbrev pub firstWith : Frame → ℕ → ℕ
+firstWith x first = cond (eqb (x .kind) referenceByte) (earlier (referenceOf x) first) first
+
+-- after the first k frames; no reference's is later than the offset's limit
+abbrev pub firstTo : List ℕ → ℕ → ℕ
+firstTo s k = referencesTo earlier s offsetLimit k
+
 -- what a frame's step requires: "The factor of i is 1 to 9 .., the offset −9,999 to 9,999", and not "p over 1,009,999"
 pub record Startable (p : ℕ) (x : Frame) : Type 0 where
   pub instance-in : p ≤ instanceLimit
@@ -58,8 +70,8 @@ countFits w low c = leb c lineLimit && cond (eqb low noBase) (eqb c 0) (leb c (l
 abbrev pub ruleFits : List ℕ → ℕ → ℕ → Bool
 ruleFits frames n w = (leb n frameLimit && isAccepted (checkedOf (take (n * frameBytes) frames))) && widthFits w
 
--- 12 of the others, by the pass: nor "a count over 1,000,000, p over 1,009,999, totals not summing to p"
+-- 12 of the others, by the pass: nor "a count over 1,000,000, p over 1,009,999", and "the new sum"
 unfoldable pub tallyFits : List ℕ → ℕ → List ℕ → ℕ → Totals → Bool
 tallyFits s w counts p totals =
     leb p instanceLimit
-    && (allTo eventLimit (λ e. countFits w (getD (basesOf s p) e 0) (getD counts e 0)) && eqb (sumOf totals) p)
+    && (allTo eventLimit (λ e. countFits w (getD (basesOf s p) e 0) (getD counts e 0)) && totalsPass (firstFor s) p totals)

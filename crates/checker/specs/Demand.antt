@@ -103,7 +103,7 @@ pub record ThirdDemand (frames : List ℕ) (w : ℕ) (win : List ℤ) (cs : List
   pub final : map settling.verdict (handedOut frames w win cs)
       ≡ instancesFrom (firstFor frames) (length (handedOut frames w win cs))
       (λ (i : ℕ). judgement (givenIn (machineAfter frames w cs .lists) i) (treeOf frames))
-  -- "the totals true, false, unknown, which sum to p"
+  -- document 02, point 2: "The totals sum to p less that start"
   pub totals : (checkerAfter frames w win cs .state .next .0 ≡ firstFor frames + length (handedOut frames w win cs))
       × (checkerAfter frames w win cs .state .totals ≡ totalsOf (handedOut frames w win cs))
   -- "So 12 and 13 never come in such a list"

@@ -87,6 +87,6 @@ module _ (rule : Cond) (w : ℕ) where
 abbrev pub machineFor : List ℕ → ℕ → Machine → Call → Step Machine
 machineFor frames w = machine (treeOf frames) w
 
--- "empty at first .. 0 at first", the rule as frames
+-- "empty at first .. 0 at first", and document 02, point 2: "the plain machine's p begin there too"; the rule as frames
 abbrev pub atFirst : List ℕ → Machine
 atFirst frames = record { lists = λ e. []; next = firstFor frames; totals = noTotals }

@@ -10,9 +10,9 @@ use Rattle.checker.specs.State.{sumOf}
 use Rattle.checker.specs.Sights.{Lookable}
 use Rattle.checker.specs.declared.Totals.{Totals}
 
--- of totals and p: "the totals true, false, unknown, which sum to p"
+-- of totals and p: "The totals sum to p less that start", so at most to p
 pub record Countable (t : Totals) (p : ℕ) : Type 0 where
-  pub sum : sumOf t ≡ p
+  pub sum : sumOf t ≤ p
   pub low : p ≤ instanceLimit
 
 -- of frames, an instance, W, the window's length and the buffer's: what 12, 13 and 14 let through

@@ -24,7 +24,7 @@ counted t True = record { held = t .held + 1; failed = t .failed; unknown = t .u
 counted t False = record { held = t .held; failed = t .failed + 1; unknown = t .unknown }
 counted t Unknown = record { held = t .held; failed = t .failed; unknown = t .unknown + 1 }
 
--- the sum in "totals not summing to p"
+-- the sum in "The totals sum to p less that start"
 abbrev pub sumOf : Totals → ℕ
 sumOf t = t .held + t .failed + t .unknown
 
@@ -75,7 +75,7 @@ withTally s t = stateWith (s .frames) (s .len) (s .width) t
 abbrev pub zeroState : State
 zeroState = stateWith (replicate (frameLimit * frameBytes) 0) 0 0 (tallyFrom 0)
 
--- "the state .. that an unrefused opening gave back", zero after the last frame
+-- "the state .. that an unrefused opening gave back", zero after the last frame; document 02, point 2: "p starts there"
 unfoldable pub freshState : List ℕ → ℕ → State
 freshState frames w =
     stateWith (frames ++ replicate (frameLimit * frameBytes - length frames) 0) (length frames / frameBytes) w

@@ -1,8 +1,8 @@
--- The states that 12 lets through. From document 01, "What is turned down", 12. Assumes nothing: definitions.
+-- The states that 12 lets through. From document 01, "What is turned down", 12, and document 02, point 2. Assumes nothing: definitions.
 use mathlib.Core.Path.{_≡_}
 use mathlib.Core.Bool.{Bool, true, false, _&&_, cond}
 use mathlib.Core.List.{List}
-use Prim.Native.Nat.{ℕ, zero, suc, _+_, _≤_, _<_}
+use Prim.Native.Nat.{ℕ, zero, suc, _+_, _-_, _≤_, _<_}
 use lib.Dec.{leb, eqb}
 use lib.IntN.{ℤ}
 use lib.ListN.{length}
@@ -14,9 +14,10 @@ use Rattle.rule.specs.CheckTold as checking
 use Rattle.verdict.specs.Found.{instanceLimit}
 use Rattle.checker.specs.Limits.{windowWords, lineLimit}
 use Rattle.checker.specs.Answer.{opened}
-use Rattle.checker.specs.Base.{referenced, base, Referenced}
+use Rattle.checker.specs.Base.{referenced, base, Referenced, firstInstance}
 use Rattle.checker.specs.State.{sumOf, Tally, countOf, tallyIn, stateFrames, refsIn}
 use Rattle.checker.specs.Open.{widthFits, openDef}
+use Rattle.checker.specs.declared.Totals.{Totals}
 use Rattle.checker.specs.declared.State.{State}
 
 -- not "frames .. opening would refuse"
@@ -38,10 +39,14 @@ unfoldable pub allTo : ℕ → (ℕ → Bool) → Bool
 allTo zero f = true
 allTo (suc n) f = f n && allTo n f
 
--- nor "p over 1,009,999, totals not summing to p"
+-- "12 tests the new sum and refuses a p below the start": not such a p, and "The totals sum to p less that start"
+abbrev pub totalsPass : ℕ → ℕ → Totals → Bool
+totalsPass first p totals = leb first p && eqb (sumOf totals) (p - first)
+
+-- nor "p over 1,009,999"
 unfoldable pub tallyPasses : List Reference → ℕ → Tally → Bool
 tallyPasses refs w t =
-    allTo eventLimit (countPasses refs w t) && (leb (t .next) instanceLimit && eqb (sumOf (t .totals)) (t .next))
+    allTo eventLimit (countPasses refs w t) && (leb (t .next) instanceLimit && totalsPass (firstInstance refs) (t .next) (t .totals))
 
 -- what 12 lets through: none of "Feeding, pulling: a state whose frames or W opening would refuse .. or a count above base plus W"
 unfoldable pub statePasses : State → Bool
@@ -59,8 +64,10 @@ pub record Passing (s : State) : Type 0 where
   pub few-lines : (e : ℕ) → e < eventLimit → countOf (tallyIn s) e ≤ lineLimit
   -- not "p over 1,009,999"
   pub few-verdicts : s .next .0 ≤ instanceLimit
-  -- not "totals not summing to p"
-  pub sum : sumOf (s .totals) ≡ s .next .0
+  -- not "a p below the start"
+  pub begun : firstInstance (refsIn s) ≤ s .next .0
+  -- "The totals sum to p less that start"
+  pub sum : sumOf (s .totals) ≡ s .next .0 - firstInstance (refsIn s)
   -- not "a nonzero count of an unreferenced event"
   pub none : (e : ℕ) → e < eventLimit → (Referenced (refsIn s) e → ⊥) → countOf (tallyIn s) e ≡ 0
   -- not "a count above base plus W"

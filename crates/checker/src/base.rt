@@ -1,7 +1,8 @@
-// The base of each event, in one pass over the frames. Base is the document's term.
+// The base of each event and the first instance, in one pass over the frames. Base is the document's term.
 use rule::FRAME_BYTES;
 use rule::Frame;
 use rule::kinds;
+use rule::limits;
 use verdict::Instance;
 use verdict::Meant;
 ghost use mathlib.Core.Path.{_≡_};
@@ -9,9 +10,11 @@ ghost use Prim.Native.Nat.{_≤_, _<_, min};
 ghost use lib.IntN.{natAbs};
 ghost use lib.ListN.{length};
 ghost use Rattle.rule.specs.Limits.{eventLimit, factorLimit, offsetLimit};
+ghost use Rattle.rule.specs.Tree.{LimitsR};
+ghost use Rattle.rule.specs.References.{referenceByte, referenceOf};
 ghost use Rattle.verdict.specs.Found.{instanceLimit, occurrence, meantBy};
-ghost use Rattle.checker.specs.Base.{orZero};
-ghost use Rattle.checker.specs.BasePass.{basesWith, basesOf, Startable, Passable};
+ghost use Rattle.checker.specs.Base.{orZero, firstBy, firstFor};
+ghost use Rattle.checker.specs.BasePass.{basesWith, basesOf, firstWith, Startable, Passable};
 
 // In the place of a base, of an event with no reference; no base is as large.
 pub const NO_BASE: u32 = 4294967295;
@@ -41,18 +44,53 @@ fn lower_by(bases: &mut [u32; 8], x: Frame, p: Instance)
     }
 }
 
-// The base of each event at instance p, by the references of accepted frames.
-pub fn bases(frames: &[u8], p: Instance) -> [u32; 8]
+// The first instance at which factor × i + offset is not below 0.
+fn first_by(factor: u8, offset: i32) -> Instance
+    requires { ⌜ (1 ≤ factor) × (natAbs offset ≤ offsetLimit) ⌝ }
+    ensures { λ r. ⌜ r .0 ≡ firstBy factor offset ⌝ }
+{
+    if offset < 0 {
+        let short = (0 - offset) as u32;
+        let divisor = factor as u32;
+        Instance((short + (divisor - 1)) / divisor)
+    } else {
+        Instance(0)
+    }
+}
+
+// The earlier of an instance and the first at which a frame's reference is not void.
+fn earlier(first: Instance, x: Frame) -> Instance
+    requires { ⌜ (x .kind ≡ referenceByte → LimitsR (referenceOf x)) ⌝ }
+    ensures { λ r. ⌜ r .0 ≡ firstWith x (first .0) ⌝ }
+{
+    if x.kind == kinds::REFERENCE_BYTE {
+        let own = first_by(x.factor, x.value);
+        if own.0 < first.0 { own } else { first }
+    } else {
+        first
+    }
+}
+
+// The base of each event at an instance, and the first instance.
+pub struct Starts {
+    pub bases: [u32; 8],
+    pub first: Instance,
+}
+
+// Both, by the references of accepted frames, with the bases at instance p.
+pub fn starts_at(frames: &[u8], p: Instance) -> Starts
     requires { ⌜ Passable (now frames) (p .0) ⌝ }
-    ensures { λ r. ⌜ r ≡ basesOf (now (frames .entry)) (p .0) ⌝ }
+    ensures { λ r. ⌜ (r .bases ≡ basesOf (now (frames .entry)) (p .0)) × (r .first .0 ≡ firstFor (now (frames .entry))) ⌝ }
 {
     let n = frames.len() / FRAME_BYTES;
-    let mut out = [NO_BASE; 8];
+    let mut bases = [NO_BASE; 8];
+    let mut first = Instance(limits::OFFSET_NUMBER_LIMIT);
     let mut k = 0;
     while k < n {
         let x = rule::frame_at(frames, k);
-        lower_by(&mut out, x, p);
+        lower_by(&mut bases, x, p);
+        first = earlier(first, x);
         k += 1;
     }
-    out
+    Starts { bases, first }
 }

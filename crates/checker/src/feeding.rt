@@ -120,7 +120,8 @@ pub fn feed_admitted(frames: &[u8], fields: Fields, window: &mut [i32], line: &[
 {
     let n = fields.len as usize * FRAME_BYTES;
     let p = fields.next;
-    let bases = base::bases(&frames[..n], p);
+    let starts = base::starts_at(&frames[..n], p);
+    let bases = starts.bases;
     feed_with(frames, fields, bases, window, line)
 }
 

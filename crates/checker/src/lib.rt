@@ -1,6 +1,6 @@
 // Opening, feeding and pulling over a state by value and a lent window; the view of a report; the charge for rework.
 mod admission; // admission.rt: 12 and 13, before a line or a pull
-mod base; // base.rt: the base of each event
+mod base; // base.rt: the base of each event, and the first instance
 mod charging; // charging.rt: 28, 29, 12, the charge for rework
 mod feeding; // feeding.rt: 12, 13, 15, ignored, 16, 17
 mod found; // found.rt: marks and notes of references

@@ -2,6 +2,7 @@
 use crate::OpenAnswer;
 use crate::Opened;
 use crate::State;
+use crate::base;
 use crate::limits;
 use crate::parts;
 use rule::Checked;
@@ -15,13 +16,12 @@ ghost use lib.Dec.{eqb};
 ghost use lib.IntN.{pos};
 ghost use lib.ListN.{length, replicate};
 ghost use Rattle.rule.specs.Limits.{frameLimit, frameBytes};
+ghost use Rattle.rule.specs.Check.{checkedOf};
+ghost use Rattle.rule.specs.CheckTold as checking;
 ghost use Rattle.rule.specs.declared.Refusal.{Refusal};
 ghost use Rattle.checker.specs.Limits.{windowWords};
 ghost use Rattle.checker.specs.State.{zeroState, freshState};
 ghost use Rattle.checker.specs.Open.{widthFits, openDef, openOutcome};
-
-// The number of the first instance.
-const FIRST_INSTANCE: u32 = 0;
 
 // Whether W is 1 to 256.
 pub fn width_fits(width: u32) -> bool
@@ -65,12 +65,13 @@ fn copied(frames: &[u8]) -> [u8; 512]
 
 // The state that an unrefused opening gives back.
 fn fresh(frames: &[u8], width: u32) -> State
-    requires { ⌜ length (now frames) ≤ frameLimit * frameBytes ⌝ }
+    requires { ⌜ checkedOf (now frames) ≡ checking.accepted ⌝ }
     ensures { λ r. ⌜ r ≡ freshState (now (frames .entry)) width ⌝ }
 {
     let n = (frames.len() / FRAME_BYTES) as u32;
     let bytes = copied(frames);
-    parts::first(bytes, n, width, Instance(FIRST_INSTANCE))
+    let starts = base::starts_at(frames, Instance(0));
+    parts::first(bytes, n, width, starts.first)
 }
 
 // The state that is zero throughout.

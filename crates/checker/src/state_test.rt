@@ -10,15 +10,14 @@ use verdict::Instance;
 ghost use mathlib.Core.Path.{_≡_};
 ghost use mathlib.Core.Bool.{true, false};
 ghost use Prim.Native.Nat.{_*_, _≤_};
-ghost use lib.Dec.{eqb};
 ghost use lib.ListN.{length, getD, take};
 ghost use Rattle.rule.specs.Limits.{eventLimit, frameLimit, frameBytes};
 ghost use Rattle.rule.specs.Check.{checkedOf};
 ghost use Rattle.rule.specs.CheckTold.{checkTold};
 ghost use Rattle.rule.specs.CheckTold as checking;
-ghost use Rattle.checker.specs.State.{sumOf, stateFrames};
+ghost use Rattle.checker.specs.State.{stateFrames};
 ghost use Rattle.checker.specs.Parts.{stateOf};
-ghost use Rattle.checker.specs.StateTest.{isAccepted, allTo, statePasses};
+ghost use Rattle.checker.specs.StateTest.{isAccepted, allTo, totalsPass, statePasses};
 ghost use Rattle.checker.specs.BasePass.{basesOf, countFits, ruleFits, tallyFits};
 
 // What 12 says of a state; where it fits, bases are the bases of the events.
@@ -76,11 +75,12 @@ fn counts_fit(width: u32, bases: [u32; 8], counts: [u32; 8]) -> bool
     true
 }
 
-// Whether the totals sum to p.
-fn totals_fit(totals: Totals, p: Instance) -> bool
-    ensures { λ r. ⌜ r ≡ eqb (sumOf totals) (p .0) ⌝ }
+// Whether p is not below the first instance and the totals sum to p less it.
+fn totals_fit(first: Instance, p: Instance, totals: Totals) -> bool
+    ensures { λ r. ⌜ r ≡ totalsPass (first .0) (p .0) totals ⌝ }
 {
-    totals.held as u64 + totals.failed as u64 + totals.unknown as u64 == p.0 as u64
+    let sum = totals.held as u64 + totals.failed as u64 + totals.unknown as u64;
+    first.0 as u64 + sum == p.0 as u64
 }
 
 // What is said of a state that 12 turns down.
@@ -103,11 +103,13 @@ fn tally_fits(frames: &[u8], s: Fields) -> Tested
     let p = s.next;
     if p.0 <= limits::INSTANCE_LIMIT {
         let n = s.len as usize * FRAME_BYTES;
-        let bases = base::bases(&frames[..n], p);
+        let starts = base::starts_at(&frames[..n], p);
+        let bases = starts.bases;
+        let first = starts.first;
         let counts = s.counts;
         let totals = s.totals;
         Tested {
-            fits: counts_fit(s.width, bases, counts) & totals_fit(totals, p),
+            fits: counts_fit(s.width, bases, counts) & totals_fit(first, p, totals),
             bases,
         }
     } else {

@@ -64,18 +64,9 @@ m6 = refl
 m7 : over (lines (before 14) []) 4 after003 ≡ Unsettled
 m7 = refl
 
--- t(a[i-2]) > 0
-abbrev twoBefore : Cond
-twoBefore = relation more (t 0 (negsuc 1)) (literal 0)
-
-m8-0 : over (lines [] []) 0 twoBefore ≡ Unknown
-m8-0 = refl
-
-m8-1 : over (lines [] []) 1 twoBefore ≡ Unknown
-m8-1 = refl
-
-m8-2 : over (lines [] []) 2 twoBefore ≡ Unsettled
-m8-2 = refl
+-- t(a[i-2]) > 0, whose first instance is 2 (document 02, point 2)
+m8 : over (lines [] []) 2 (relation more (t 0 (negsuc 1)) (literal 0)) ≡ Unsettled
+m8 = refl
 
 -- t(a[i]) > 0 || 0 = 0
 m9 : over (lines [] []) 0 (connective or (relation more (t 0 (pos 0)) (literal 0)) (relation equal (literal 0) (literal 0))) ≡ Unsettled

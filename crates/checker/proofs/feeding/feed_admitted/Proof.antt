@@ -10,21 +10,22 @@ use Rattle.checker.proofs.feeding.feed_admitted.Tie as tie
 mul-n : tie.Need-mul-n
 mul-n c = omega (arith, ready-facts (c .before .before .before .pre) .few)
 
-slice-aggregate-bases : tie.Need-slice-aggregate-bases
-slice-aggregate-bases c =
+slice-aggregate-starts-at : tie.Need-slice-aggregate-starts-at
+slice-aggregate-starts-at c =
     let p = c .before .before .before .before .before .pre in
     sym (length-take-le _ _ (omega (arith, p .long, ready-facts p .few)))
 
-bases-requires : tie.Need-bases-requires
-bases-requires c κs =
+starts-at-requires : tie.Need-starts-at-requires
+starts-at-requires c κs =
     let entry = c .before .before .before .before .before in
     let f = ready-facts (entry .pre) in
     record { accepted = f .accepted; instance-in = f .totals .low }
 
 feed-with-requires : tie.Need-feed-with-requires
 feed-with-requires c κs =
-    let entry = c .before .before .before .before .before .before .before in
-    (entry .pre, c .before .bases .ensures)
+    let at-starts-at = c .before .before in
+    let entry = at-starts-at .before .before .before .before .before .before in
+    (entry .pre, at-starts-at .starts-at .ensures .0)
 
 returns : tie.Need-returns
 returns c = c .before .feed-with .ensures
@@ -35,8 +36,8 @@ feed-admitted-spec =
     (tie.spec
     (λ c. search needs)
     mul-n
-    slice-aggregate-bases
-    bases-requires
+    slice-aggregate-starts-at
+    starts-at-requires
     feed-with-requires
     (λ c. search needs)
     returns)

@@ -10,7 +10,6 @@ use Rattle.numbers.proofs.Bools.{and-true}
 use Rattle.rule.specs.Check.{checkedOf}
 use Rattle.rule.specs.CheckTold.{checkTold}
 use Rattle.rule.specs.CheckTold as checking
-use Rattle.rule.proofs.Laws.{passed}
 use Rattle.checker.specs.Limits.{windowWords}
 use Rattle.checker.specs.Open.{widthFits, openDef, openOutcome}
 use Rattle.checker.specs.declared.Opened.{Opened}
@@ -22,8 +21,7 @@ fresh-requires : tie.Need-fresh-requires
 fresh-requires c κs =
     let at-enum-told = c .before .before .before .before .before .before in
     let at-check = at-enum-told .before .before in
-    let entry = at-check .before .before in
-    passed (entry .args .frames .now) (sym (at-check .check .ensures) ∙ ap checkTold (at-enum-told .enum-told .given .1)) .whole .most
+    sym (at-check .check .ensures) ∙ ap checkTold (at-enum-told .enum-told .given .1)
 
 returns : tie.Need-returns
 unfolding openDef

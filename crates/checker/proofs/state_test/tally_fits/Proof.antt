@@ -11,13 +11,13 @@ use native.Mathlib.Omega.{arith}
 use Rattle.checker.proofs.state_test.tally_fits.Statement.{statement}
 use Rattle.checker.proofs.state_test.tally_fits.Tie as tie
 
-slice-aggregate-bases : tie.Need-slice-aggregate-bases
-slice-aggregate-bases c =
+slice-aggregate-starts-at : tie.Need-slice-aggregate-starts-at
+slice-aggregate-starts-at c =
     let entry = c .before .before .before .before .before .before in
     sym (length-take-le _ _ (omega (arith, entry .pre .0, entry .pre .1 .0)))
 
-bases-requires : tie.Need-bases-requires
-bases-requires c κs =
+starts-at-requires : tie.Need-starts-at-requires
+starts-at-requires c κs =
     let at-if1 = c .before .before in
     let entry = at-if1 .before .before .before .before in
     record { accepted = entry .pre .1 .1; instance-in = at-if1 .if1 .taken }
@@ -25,13 +25,15 @@ bases-requires c κs =
 returns : tie.Need-returns
 returns c =
     let at-counts-fit = c .before in
-    let at-bases = at-counts-fit .before .before .before in
-    let at-if1 = at-bases .before .before .before in
+    let at-starts-at = at-counts-fit .before .before .before .before .before in
+    let at-if1 = at-starts-at .before .before .before in
     let entry = at-if1 .before .before .before .before in
     let s = entry .args .s in
-    let fs : List ℕ = take (s .len * 8) (entry .args .frames .now) in (
-      tally-by fs (s .width) (s .counts) (s .next .0) (s .totals) (at-bases .bases .result) (at-counts-fit .counts-fit .result) (c .totals-fit .result) (at-if1 .if1 .taken) (at-bases .bases .ensures) (at-counts-fit .counts-fit .ensures) (c .totals-fit .ensures),
-      λ q. at-bases .bases .ensures,
+    let fs : List ℕ = take (s .len * 8) (entry .args .frames .now) in
+    let found = at-starts-at .starts-at .ensures in (
+      tally-by fs (s .width) (s .counts) (s .next .0) (s .totals) (at-starts-at .starts-at .result .bases) (at-starts-at .starts-at .result .first .0)
+          (at-counts-fit .counts-fit .result) (c .totals-fit .result) (at-if1 .if1 .taken) (found .0) (found .1) (at-counts-fit .counts-fit .ensures) (c .totals-fit .ensures),
+      λ q. found .0,
     )
 
 returns-2 : tie.Need-returns-2
@@ -42,4 +44,4 @@ returns-2 c =
     (c .unfit .ensures ∙ tally-no fs (s .width) (s .counts) (s .next .0) (s .totals) (c .before .if1 .left), λ q. absurd (true-false (sym q ∙ c .unfit .ensures)))
 
 pub tally-fits-spec : {M : Type 1} → statement M
-tally-fits-spec = tie.close (tie.spec (λ c. search needs) (λ c. search needs) slice-aggregate-bases bases-requires (λ c κs. search needs) (λ c κs. search needs) (λ c κs. search needs) returns returns-2)
+tally-fits-spec = tie.close (tie.spec (λ c. search needs) (λ c. search needs) slice-aggregate-starts-at starts-at-requires (λ c κs. search needs) (λ c κs. search needs) (λ c κs. search needs) returns returns-2)
