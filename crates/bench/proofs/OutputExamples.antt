@@ -5,7 +5,7 @@ use mathlib.Core.Bool.{true, false}
 use mathlib.Core.List.{List, [], _∷_, _++_}
 use Prim.Native.Nat.{ℕ, suc}
 use Prim.Native.String.{String}
-use lib.IntN.{ℤ, pos}
+use lib.IntN.{ℤ, pos, negsuc}
 use lib.ListN.{take, replicate}
 use Rattle.rule.specs.Limits.{bufferBytes}
 use Rattle.rule.specs.Class.{classOf, span}
@@ -145,7 +145,7 @@ record Feeds : Type 0 where
   fourth : fedLine after3 line4 ≡ fed4
 
 feeds : Feeds
-unfolding kindOf referenceCount orderOf sizesFit treeOf checkedOf digitValue digitsAtFront badPlace lineOf ofEvent referenced smallest base rulePasses countPasses allTo tallyPasses statePasses admission withTally stored kept feedEvent feedDef reportBytes pullRead pullDef hexOf pulledOnce fedLine
+unfolding kindOf referenceCount orderOf sizesFit treeOf checkedOf digitValue digitsAtFront badPlace lineOf ofEvent referenced smallest base firstInstance rulePasses countPasses allTo tallyPasses statePasses admission withTally stored kept feedEvent feedDef reportBytes pullRead pullDef hexOf pulledOnce fedLine
 feeds = record { first = refl; second = refl; third = refl; fourth = refl }
 
 record Rests : Type 0 where
@@ -156,7 +156,7 @@ record Rests : Type 0 where
   fourth : Waits after4
 
 rests : Rests
-unfolding kindOf referenceCount orderOf sizesFit treeOf checkedOf digitValue digitsAtFront badPlace lineOf ofEvent referenced smallest base rulePasses countPasses allTo tallyPasses statePasses admission withTally stored kept feedEvent feedDef reportBytes pullRead pullDef hexOf pulledOnce fedLine
+unfolding kindOf referenceCount orderOf sizesFit treeOf checkedOf digitValue digitsAtFront badPlace lineOf ofEvent referenced smallest base firstInstance rulePasses countPasses allTo tallyPasses statePasses admission withTally stored kept feedEvent feedDef reportBytes pullRead pullDef hexOf pulledOnce fedLine
 rests =
     record {
       at-first = record { none = refl; same = refl };
@@ -168,16 +168,16 @@ rests =
 
 -- instance 0 is false, with its report; instance 1 is true
 false-0 : Pulls fed2 after2
-unfolding kindOf referenceCount orderOf sizesFit treeOf checkedOf digitValue digitsAtFront badPlace lineOf ofEvent referenced smallest base rulePasses countPasses allTo tallyPasses statePasses admission withTally stored kept feedEvent feedDef reportBytes pullRead pullDef hexOf pulledOnce fedLine
+unfolding kindOf referenceCount orderOf sizesFit treeOf checkedOf digitValue digitsAtFront badPlace lineOf ofEvent referenced smallest base firstInstance rulePasses countPasses allTo tallyPasses statePasses admission withTally stored kept feedEvent feedDef reportBytes pullRead pullDef hexOf pulledOnce fedLine
 false-0 = record { some = refl; then = refl }
 
 true-1 : Pulls fed4 after4
-unfolding kindOf referenceCount orderOf sizesFit treeOf checkedOf digitValue digitsAtFront badPlace lineOf ofEvent referenced smallest base rulePasses countPasses allTo tallyPasses statePasses admission withTally stored kept feedEvent feedDef reportBytes pullRead pullDef hexOf pulledOnce fedLine
+unfolding kindOf referenceCount orderOf sizesFit treeOf checkedOf digitValue digitsAtFront badPlace lineOf ofEvent referenced smallest base firstInstance rulePasses countPasses allTo tallyPasses statePasses admission withTally stored kept feedEvent feedDef reportBytes pullRead pullDef hexOf pulledOnce fedLine
 true-1 = record { some = refl; then = refl }
 
 -- opening, and the whole run
 opens : beforeLog (openedFor framesOf5) ≡ start
-unfolding openDef freshState firstInstance checkedOf kindOf orderOf referenceCount sizesFit
+unfolding openDef freshState smallest firstInstance checkedOf kindOf orderOf referenceCount sizesFit treeOf
 opens = refl
 
 abbrev four : List (List ℕ)
@@ -215,47 +215,69 @@ pub without-last-LF : outputOf (bytes latencyText) (take 139 (lines logFour)) �
 unfolding linesOf
 without-last-LF = for-four (take 139 (lines logFour)) refl
 
--- ---- an empty log, and a rule whose first instance is false before any line: its reference is void
-abbrev atOnce : String
-atOnce = "events a; notes t; t(a[i-1]) > 0 && i > 0"
+-- ---- a rule that starts at 1 (document 02, point 2): no verdict of an empty log, and instance 1 false after one line
+abbrev oneBefore : String
+oneBefore = "events a; notes t; t(a[i-1]) > 0"
 
-abbrev framesOf7 : List ℕ
-framesOf7 =
-    0x03 ∷ 0 ∷ 0 ∷ 1 ∷ 255 ∷ 255 ∷ 255 ∷ 255 ∷ 0x01 ∷ 0 ∷ 0 ∷ 0 ∷ 0 ∷ 0 ∷ 0 ∷ 0 ∷ 0x25 ∷ 0 ∷ 0 ∷ 0 ∷ 0 ∷ 0 ∷ 0 ∷ 0
-    ∷ 0x02 ∷ 0 ∷ 0 ∷ 0 ∷ 0 ∷ 0 ∷ 0 ∷ 0 ∷ 0x01 ∷ 0 ∷ 0 ∷ 0 ∷ 0 ∷ 0 ∷ 0 ∷ 0 ∷ 0x25 ∷ 0 ∷ 0 ∷ 0 ∷ 0 ∷ 0 ∷ 0 ∷ 0
-    ∷ 0x32 ∷ 0 ∷ 0 ∷ 0 ∷ 0 ∷ 0 ∷ 0 ∷ 0 ∷ []
+abbrev framesOf3 : List ℕ
+framesOf3 =
+    0x03 ∷ 0 ∷ 0 ∷ 1 ∷ 255 ∷ 255 ∷ 255 ∷ 255 ∷ 0x01 ∷ 0 ∷ 0 ∷ 0 ∷ 0 ∷ 0 ∷ 0 ∷ 0 ∷ 0x25 ∷ 0 ∷ 0 ∷ 0 ∷ 0 ∷ 0 ∷ 0 ∷ 0 ∷ []
 
-abbrev filled7 : List ℕ
-filled7 = framesOf7 ++ replicate 456 0
+abbrev filled3 : List ℕ
+filled3 = framesOf3 ++ replicate 488 0
 
-read-at-once : readOf (bytes atOnce) (replicate bufferBytes 0) ≡ (reading.frames 7, filled7)
+read-before : readOf (bytes oneBefore) (replicate bufferBytes 0) ≡ (reading.frames 3, filled3)
 unfolding classOf span same wordKind longestMark markWidth tokenKind widthOf tokenHere tokenAt tokensIn tokensFrom code nameCode decimalFrom decimal numberValue startFactor step finish run deeper position negated put acts judged readOf kindOf referenceCount orderOf sizesFit checkedOf
-read-at-once = refl
+read-before = refl
 
-abbrev none7 : Progress
-none7 = come filled7 7 0 0 0 0 0 (replicate 2048 (pos 0)) [] 0
+abbrev minusOne : List ℤ
+minusOne = negsuc 0 ∷ replicate 2047 (pos 0)
 
-abbrev one7 : Progress
-one7 = come filled7 7 0 0 1 0 1 (replicate 2048 (pos 0)) (lines ("0000000000010200000000" ∷ [])) 0
+abbrev none3 : Progress
+none3 = come filled3 3 0 0 1 0 0 (replicate 2048 (pos 0)) [] 0
 
-opens-7 : beforeLog (openedFor framesOf7) ≡ none7
-unfolding openDef freshState firstInstance checkedOf kindOf orderOf referenceCount sizesFit
-opens-7 = refl
+abbrev fed3 : Progress
+fed3 = come filled3 3 1 0 1 0 0 minusOne [] 1
 
-false-at-once : Pulls none7 one7
-unfolding kindOf referenceCount orderOf sizesFit treeOf checkedOf ofEvent referenced smallest base rulePasses countPasses allTo tallyPasses statePasses admission withTally reportBytes pullRead pullDef hexOf pulledOnce
-false-at-once = record { some = refl; then = refl }
+abbrev one3 : Progress
+one3 = come filled3 3 1 0 2 0 1 minusOne (lines ("00000001000100FFFFFFFF" ∷ [])) 1
 
-then-waits : Waits one7
-unfolding kindOf referenceCount orderOf sizesFit treeOf checkedOf ofEvent referenced smallest base rulePasses countPasses allTo tallyPasses statePasses admission withTally reportBytes pullRead pullDef hexOf pulledOnce
-then-waits = record { none = refl; same = refl }
+opens-3 : beforeLog (openedFor framesOf3) ≡ none3
+unfolding openDef freshState smallest firstInstance checkedOf kindOf orderOf referenceCount sizesFit treeOf
+opens-3 = refl
 
-begun-7 : begun (openedFor framesOf7) ≡ one7
-begun-7 = rw (opens-7, one-verdict 1009999 false-at-once then-waits)
+none-waits : Waits none3
+unfolding kindOf referenceCount orderOf sizesFit treeOf checkedOf digitValue digitsAtFront badPlace lineOf ofEvent referenced smallest base firstInstance rulePasses countPasses allTo tallyPasses statePasses admission withTally stored kept feedEvent feedDef reportBytes pullRead pullDef hexOf pulledOnce fedLine
+none-waits = record { none = refl; same = refl }
 
-pub verdict-at-once : outputOf (bytes atOnce) [] ≡ lines ("0000000000010200000000" ∷ "000000000000000100000000000000000000000000000000" ∷ [])
+feeds-3 : fedLine none3 (bytes "00FFFFFFFF000000000000000000000000") ≡ fed3
+unfolding kindOf referenceCount orderOf sizesFit treeOf checkedOf digitValue digitsAtFront badPlace lineOf ofEvent referenced smallest base firstInstance rulePasses countPasses allTo tallyPasses statePasses admission withTally stored kept feedEvent feedDef reportBytes pullRead pullDef hexOf pulledOnce fedLine
+feeds-3 = refl
+
+false-3 : Pulls fed3 one3
+unfolding kindOf referenceCount orderOf sizesFit treeOf checkedOf digitValue digitsAtFront badPlace lineOf ofEvent referenced smallest base firstInstance rulePasses countPasses allTo tallyPasses statePasses admission withTally stored kept feedEvent feedDef reportBytes pullRead pullDef hexOf pulledOnce fedLine
+false-3 = record { some = refl; then = refl }
+
+one-waits : Waits one3
+unfolding kindOf referenceCount orderOf sizesFit treeOf checkedOf digitValue digitsAtFront badPlace lineOf ofEvent referenced smallest base firstInstance rulePasses countPasses allTo tallyPasses statePasses admission withTally stored kept feedEvent feedDef reportBytes pullRead pullDef hexOf pulledOnce fedLine
+one-waits = record { none = refl; same = refl }
+
+begun-3 : begun (openedFor framesOf3) ≡ none3
+begun-3 = rw (opens-3, waits 1010000 none-waits)
+
+pub none-at-once : outputOf (bytes oneBefore) [] ≡ lines ("000000000000000000000000000000000000000000000000" ∷ [])
 unfolding linesOf afterLines hexOf
-verdict-at-once = output-run (bytes atOnce) [] 7 filled7 read-at-once ∙ ap withTotals begun-7
+none-at-once = output-run (bytes oneBefore) [] 3 filled3 read-before ∙ ap withTotals begun-3
+
+run-3 : afterLines (begun (openedFor framesOf3)) (bytes "00FFFFFFFF000000000000000000000000" ∷ []) ≡ one3
+unfolding afterLines
+run-3 = rw (begun-3, feeds-3, one-verdict 1009999 false-3 one-waits)
+
+pub starts-at-1 : outputOf (bytes oneBefore) (lines ("00FFFFFFFF000000000000000000000000" ∷ []))
+    ≡ lines ("00000001000100FFFFFFFF" ∷ "000000000000000100000000000000010000000000000000" ∷ [])
+unfolding linesOf hexOf
+starts-at-1 =
+    output-run (bytes oneBefore) (lines ("00FFFFFFFF000000000000000000000000" ∷ [])) 3 filled3 read-before ∙ ap withTotals run-3
 
 -- ---- refused rules, whatever the log: "`EE`, number (1 byte), place (2 bytes) as the only line"
 pub empty-rule : (log : List ℕ) → outputOf [] log ≡ lines ("EE020000" ∷ [])

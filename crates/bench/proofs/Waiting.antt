@@ -5,12 +5,9 @@ use mathlib.Core.Bool.{true, cond}
 use mathlib.Core.List.{List, [], _∷_}
 use Prim.Native.Nat.{ℕ, zero, suc, _+_, _*_, _≤_, _<_}
 use native.Mathlib.Omega.{arith}
-use borrow.Author.Tests.{leb-true}
-use lib.Dec.{leb, eqb}
 use lib.IntN.{ℤ}
 use lib.ListN.{take}
-use Rattle.numbers.proofs.Bools.{and-true}
-use Rattle.rule.specs.Limits.{eventLimit, frameBytes}
+use Rattle.rule.specs.Limits.{frameBytes}
 use Rattle.rule.specs.Frames.{Bytes}
 use Rattle.rule.specs.Reading.{readOf}
 use Rattle.rule.specs.ReadTold as reading
@@ -21,14 +18,15 @@ use Rattle.verdict.specs.declared.Verdict.{Verdict}
 use Rattle.verdict.specs.declared.Judgement.{Judgement}
 use Rattle.verdict.specs.declared.Judgement.the-variants.{Unsettled, True, False, Unknown}
 use Rattle.checker.specs.Answer.{waiting, verdict}
-use Rattle.checker.specs.State.{sumOf, tallyIn, stateFrames, ruleIn, refsIn, withTally, SameRule}
+use Rattle.checker.specs.State.{stateFrames, ruleIn, withTally, SameRule}
 use Rattle.checker.specs.Open.{OpenResult, openDef}
 use Rattle.checker.specs.Admission.{admitted, admission}
-use Rattle.checker.specs.StateTest.{allTo, countPasses, rulePasses, tallyPasses, statePasses}
+use Rattle.checker.specs.StateTest.{statePasses}
 use Rattle.checker.specs.Demand.{Unrefused}
 use Rattle.checker.specs.Feed.{feedDef}
 use Rattle.checker.specs.Pull.{offered, pullRead, PullResult, givenHere, pulledBy, pullDef}
 use Rattle.checker.specs.declared.State.{State}
+use Rattle.checker.proofs.Main.{passes-exactly}
 use Rattle.checker.proofs.Laws.{both-opened, in-good, opened-stays, fed-stays, pulled-stays, feed-rule, pull-rule}
 use Rattle.bench.specs.Progress.{Progress, emptyReport, pullOf, isVerdict, pulledOnce, UntilWaiting, last, more, pulls, pullLimit, fedLine, afterLine, afterLines}
 use Rattle.bench.specs.Output.{benchWidth, beforeLog, begun, openedFor}
@@ -40,11 +38,7 @@ pub record LetIn (x : Progress) : Type 0 where
   pub bytes : Bytes (stateFrames (x .state))
 
 low : (s : State) → statePasses s ≡ true → s .next .0 ≤ instanceLimit
-unfolding statePasses tallyPasses
-low s g =
-    let t = and-true (rulePasses s) (tallyPasses (refsIn s) (s .width) (tallyIn s)) g .1 in
-    let u = and-true (allTo eventLimit (countPasses (refsIn s) (s .width) (tallyIn s))) _ t .1 in
-    leb-true (s .next .0) instanceLimit (and-true (leb (s .next .0) instanceLimit) (eqb (sumOf (s .totals)) (s .next .0)) u .0)
+low s g = passes-exactly s .0 g .few-verdicts
 
 same-frames : (s t : State) → SameRule s t → stateFrames t ≡ stateFrames s
 same-frames s t r = rw (r .frames, r .len)

@@ -13,7 +13,7 @@ use lib.IntN.{ℤ, pos, negsuc, natAbs, subℕ, _+ℤ_, _*ℤ_, pos-ne-negsuc}
 use Rattle.rule.specs.Limits.{offsetLimit}
 use Rattle.rule.specs.Tree.{Reference, LimitsR}
 use Rattle.numbers.proofs.Bools.{true-false}
-use Rattle.verdict.specs.Found.{meantBy, meant, pending, Lookup, resolve}
+use Rattle.verdict.specs.Found.{meantBy, pending, Lookup, resolve}
 use Rattle.verdict.specs.declared.Meant.{Meant}
 use Rattle.verdict.specs.declared.Meant.the-variants.{Void, At}
 use Rattle.verdict.proofs.Laws.{resolve-late}

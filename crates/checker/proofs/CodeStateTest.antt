@@ -19,7 +19,7 @@ use Rattle.checker.specs.Limits.{widthLimit}
 use Rattle.checker.specs.Base.{firstFor}
 use Rattle.checker.specs.State.{sumOf, tallyIn, stateFrames, refsIn}
 use Rattle.checker.specs.Open.{widthFits}
-use Rattle.checker.specs.StateTest.{isAccepted, allTo, countPasses, totalsPass, rulePasses, tallyPasses, statePasses}
+use Rattle.checker.specs.StateTest.{isAccepted, allTo, totalsPass, rulePasses, tallyPasses, statePasses}
 use Rattle.checker.specs.BasePass.{basesOf, countFits, ruleFits, tallyFits}
 use Rattle.checker.specs.Offer.{Countable}
 use Rattle.checker.specs.Parts.{stateOf}

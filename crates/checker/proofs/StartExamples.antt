@@ -16,7 +16,7 @@ use Rattle.rule.specs.Spelling.{decimalFrom, decimal}
 use Rattle.rule.specs.Machine.{deeper, startFactor, step, finish, run}
 use Rattle.rule.specs.Memory.{position, negated, put, acts}
 use Rattle.rule.specs.Frames.{more, or, kindOf}
-use Rattle.rule.specs.Tree.{Sum, literal, reference, Cond, relation, connective, postfix, bytesOf}
+use Rattle.rule.specs.Tree.{literal, reference, Cond, relation, connective, postfix, bytesOf}
 use Rattle.rule.specs.References.{referenceCount}
 use Rattle.rule.specs.Order.{orderOf}
 use Rattle.rule.specs.Sizes.{sizesFit}
