@@ -10,8 +10,6 @@ ghost use Prim.Native.Nat.{_≤_, _<_, min};
 ghost use lib.IntN.{natAbs};
 ghost use lib.ListN.{length};
 ghost use Rattle.rule.specs.Limits.{eventLimit, factorLimit, offsetLimit};
-ghost use Rattle.rule.specs.Tree.{LimitsR};
-ghost use Rattle.rule.specs.References.{referenceByte, referenceOf};
 ghost use Rattle.verdict.specs.Found.{instanceLimit, occurrence, meantBy};
 ghost use Rattle.checker.specs.Base.{orZero, firstBy, firstFor};
 ghost use Rattle.checker.specs.BasePass.{basesWith, basesOf, firstWith, Startable, Passable};
@@ -31,19 +29,6 @@ fn lower(low: u32, p: Instance, factor: u8, offset: i32) -> u32
     }
 }
 
-// One frame more.
-fn lower_by(bases: &mut [u32; 8], x: Frame, p: Instance)
-    requires { ⌜ Startable (p .0) x × (length (now bases) ≡ eventLimit) ⌝ }
-    ensures kept { λ r. ⌜ length (now (bases .exit)) ≡ eventLimit ⌝ }
-    ensures { λ r. ⌜ now (bases .exit) ≡ basesWith (p .0) x (now (bases .entry)) ⌝ }
-{
-    if x.kind == kinds::REFERENCE_BYTE {
-        let e = x.event as usize;
-        let low = lower(bases[e], p, x.factor, x.value);
-        bases[e] = low;
-    }
-}
-
 // The first instance at which factor × i + offset is not below 0.
 fn first_by(factor: u8, offset: i32) -> Instance
     requires { ⌜ (1 ≤ factor) × (natAbs offset ≤ offsetLimit) ⌝ }
@@ -58,14 +43,26 @@ fn first_by(factor: u8, offset: i32) -> Instance
     }
 }
 
-// The earlier of an instance and the first at which a frame's reference is not void.
-fn earlier(first: Instance, x: Frame) -> Instance
-    requires { ⌜ (x .kind ≡ referenceByte → LimitsR (referenceOf x)) ⌝ }
-    ensures { λ r. ⌜ r .0 ≡ firstWith x (first .0) ⌝ }
+// The earlier of an instance and the first at which a reference is not void.
+fn earlier(first: Instance, factor: u8, offset: i32) -> Instance
+    requires { ⌜ (1 ≤ factor) × (natAbs offset ≤ offsetLimit) ⌝ }
+    ensures { λ r. ⌜ r .0 ≡ min (first .0) (firstBy factor offset) ⌝ }
+{
+    let own = first_by(factor, offset);
+    if own.0 < first.0 { own } else { first }
+}
+
+// One frame more: the bases at instance p, and the first instance.
+fn with_frame(bases: &mut [u32; 8], first: Instance, x: Frame, p: Instance) -> Instance
+    requires { ⌜ Startable (p .0) x × (length (now bases) ≡ eventLimit) ⌝ }
+    ensures kept { λ r. ⌜ length (now (bases .exit)) ≡ eventLimit ⌝ }
+    ensures { λ r. ⌜ (now (bases .exit) ≡ basesWith (p .0) x (now (bases .entry))) × (r .0 ≡ firstWith x (first .0)) ⌝ }
 {
     if x.kind == kinds::REFERENCE_BYTE {
-        let own = first_by(x.factor, x.value);
-        if own.0 < first.0 { own } else { first }
+        let e = x.event as usize;
+        let low = lower(bases[e], p, x.factor, x.value);
+        bases[e] = low;
+        earlier(first, x.factor, x.value)
     } else {
         first
     }
@@ -88,8 +85,7 @@ pub fn starts_at(frames: &[u8], p: Instance) -> Starts
     let mut k = 0;
     while k < n {
         let x = rule::frame_at(frames, k);
-        lower_by(&mut bases, x, p);
-        first = earlier(first, x);
+        first = with_frame(&mut bases, first, x, p);
         k += 1;
     }
     Starts { bases, first }

@@ -20,23 +20,14 @@ loop-holds c = (search needs, record { long = refl; bases-to = refl; first-to = 
 frame-at-requires : tie.Need-frame-at-requires Inv-loop μ-loop
 frame-at-requires c κs = omega arith
 
-lower-by-requires : tie.Need-lower-by-requires Inv-loop μ-loop
-lower-by-requires c κs =
+with-frame-requires : tie.Need-with-frame-requires Inv-loop μ-loop
+with-frame-requires c κs =
     let at-frame-at = c .before in
     let x = at-frame-at .frame-at in
     let at-loop = at-frame-at .before .before in
     let entry = at-loop .before .before in
     let a = entry .args in
     (startable (a .frames .now) (a .p .0) (at-loop .loop .k) (entry .pre) (omega arith) (x .result) (x .ensures), at-loop .loop .inv .1 .long)
-
-earlier-requires : tie.Need-earlier-requires Inv-loop μ-loop
-earlier-requires c κs =
-    let at-frame-at = c .before .before in
-    let x = at-frame-at .frame-at in
-    let at-loop = at-frame-at .before .before in
-    let entry = at-loop .before .before in
-    let a = entry .args in
-    startable (a .frames .now) (a .p .0) (at-loop .loop .k) (entry .pre) (omega arith) (x .result) (x .ensures) .limits
 
 add-k : tie.Need-add-k Inv-loop μ-loop
 add-k c = omega arith
@@ -46,15 +37,14 @@ loop-less c = omega arith
 
 loop-again : tie.Need-loop-again Inv-loop μ-loop
 loop-again c =
-    let at-lower-by = c .before in
-    let at-frame-at = at-lower-by .before .before in
+    let at-frame-at = c .before .before in
     let x = at-frame-at .frame-at in
     let at-loop = at-frame-at .before .before in
     let l = at-loop .loop in
     let entry = at-loop .before .before in
     let a = entry .args in
-    let b = at-lower-by .lower-by .ensures in
-    (omega arith, pass-next (a .frames .now) (a .p .0) (l .k) (x .result) (x .ensures) (l .bases) _ (l .first .0) (c .earlier .result .0) (l .inv .1) (b .0) (b .1) (c .earlier .ensures))
+    let f = c .with-frame .ensures in
+    (omega arith, pass-next (a .frames .now) (a .p .0) (l .k) (x .result) (x .ensures) (l .bases) _ (l .first .0) (c .with-frame .result .0) (l .inv .1) (f .0) (f .1 .0) (f .1 .1))
 
 returns : tie.Need-returns Inv-loop μ-loop
 returns c =
@@ -66,4 +56,4 @@ returns c =
     pass-found (bytes-by (a .frames .now) (λ i _. at-slice .shared-slice-known .given i .fits)) (a .p .0) (l .k) (entry .pre) (omega arith) (l .bases) (l .first .0) (l .inv .1)
 
 pub starts-at-spec : {M : Type 1} → statement M
-starts-at-spec = tie.close (tie.spec Inv-loop μ-loop loop-holds frame-at-requires lower-by-requires earlier-requires add-k loop-less loop-again returns)
+starts-at-spec = tie.close (tie.spec Inv-loop μ-loop loop-holds frame-at-requires with-frame-requires add-k loop-less loop-again returns)
