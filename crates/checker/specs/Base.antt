@@ -1,5 +1,5 @@
--- Which events a rule references, an event's base, and where verdicts begin. From document 01, "Feeding, pulling and the window", and
--- document 02, point 2. Assumes nothing: definitions.
+-- Which events a rule references, an event's base, and where verdicts begin. From document 01, "Feeding, pulling and the window",
+-- and document 02, point 2. Assumes nothing: definitions.
 use mathlib.Core.Path.{_≡_}
 use mathlib.Core.Bool.{Bool, true, false, cond}
 use mathlib.Core.List.{List, [], _∷_, map, List·Memᴰ}

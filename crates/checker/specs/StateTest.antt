@@ -1,4 +1,5 @@
--- The states that 12 lets through. From document 01, "What is turned down", 12, and document 02, point 2. Assumes nothing: definitions.
+-- The states that 12 lets through. From document 01, "What is turned down", 12, and document 02, point 2.
+-- Assumes nothing: definitions.
 use mathlib.Core.Path.{_≡_}
 use mathlib.Core.Bool.{Bool, true, false, _&&_, cond}
 use mathlib.Core.List.{List}
@@ -46,7 +47,8 @@ totalsPass first p totals = leb first p && eqb (sumOf totals) (p - first)
 -- nor "p over 1,009,999"
 unfoldable pub tallyPasses : List Reference → ℕ → Tally → Bool
 tallyPasses refs w t =
-    allTo eventLimit (countPasses refs w t) && (leb (t .next) instanceLimit && totalsPass (firstInstance refs) (t .next) (t .totals))
+    allTo eventLimit (countPasses refs w t)
+    && (leb (t .next) instanceLimit && totalsPass (firstInstance refs) (t .next) (t .totals))
 
 -- what 12 lets through: none of "Feeding, pulling: a state whose frames or W opening would refuse .. or a count above base plus W"
 unfoldable pub statePasses : State → Bool

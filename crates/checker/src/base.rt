@@ -77,7 +77,8 @@ pub struct Starts {
 // Both, by the references of accepted frames, with the bases at instance p.
 pub fn starts_at(frames: &[u8], p: Instance) -> Starts
     requires { ⌜ Passable (now frames) (p .0) ⌝ }
-    ensures { λ r. ⌜ (r .bases ≡ basesOf (now (frames .entry)) (p .0)) × (r .first .0 ≡ firstFor (now (frames .entry))) ⌝ }
+    ensures { λ r. ⌜ (r .bases ≡ basesOf (now (frames .entry)) (p .0))
+        × (r .first .0 ≡ firstFor (now (frames .entry))) ⌝ }
 {
     let n = frames.len() / FRAME_BYTES;
     let mut bases = [NO_BASE; 8];

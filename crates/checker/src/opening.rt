@@ -68,10 +68,11 @@ fn fresh(frames: &[u8], width: u32) -> State
     requires { ⌜ checkedOf (now frames) ≡ checking.accepted ⌝ }
     ensures { λ r. ⌜ r ≡ freshState (now (frames .entry)) width ⌝ }
 {
+    let starts = base::starts_at(frames, Instance(0));
+    let first = starts.first;
     let n = (frames.len() / FRAME_BYTES) as u32;
     let bytes = copied(frames);
-    let starts = base::starts_at(frames, Instance(0));
-    parts::first(bytes, n, width, starts.first)
+    parts::first(bytes, n, width, first)
 }
 
 // The state that is zero throughout.

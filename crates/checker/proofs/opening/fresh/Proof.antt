@@ -7,27 +7,27 @@ use Rattle.checker.specs.State.{freshState}
 use Rattle.checker.proofs.opening.fresh.Statement.{statement}
 use Rattle.checker.proofs.opening.fresh.Tie as tie
 
+starts-at-requires : tie.Need-starts-at-requires
+starts-at-requires c κs =
+    let entry = c .before in
+    record { accepted = entry .pre; instance-in = omega arith }
+
 cast-n : tie.Need-cast-n
 cast-n c =
-    let entry = c .before in
+    let entry = c .before .before .before in
     record { fits = omega (arith, passed (entry .args .frames .now) (entry .pre) .whole .most) }
 
 copied-requires : tie.Need-copied-requires
 copied-requires c κs =
-    let entry = c .before in
+    let entry = c .before .before .before in
     passed (entry .args .frames .now) (entry .pre) .whole .most
-
-starts-at-requires : tie.Need-starts-at-requires
-starts-at-requires c κs =
-    let entry = c .before .before in
-    record { accepted = entry .pre; instance-in = omega arith }
 
 returns : tie.Need-returns
 unfolding freshState
 returns c =
-    let at-starts-at = c .before in
-    let at-copied = at-starts-at .before in
-    rw (sym (at-copied .copied .ensures), sym (at-starts-at .starts-at .ensures .1)) (c .first .ensures)
+    let at-copied = c .before in
+    let at-starts-at = at-copied .before .before in
+    rw (sym (at-copied .copied .ensures), sym (at-starts-at .starts-at .ensures .1)) (c .first2 .ensures)
 
 pub fresh-spec : {M : Type 1} → statement M
-fresh-spec = tie.close (tie.spec cast-n copied-requires starts-at-requires (λ c κs. search needs) returns)
+fresh-spec = tie.close (tie.spec starts-at-requires cast-n copied-requires (λ c κs. search needs) returns)
