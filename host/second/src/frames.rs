@@ -16,6 +16,11 @@ impl Reference {
     pub fn occurrence(&self, i: u32) -> i64 {
         self.factor * i64::from(i) + self.offset
     }
+
+    /// Whether it is void at i.
+    pub fn is_void(&self, i: u32) -> bool {
+        self.occurrence(i) < 0
+    }
 }
 
 #[derive(Clone, Debug, PartialEq, Eq)]
@@ -57,6 +62,21 @@ pub struct Rule {
 }
 
 impl Rule {
+    /// Whether i is an instance: one at which all references are void is none.
+    pub fn is_instance(&self, i: u32) -> bool {
+        self.references
+            .iter()
+            .any(|reference| !reference.is_void(i))
+    }
+
+    /// The first instance: verdicts begin there.
+    pub fn start(&self) -> u32 {
+        // With factor 1 and offset -9,999 it is 9,999, and no reference begins later.
+        (0..=9_999)
+            .find(|i| self.is_instance(*i))
+            .expect("a rule has a reference")
+    }
+
     /// The smallest of max(0, factor x p + offset) over an event's references; nothing if it has none.
     pub fn base(&self, event: usize, p: u32) -> Option<i64> {
         self.references

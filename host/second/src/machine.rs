@@ -53,7 +53,7 @@ impl Totals {
     }
 }
 
-/// The plain machine of document 01.
+/// The plain machine of document 01. Its p begins at the rule's start.
 #[derive(Clone, Debug)]
 pub struct Machine {
     frames: Vec<u8>,
@@ -73,10 +73,10 @@ pub fn open(frames: &[u8], w: u32, window_len: usize) -> Result<Machine, Refusal
     }
     Ok(Machine {
         frames: frames.to_vec(),
+        p: rule.start(),
         rule,
         w,
         lists: Default::default(),
-        p: 0,
         totals: Totals::default(),
         reported: Vec::new(),
     })
@@ -143,8 +143,11 @@ impl Machine {
         Pulled::Verdict(verdict)
     }
 
-    /// The verdict of any instance by the lists as they are; nothing if it is not settled.
+    /// The verdict of any instance by the lists as they are; nothing if it is not settled, or if i is no instance.
     pub fn verdict_of(&self, i: u32) -> Option<Truth> {
+        if !self.rule.is_instance(i) {
+            return None;
+        }
         verdict(&self.rule, i, &self.statuses(i))
     }
 
@@ -173,7 +176,7 @@ impl Machine {
         std::array::from_fn(|event| self.lists[event].len() as u32)
     }
 
-    /// How many verdicts were pulled.
+    /// The instance that the next pull is about.
     pub fn p(&self) -> u32 {
         self.p
     }

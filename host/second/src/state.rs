@@ -9,7 +9,7 @@ use super::verdict::{verdict, Status, Truth};
 use super::Refusal;
 
 const MOST_FRAMES: u32 = 64;
-const MOST_VERDICTS: u32 = 1_009_999;
+const MOST_P: u32 = 1_009_999;
 
 /// What a checker's state carries. Bytes after the last frame are not looked at.
 #[derive(Clone, Debug, PartialEq, Eq)]
@@ -133,6 +133,8 @@ impl State {
         let rule = check(&self.frames[..8 * self.len as usize]).ok()?;
         let totals = [self.totals.held, self.totals.failed, self.totals.unknown];
         let sum: u64 = totals.into_iter().map(u64::from).sum();
+        // Below the start there is no p, whatever the totals.
+        let pulled = self.p.checked_sub(rule.start()).map(u64::from);
         let count_fits = |event: usize| {
             let count = self.counts[event];
             let limit = match rule.base(event, self.p) {
@@ -142,8 +144,8 @@ impl State {
             count as usize <= MOST_LINES && i64::from(count) <= limit
         };
         let fits = width_fits(self.w)
-            && self.p <= MOST_VERDICTS
-            && sum == u64::from(self.p)
+            && self.p <= MOST_P
+            && pulled == Some(sum)
             && (0..EVENTS).all(count_fits);
         fits.then_some(rule)
     }

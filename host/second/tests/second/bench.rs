@@ -47,10 +47,24 @@ fn refused_rules() {
 }
 
 #[test]
-fn pulls_before_the_first_line() {
-    let rule = b"events a; notes t; t(a[i-2]) > 0";
-    let expected = "000000000000000000000002000000000000000000000000\n";
-    assert_eq!(bench(rule, b""), expected);
+fn no_verdict_before_the_first_line() {
+    for condition in ["t(a[i-2]) > 0", "t(a[i-9999]) > 0 && i < 0", "t(a[i]) > 0"] {
+        let rule = format!("events a; notes t; {condition}");
+        assert_eq!(bench(rule.as_bytes(), b""), format!("{:048X}\n", 0));
+    }
+}
+
+#[test]
+fn totals_from_the_start_on() {
+    // Instances 3 to 5: true, false, true.
+    let rule = b"events a b; notes t; t(a[2*i-5]) > 0";
+    let log: Vec<u8> = [9, 1, 9, -1, 9, 1]
+        .into_iter()
+        .flat_map(|note| [line(0, [note, 0, 0, 0]), vec![b'\n']].concat())
+        .collect();
+    let expected = "00000004000100FFFFFFFF\n\
+                    000000020000000100000000000000060000000000000000\n";
+    assert_eq!(bench(rule, &log), expected);
 }
 
 #[test]

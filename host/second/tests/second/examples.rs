@@ -40,7 +40,7 @@ fn m7_a_void_and_a_pending_side_wait() {
 }
 
 #[test]
-fn m8_void_twice_then_waiting() {
+fn m8_waiting_where_all_is_void() {
     examples::m8::<Twin>();
 }
 

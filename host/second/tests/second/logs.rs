@@ -225,8 +225,9 @@ fn report_marks_and_number() {
 
 #[test]
 fn a_verdict_that_is_not_false_leaves_the_report() {
-    let mut machine = machine("events a; notes t; t(a[i-1]) = 1", 2);
+    let mut machine = machine("events a b; notes t; t(a[i-1]) = t(b[i])", 2);
     feed_all(&mut machine, 0, &[1]);
+    feed_all(&mut machine, 1, &[1, 1]);
     let mut buffer = [0xA5; 166];
     assert_eq!(machine.pull(&mut buffer), UNKNOWN);
     assert_eq!(machine.pull(&mut buffer), TRUE);
@@ -253,21 +254,46 @@ fn factor_9_and_offset_9999() {
 #[test]
 fn factor_9_and_offset_minus_9999() {
     let mut machine = machine("events a; notes t; t(a[9*i-9999]) = 5", 1);
-    for _ in 0..1_111 {
-        assert_eq!(pull(&mut machine), UNKNOWN);
-    }
     assert_eq!(pull(&mut machine), Pulled::Waiting);
-    assert_eq!(machine.base(0), Some(0));
+    assert_eq!((machine.p(), machine.base(0)), (1_111, Some(0)));
     feed_all(&mut machine, 0, &[5]);
     assert_eq!(feed(&mut machine, 0, 5), FULL);
     assert_eq!(pull(&mut machine), TRUE);
-    assert_eq!(machine.base(0), Some(9));
+    assert_eq!((machine.p(), machine.base(0)), (1_112, Some(9)));
     let expected = Totals {
         held: 1,
         failed: 0,
-        unknown: 1_111,
+        unknown: 0,
     };
     assert_eq!(machine.totals(), expected);
+}
+
+#[test]
+fn a_void_side_while_another_is_present() {
+    // Instances 2 to 4 have no a; the first with both is 5.
+    let mut machine = machine("events a b; notes t; t(a[i-5]) > 0 || t(b[i-2]) > 0", 4);
+    assert_eq!(machine.p(), 2);
+    feed_all(&mut machine, 1, &[0, 1, 0]);
+    let answers = [0; 4].map(|_| pull(&mut machine));
+    assert_eq!(answers, [UNKNOWN, TRUE, UNKNOWN, Pulled::Waiting]);
+    feed_all(&mut machine, 0, &[0]);
+    assert_eq!(pull(&mut machine), Pulled::Waiting);
+    feed_all(&mut machine, 1, &[0]);
+    assert_eq!(pull(&mut machine), FALSE);
+    assert_eq!(machine.p(), 6);
+}
+
+#[test]
+fn base_at_the_start() {
+    // Verdicts begin at instance 2 with a[1]; a[0] comes below base and is counted.
+    let mut machine = machine("events a; notes t; t(a[2*i-3]) = 1", 1);
+    assert_eq!((machine.p(), machine.base(0)), (2, Some(1)));
+    feed_all(&mut machine, 0, &[0]);
+    assert_eq!(pull(&mut machine), Pulled::Waiting);
+    feed_all(&mut machine, 0, &[1]);
+    assert_eq!(feed(&mut machine, 0, 1), FULL);
+    assert_eq!(pull(&mut machine), TRUE);
+    assert_eq!((machine.p(), machine.base(0)), (3, Some(3)));
 }
 
 #[test]

@@ -14,12 +14,12 @@ fn totals(held: u32, failed: u32, unknown: u32) -> Totals {
     }
 }
 
-/// A state for a rule, with W, counts of a, b, c, and p, all of which held.
+/// A state for a rule, with W, counts of a, b, c, and p; all verdicts before it held.
 fn state(rule: &str, w: u32, counts: [u32; 3], p: u32) -> State {
     let mut state = machine(rule, w).state();
     state.counts[..3].copy_from_slice(&counts);
+    state.totals = totals(p - state.p, 0, 0);
     state.p = p;
-    state.totals = totals(p, 0, 0);
     state
 }
 
@@ -162,8 +162,10 @@ fn a_count_over_1_000_000() {
 
 #[test]
 fn p_up_to_1_009_999() {
+    // Verdicts begin at 9,999.
     let rule = "events a; notes t; t(a[i-9999]) > 0";
     let last = state(rule, 1, [1_000_000, 0, 0], 1_009_999);
+    assert_eq!(last.totals, totals(1_000_000, 0, 0));
     assert_eq!(number(&last, 32), None);
     let more = state(rule, 1, [1_000_000, 0, 0], 1_010_000);
     assert_eq!(number(&more, 32), Some(12));

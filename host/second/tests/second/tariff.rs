@@ -285,7 +285,8 @@ fn charges_after_random_calls() {
         }
         // By the lists after the last call.
         let failed = |i: &u32| machine.verdict_of(*i) == Some(Truth::False);
-        let count = (0..machine.p()).filter(failed).count() as u32;
+        let start = machine.rule().start();
+        let count = (start..machine.p()).filter(failed).count() as u32;
         let mut tariff = random_tariff(random, 20);
         if random.once_in(2) {
             damage(random, &mut tariff);

@@ -77,7 +77,7 @@ fn reported_are_the_false_instances() {
         // By the lists after the last call.
         let failed = |i: &u32| machine.verdict_of(*i) == Some(Truth::False);
         let verdict = Truth::False;
-        let expected: Vec<Reported> = (0..machine.p())
+        let expected: Vec<Reported> = (machine.rule().start()..machine.p())
             .filter(failed)
             .map(|i| Reported { i, verdict })
             .collect();

@@ -2,7 +2,7 @@
 
 use super::driven::{Driven, FALSE, FULL, TRUE, UNKNOWN};
 use super::log::line;
-use dillplatter_second::{Fed, Pulled, Refusal, Truth};
+use dillplatter_second::{Fed, Pulled, Refusal, Totals, Truth};
 
 const FIRST: &str = "events in out; notes t; t(out[i]) - t(in[i]) <= 25";
 const AFTER_003: &str = "events a b; notes t; t(a[i+10]) > 100 || t(b[i-5]) < 300";
@@ -86,12 +86,15 @@ pub fn m7<C: Driven>() {
     assert_eq!(checker.state().p, 4);
 }
 
-/// M8: void twice, then waiting.
+/// M8: where all is void there is no instance, so it is waiting.
 pub fn m8<C: Driven>() {
     let mut checker = C::of_text("events a b; notes t; t(a[i-2]) > 0", 64);
-    let expected = [UNKNOWN, UNKNOWN, WAITING, WAITING];
-    assert_eq!(pulls(&mut checker, 4), expected);
-    assert_eq!(checker.state().totals.unknown, 2);
+    assert_eq!(pulls(&mut checker, 4), [WAITING; 4]);
+    assert_eq!(checker.state().totals, Totals::default());
+    assert_eq!(checker.state().p, 2);
+    assert_eq!(feed(&mut checker, 0, 1), Fed::Accepted);
+    assert_eq!(pulls(&mut checker, 2), [TRUE, WAITING]);
+    assert_eq!(checker.state().p, 3);
 }
 
 /// M9: nothing present waits, though the value is true.

@@ -71,8 +71,8 @@ pub fn opening<C: Driven>() {
 
 /// The files of calls, with how many rules, feeds and pulls each has.
 const CALLS: [(&str, [usize; 3]); 2] = [
-    ("calls.txt", [86, 2_812, 2_266]),
-    ("points/07/calls.txt", [60, 1_994, 1_548]),
+    ("calls.txt", [86, 2_812, 2_264]),
+    ("points/02/calls.txt", [60, 1_994, 1_548]),
 ];
 
 /// Each file of calls.
@@ -257,7 +257,7 @@ fn refusal_words(refusal: Refusal) -> String {
 }
 
 /// The folders of cases of the bench program, with how many each has.
-const BENCH: [(&str, usize); 2] = [("bench", 40), ("points/07/bench", 16)];
+const BENCH: [(&str, usize); 2] = [("bench", 40), ("points/02/bench", 16)];
 
 /// A case of the bench program.
 pub struct Case {

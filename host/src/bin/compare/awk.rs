@@ -30,13 +30,13 @@ pub fn script(rule: &Rule) -> String {
     [begin(rule).as_str(), FUNCTIONS, &feed(rule), &pull(rule)].concat()
 }
 
-/// Counts and lows are numbers from the start, so that they name places of arrays.
+/// Counts and lows are numbers before the first line, so that they name places of arrays.
 fn begin(rule: &Rule) -> String {
     let zeros: String = events(rule)
         .into_iter()
         .map(|event| format!("c{event} = 0; low{event} = 0; "))
         .collect();
-    format!("BEGIN {{ {zeros}p = 0 }}")
+    format!("BEGIN {{ {zeros}p = {} }}", rule.start())
 }
 
 fn events(rule: &Rule) -> BTreeSet<usize> {
