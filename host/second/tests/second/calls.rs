@@ -2,10 +2,12 @@
 
 use crate::shared::driven::{Driven, Twin};
 use crate::shared::log::{events, line, random_line};
-use crate::shared::random::{frames, Random};
+use crate::shared::random::{frames, late_frames, Random};
 use crate::shared::seen::Seen;
+use crate::shared::start::start_of;
 use dillplatter_second::line::read_line;
 use dillplatter_second::{open, Fed, Machine, Pulled, Truth};
+use std::ops::Range;
 
 /// Each accepted occurrence from base on is in its words.
 fn window_holds_the_lists(machine: &Machine, window: &[i32]) {
@@ -42,31 +44,52 @@ fn call(random: &mut Random, twin: &mut Twin, seen: &mut Seen, verdicts: &mut Ve
     }
 }
 
-#[test]
-fn whole_lists_and_window_agree() {
-    let mut seen = Seen::default();
-    for seed in 0..1_250 {
-        let random = &mut Random::new(seed + 2_000_000);
-        let frames = frames(random);
+/// Some lists of calls with random rules; each answer is counted. The answer is how many rules start after 0 and get a verdict.
+fn lists(seeds: Range<u64>, rule: fn(&mut Random) -> Vec<u8>, seen: &mut Seen) -> usize {
+    let mut late = 0;
+    for seed in seeds {
+        let random = &mut Random::new(seed);
+        let frames = rule(random);
         let w = random.pick(&[1, 1, 2, 3, 5, 16, 64, 256]);
         let mut twin = Twin::open(&frames, w, &vec![-1; 32 * w as usize]).unwrap();
+        let start = start_of(twin.state());
+        assert_eq!(twin.state().p, start, "{seed}");
+        assert_eq!(twin.pull(&mut [0; 166]), Pulled::Waiting, "{seed}");
         let mut verdicts = Vec::new();
         for turn in 0..200 {
-            call(random, &mut twin, &mut seen, &mut verdicts);
+            call(random, &mut twin, seen, &mut verdicts);
             let refusal = twin.state().refusal(twin.window().len());
             assert_eq!(refusal, None, "{seed} {turn}");
         }
         let machine = twin.machine();
         window_holds_the_lists(machine, twin.window());
-        // The verdicts handed out are those by the lists after the last call.
-        let last: Vec<Truth> = (0..machine.p())
+        // The verdicts handed out are those by the lists after the last call, from the start on.
+        let last: Vec<Truth> = (start..machine.p())
             .map(|i| machine.verdict_of(i).expect("it stays settled"))
             .collect();
         assert_eq!(verdicts, last, "{seed}");
+        assert!((0..start).all(|i| machine.verdict_of(i).is_none()));
         other_orders_agree(random, &frames, machine, &verdicts);
+        late += usize::from(start > 0 && !verdicts.is_empty());
     }
+    late
+}
+
+#[test]
+fn whole_lists_and_window_agree() {
+    let mut seen = Seen::default();
+    lists(2_000_000..2_001_250, frames, &mut seen);
     // Accepted, ignored, 15, 17; three verdicts, waiting, 14.
     seen.more_than(9, 500);
+}
+
+#[test]
+fn whole_lists_and_window_agree_for_rules_that_start_late() {
+    let mut seen = Seen::default();
+    let late = lists(360_000_000..360_001_000, late_frames, &mut seen);
+    // The same answers.
+    seen.more_than(9, 500);
+    assert!(late > 850, "{late}");
 }
 
 /// The same lines in another order between events, with other pulls and a wider window, give the same verdicts

@@ -17,6 +17,7 @@ mod places;
 mod promises;
 mod refusals;
 mod requires;
+mod start;
 mod states;
 mod tariff;
 mod texts;

@@ -8,5 +8,6 @@ pub mod log;
 pub mod random;
 pub mod refusals;
 pub mod seen;
+pub mod start;
 pub mod tariff;
 pub mod vectors;

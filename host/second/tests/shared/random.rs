@@ -45,6 +45,15 @@ pub struct Made {
 
 /// Makes one; a larger size gives a longer rule.
 pub fn rule(random: &mut Random, size: usize) -> Made {
+    make(random, size, false)
+}
+
+/// Makes one whose offsets are mostly negative, so that it mostly starts after instance 0.
+pub fn late_rule(random: &mut Random, size: usize) -> Made {
+    make(random, size, true)
+}
+
+fn make(random: &mut Random, size: usize, late: bool) -> Made {
     let mut maker = Maker {
         made: Made {
             tokens: Vec::new(),
@@ -56,6 +65,7 @@ pub fn rule(random: &mut Random, size: usize) -> Made {
         events: 1 + random.below(8),
         notes: 1 + random.below(4),
         left: size,
+        late,
         random,
     };
     let (events, notes) = (maker.events, maker.notes);
@@ -67,6 +77,15 @@ pub fn rule(random: &mut Random, size: usize) -> Made {
 
 /// Frames of a random rule that opens.
 pub fn frames(random: &mut Random) -> Vec<u8> {
+    frames_by(random, rule)
+}
+
+/// The same with offsets that are mostly negative.
+pub fn late_frames(random: &mut Random) -> Vec<u8> {
+    frames_by(random, late_rule)
+}
+
+fn frames_by(random: &mut Random, rule: fn(&mut Random, usize) -> Made) -> Vec<u8> {
     loop {
         let size = random.pick(&[1, 1, 4, 10, 30]);
         let frames = rule(random, size).frames.concat();
@@ -91,6 +110,8 @@ struct Maker<'r> {
     notes: usize,
     /// How many choices may still make the rule longer.
     left: usize,
+    /// Whether offsets are mostly negative.
+    late: bool,
 }
 
 impl Maker<'_> {
@@ -251,10 +272,12 @@ impl Maker<'_> {
         }
         self.token("i");
         let mut offset = 0;
-        if self.random.once_in(2) {
-            let small = self.random.below(4) as i32;
-            let size = self.random.pick(&[small, small, small, small, 10, 9_999]);
-            let minus = self.random.once_in(2);
+        let signed = if self.late {
+            self.late_offset()
+        } else {
+            self.offset()
+        };
+        if let Some((minus, size)) = signed {
             self.token(if minus { "-" } else { "+" });
             self.token(size.to_string());
             offset = if minus { -size } else { size };
@@ -262,6 +285,28 @@ impl Maker<'_> {
         self.token("]");
         self.token(")");
         self.operand(0x03, [event as u8, note as u8, factor as u8], offset, depth);
+    }
+
+    /// Whether an offset is negative, and its size; nothing if there is none.
+    fn offset(&mut self) -> Option<(bool, i32)> {
+        if !self.random.once_in(2) {
+            return None;
+        }
+        let small = self.random.below(4) as i32;
+        let size = self.random.pick(&[small, small, small, small, 10, 9_999]);
+        Some((self.random.once_in(2), size))
+    }
+
+    /// The same, mostly negative.
+    fn late_offset(&mut self) -> Option<(bool, i32)> {
+        if self.random.once_in(30) {
+            return self.offset();
+        }
+        let small = 1 + self.random.below(12) as i32;
+        let size = self
+            .random
+            .pick(&[small, small, small, small, small, 300, 9_998, 9_999]);
+        Some((true, size))
     }
 }
 
