@@ -23,7 +23,7 @@ fn m5_m6_m7_a_void_side() {
 }
 
 #[test]
-fn m8_void_twice_then_waiting() {
+fn m8_waiting_where_all_is_void() {
     examples::m8::<Pair>();
 }
 

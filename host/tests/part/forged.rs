@@ -5,8 +5,9 @@ use crate::pair::Pair;
 use crate::quota::Quota;
 use crate::shared::driven::Driven;
 use crate::shared::log::{events, random_line};
-use crate::shared::random::{frames, Random};
+use crate::shared::random::{frames, late_frames, Random};
 use crate::shared::seen::Seen;
+use crate::shared::start::start_of;
 use crate::shared::tariff::example;
 use dillplatter_second::{Fed, Pulled, State, Totals};
 
@@ -45,7 +46,11 @@ fn near(random: &mut Random, value: u32) -> u32 {
 
 /// A state that calls on a fresh checker gave.
 pub fn honest(random: &mut Random) -> (State, Vec<usize>) {
-    let frames = frames(random);
+    let frames = if random.once_in(2) {
+        late_frames(random)
+    } else {
+        frames(random)
+    };
     let w = random.pick(&[1, 2, 3, 5, 16, 64]);
     let mut pair = Pair::open(&frames, w, &vec![0; 32 * w as usize]).unwrap();
     let events = events(pair.machine());
@@ -61,13 +66,16 @@ pub fn honest(random: &mut Random) -> (State, Vec<usize>) {
 
 /// Moves p, and the totals and counts with it, so that the state may still pass.
 pub fn move_on(random: &mut Random, state: &mut State, events: &[usize]) {
-    state.p = random.pick(&[
-        1, 7, 1_000, 9_999, 10_000, 111_111, 500_000, 999_999, 1_000_000, 1_009_998, 1_009_999,
+    let start = start_of(state);
+    let p = random.pick(&[
+        0, 1, 7, 1_000, 9_999, 10_000, 111_111, 500_000, 999_999, 1_000_000, 1_009_998, 1_009_999,
     ]);
-    let failed = random.below(state.p as usize + 1) as u32;
-    let unknown = random.below((state.p - failed) as usize + 1) as u32;
+    state.p = p.max(start);
+    let pulled = state.p - start;
+    let failed = random.below(pulled as usize + 1) as u32;
+    let unknown = random.below((pulled - failed) as usize + 1) as u32;
     state.totals = Totals {
-        held: state.p - failed - unknown,
+        held: pulled - failed - unknown,
         failed,
         unknown,
     };
@@ -79,9 +87,9 @@ pub fn move_on(random: &mut Random, state: &mut State, events: &[usize]) {
     }
 }
 
-/// Changes one field.
+/// Changes one field, or two that go together.
 pub fn change(random: &mut Random, state: &mut State) {
-    match random.below(9) {
+    match random.below(10) {
         0 => state.frames[random.below(512)] = random.below(256) as u8,
         1 => {
             let mut frames = state.frames[..8 * state.len.min(64) as usize].to_vec();
@@ -98,7 +106,13 @@ pub fn change(random: &mut Random, state: &mut State) {
         5 => state.p = near(random, state.p),
         6 => state.totals.held = near(random, state.totals.held),
         7 => state.totals.failed = near(random, state.totals.failed),
-        _ => state.totals.unknown = near(random, state.totals.unknown),
+        8 => state.totals.unknown = near(random, state.totals.unknown),
+        _ => {
+            // p and a total together, so that the sum may stay right.
+            let less = random.pick(&[1, 2, 3, 9, 300, 9_999]);
+            state.p = state.p.wrapping_sub(less);
+            state.totals.unknown = state.totals.unknown.wrapping_sub(less);
+        }
     }
 }
 

@@ -4,9 +4,11 @@ use crate::pair::Pair;
 use crate::quota::Quota;
 use crate::shared::driven::Driven;
 use crate::shared::log::{events, random_line};
-use crate::shared::random::{frames, Random};
+use crate::shared::random::{frames, late_frames, Random};
 use crate::shared::seen::Seen;
+use crate::shared::start::start_of;
 use dillplatter_second::{Fed, Pulled, Truth};
+use std::ops::Range;
 
 /// A window of another length, with whatever in it.
 fn wrong_window(random: &mut Random, w: u32) -> Vec<i32> {
@@ -35,30 +37,52 @@ fn call(random: &mut Random, pair: &mut Pair, events: &[usize], seen: &mut Seen)
     }
 }
 
+/// Some lists of calls with random rules; each answer is counted. The answer is how many rules start after 0 and get a verdict.
+fn lists(seeds: Range<u64>, rule: fn(&mut Random) -> Vec<u8>, seen: &mut Seen) -> usize {
+    let mut late = 0;
+    for seed in seeds {
+        let random = &mut Random::new(seed);
+        let frames = rule(random);
+        let w = random.pick(&[1, 1, 2, 3, 5, 16, 64, 256]);
+        let mut pair = Pair::open(&frames, w, &vec![-1; 32 * w as usize]).unwrap();
+        let start = start_of(pair.state());
+        assert_eq!(pair.state().p, start, "seed {seed}");
+        assert_eq!(pair.pull(&mut [0; 166]), Pulled::Waiting, "seed {seed}");
+        let events = events(pair.machine());
+        for _ in 0..220 {
+            call(random, &mut pair, &events, seen);
+        }
+        stays_settled(&pair, start);
+        late += usize::from(0 < start && start < pair.state().p);
+    }
+    late
+}
+
 #[test]
 fn random_lists_of_calls() {
     let quota = Quota::begin("random lists of calls");
     let mut seen = Seen::default();
-    for seed in 0..1_000 {
-        let random = &mut Random::new(seed + 50_000_000);
-        let frames = frames(random);
-        let w = random.pick(&[1, 1, 2, 3, 5, 16, 64, 256]);
-        let mut pair = Pair::open(&frames, w, &vec![-1; 32 * w as usize]).unwrap();
-        let events = events(pair.machine());
-        for _ in 0..220 {
-            call(random, &mut pair, &events, &mut seen);
-        }
-        stays_settled(&pair);
-    }
+    lists(50_000_000..50_001_000, frames, &mut seen);
     // Accepted, ignored, 13, 15, 17; three verdicts, waiting, 13, 14.
     seen.more_than(11, 500);
     quota.end();
 }
 
-/// The totals are the sums over the verdicts by the lists after the last call.
-fn stays_settled(pair: &Pair) {
+#[test]
+fn random_lists_of_calls_for_rules_that_start_late() {
+    let quota = Quota::begin("lists of late rules");
+    let mut seen = Seen::default();
+    let late = lists(370_000_000..370_001_000, late_frames, &mut seen);
+    // The same answers.
+    seen.more_than(11, 500);
+    assert!(late > 850, "{late}");
+    quota.end();
+}
+
+/// The totals are the sums over the verdicts by the lists after the last call, from the start on.
+fn stays_settled(pair: &Pair, start: u32) {
     let state = pair.state();
-    let verdicts: Vec<Truth> = (0..state.p)
+    let verdicts: Vec<Truth> = (start..state.p)
         .map(|i| pair.machine().verdict_of(i).expect("it stays settled"))
         .collect();
     let count = |value| verdicts.iter().filter(|verdict| **verdict == value).count() as u32;

@@ -17,6 +17,7 @@ mod pair;
 mod program;
 mod quota;
 mod refusals;
+mod start;
 mod tariff;
 mod texts;
 mod vectors;

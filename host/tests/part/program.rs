@@ -1,9 +1,11 @@
 //! The bench program beside what the second checker prints.
 
 use crate::shared::log::{line, random_line, random_old_line};
-use crate::shared::random::{rule, text, Random};
+use crate::shared::random::{late_rule, rule, text, Made, Random};
+use crate::shared::start::by_division;
 use crate::shared::vectors::bench_cases;
 use dillplatter_host::part::raise;
+use dillplatter_second::frames::check;
 use dillplatter_second::line::lines;
 use dillplatter_second::{bench, bench_old, read};
 use std::collections::BTreeSet;
@@ -116,8 +118,11 @@ fn same(printed: &str, expected: &str, case: &str) {
 /// A random line, mostly of one of some events.
 type LineOf = fn(&mut Random, &[usize]) -> Vec<u8>;
 
+/// A maker of random rules.
+type RuleOf = fn(&mut Random, usize) -> Made;
+
 /// The text of a random rule that is read.
-fn random_rule(random: &mut Random) -> String {
+fn random_rule(random: &mut Random, rule: RuleOf) -> String {
     loop {
         let size = random.pick(&[1, 4, 10, 30, 60]);
         let tokens = rule(random, size).tokens;
@@ -188,7 +193,7 @@ fn random_logs() {
     let mut printed_lines = 0;
     for seed in 0..200 {
         let random = &mut Random::new(seed + 80_000_000);
-        let rule = random_rule(random);
+        let rule = random_rule(random, rule);
         let lines = random.pick(&[0, 1, 2, 20, 200, 2_000]);
         let log = random_log(random, lines, random_line);
         let printed = room.run(rule.as_bytes(), &log);
@@ -200,6 +205,75 @@ fn random_logs() {
         printed_lines += printed.lines().count();
     }
     assert!(printed_lines > 1_000, "{printed_lines}");
+}
+
+/// The start of a rule's text.
+fn start(rule: &str) -> u32 {
+    let frames = read(rule.as_bytes(), 512).expect("the text is read");
+    by_division(&check(&frames).expect("the frames open").references)
+}
+
+/// The instance of a printed report.
+fn instance(report: &str) -> u32 {
+    u32::from_str_radix(&report[..8], 16).expect("it begins with its instance")
+}
+
+/// The totals of true, false and unknown verdicts in the last line that is printed.
+fn totals(printed: &str) -> [u32; 3] {
+    let last = printed.lines().last().expect("it has a line");
+    [0, 8, 16].map(|at| u32::from_str_radix(&last[at..at + 8], 16).expect("it is a number"))
+}
+
+#[test]
+fn random_logs_of_rules_that_start_late() {
+    let room = Room::new("late");
+    let (mut late, mut printed_lines) = (0, 0);
+    for seed in 0..200 {
+        let random = &mut Random::new(seed + 390_000_000);
+        let rule = random_rule(random, late_rule);
+        let lines = random.pick(&[0, 1, 2, 20, 200, 2_000]);
+        let log = random_log(random, lines, random_line);
+        let printed = room.run(rule.as_bytes(), &log);
+        same(
+            &printed,
+            &bench(rule.as_bytes(), &log),
+            &format!("seed {seed}"),
+        );
+        let verdicts: u32 = totals(&printed).iter().sum();
+        late += usize::from(start(&rule) > 0 && verdicts > 0);
+        printed_lines += printed.lines().count();
+    }
+    assert!(late > 90, "{late}");
+    assert!(printed_lines > 1_000, "{printed_lines}");
+}
+
+#[test]
+fn reports_are_those_of_the_start_and_of_each_instance_after_it() {
+    let room = Room::new("each");
+    let (mut rules, mut late) = (0, 0);
+    for seed in 0..150 {
+        let random = &mut Random::new(seed + 410_000_000);
+        let rule = random_rule(random, late_rule);
+        // No verdict is true or unknown.
+        let (head, condition) = rule.rsplit_once(';').expect("a rule has two semicolons");
+        let rule = format!("{head}; i < 0 && {{{condition}}}");
+        if read(rule.as_bytes(), 512).is_err() {
+            continue;
+        }
+        let log = random_log(random, 200, random_line);
+        let printed = room.run(rule.as_bytes(), &log);
+        let mut lines: Vec<&str> = printed.lines().collect();
+        lines.pop();
+        let start = start(&rule);
+        let reports: Vec<u32> = lines.into_iter().map(instance).collect();
+        let count = reports.len() as u32;
+        let expected: Vec<u32> = (start..start + count).collect();
+        assert_eq!(reports, expected, "seed {seed}");
+        assert_eq!(totals(&printed), [0, count, 0], "seed {seed}");
+        rules += usize::from(count > 0);
+        late += usize::from(count > 0 && start > 0);
+    }
+    assert!(rules > 100 && late > 90, "{rules} {late}");
 }
 
 /// The raised lines of an old log; a refused one becomes an empty line.
@@ -220,7 +294,7 @@ fn raised_logs_of_the_earlier_edition() {
     let mut printed_lines = 0;
     for seed in 0..150 {
         let random = &mut Random::new(seed + 200_000_000);
-        let rule = random_rule(random);
+        let rule = random_rule(random, rule);
         let lines = random.pick(&[0, 1, 2, 20, 200, 2_000]);
         let old_log = random_log(random, lines, random_old_line);
         let printed = room.run(rule.as_bytes(), &raised_log(&old_log));
@@ -239,7 +313,7 @@ fn logs_in_pieces() {
     let room = Room::new("pieces");
     for seed in 0..80 {
         let random = &mut Random::new(seed + 90_000_000);
-        let rule = random_rule(random);
+        let rule = random_rule(random, rule);
         let log = random_log(random, 150, random_line);
         let pieces = pieces(random, &log);
         let expected = bench(rule.as_bytes(), &log);
@@ -402,34 +476,95 @@ fn more_output_than_the_buffer() {
     assert!(near.clone().next() == Some(&ROOMY) && near.count() > 1);
 }
 
+/// A rule of which one line of `out` settles 64 instances for each reference to `in`. Instance 0 waits for that line, and
+/// every other is false as soon as one reference is present. 64 lines of `in`, which come before, are the occurrences of each
+/// reference in turn.
+fn kept_back(references: usize) -> String {
+    let reference = |k| format!("t(in[i-{}])", 64 * k);
+    let sum: Vec<String> = (0..references).map(reference).collect();
+    let sum = sum.join("+");
+    format!("events in out; notes t; i = 0 && t(out[i]) < 0 && {sum} > 0")
+}
+
 #[test]
-fn more_output_than_the_buffer_before_the_first_line() {
-    let room = Room::new("outputs-first");
-    let rule = b"events a; notes t; t(a[i-9999]) > 0 && i < 0";
-    for log in [b"".to_vec(), even_log(5)] {
-        let printed = room.run(rule, &log);
-        same(&printed, &bench(rule, &log), "9,999 void instances");
-        assert!(printed.lines().count() > 9_999 && printed.len() > 3 * BUFFER);
+fn more_output_than_the_buffer_from_one_line() {
+    let room = Room::new("outputs-one");
+    let mut lengths = BTreeSet::new();
+    for references in 1..=27 {
+        let rule = kept_back(references);
+        let before: Vec<u8> = (0..64)
+            .flat_map(|k| [line(0, [1 + k; 4]), vec![b'\n']].concat())
+            .collect();
+        let one = line(1, [0; 4]);
+        let after = [b"\n", &line(2, [0; 4])[..]].concat();
+        let printed = room.run(rule.as_bytes(), &before);
+        assert_eq!(printed, format!("{:024X}{:08X}{:016X}\n", 0, 64, 0));
+        for log in [
+            [&before[..], &one].concat(),
+            [&before[..], &one, &after].concat(),
+        ] {
+            let printed = room.run(rule.as_bytes(), &log);
+            let case = format!("{references} references");
+            same(&printed, &bench(rule.as_bytes(), &log), &case);
+            let reports = 64 * references;
+            assert_eq!(printed.lines().count(), reports + 1, "{case}");
+            assert_eq!(totals(&printed), [0, reports as u32, 0], "{case}");
+            lengths.insert(printed.len() - 49);
+        }
+    }
+    // The shortest fits in the buffer, and the longest fills it seven times.
+    assert!(lengths.first() < Some(&ROOMY) && lengths.last() > Some(&(7 * BUFFER)));
+}
+
+#[test]
+fn no_verdict_before_the_first_line() {
+    let room = Room::new("empty");
+    let nothing = format!("{:048X}\n", 0);
+    // False, true and unknown where all is void.
+    for condition in ["&& i < 0", "|| i = 1", "&& i >= 0", ""] {
+        for offset in ["", "-1", "-3", "-9999", "+9999"] {
+            let rule = format!("events a; notes t; t(a[i{offset}]) > 0 {condition}");
+            let printed = room.run(rule.as_bytes(), b"");
+            assert_eq!(printed, nothing, "{rule}");
+            same(&printed, &bench(rule.as_bytes(), b""), &rule);
+            // Nor before the first that is accepted: two are ignored, and two are refused.
+            let log = [&line(1, [0; 4])[..], b"\n\n", &line(9, [0; 4]), b"\n0"].concat();
+            let printed = room.run(rule.as_bytes(), &log);
+            let expected = format!("{:024X}{:08X}{:08X}{:08X}\n", 0, 0, 2, 2);
+            assert_eq!(printed, expected, "{rule}");
+            same(&printed, &bench(rule.as_bytes(), &log), &rule);
+        }
+    }
+    for seed in 0..100 {
+        let random = &mut Random::new(seed + 400_000_000);
+        let rule = random_rule(random, late_rule);
+        assert_eq!(room.run(rule.as_bytes(), b""), nothing, "{rule}");
     }
 }
 
 #[test]
-fn verdicts_before_the_first_line_of_an_empty_log() {
-    let room = Room::new("empty");
-    // Of each rule: what is printed before the totals, and how many verdicts are true, false and unknown.
-    let report = "0000000000010200000000\n";
-    for (rule, reports, totals) in [
-        ("t(a[i-2]) > 0", "", [0, 0, 2]),
-        ("t(a[i-3]) > 0 && i > 0", report, [0, 1, 2]),
-        ("t(a[i-3]) > 0 || i = 1", "", [1, 0, 2]),
-        ("t(a[i]) > 0", "", [0, 0, 0]),
+fn totals_and_reports_from_the_start_on() {
+    let room = Room::new("start");
+    for (condition, expected) in [
+        // Instances 3 to 5 have a[1], a[3], a[5]; then 2 to 7 the six lines in turn.
+        (
+            "t(a[2*i-5]) > 0",
+            "00000004000100FFFFFFFF\n0000000200000001",
+        ),
+        (
+            "t(a[i-2]) > 0",
+            "00000002000100FFFFFFFF\n00000005000100FFFFFFFF\n0000000400000002",
+        ),
     ] {
-        let rule = format!("events a; notes t; {rule}");
-        let [held, failed, unknown] = totals;
-        let expected = format!("{reports}{held:08X}{failed:08X}{unknown:08X}{:024X}\n", 0);
-        let printed = room.run(rule.as_bytes(), b"");
+        let rule = format!("events a; notes t; {condition}");
+        let log: Vec<u8> = [-1, 1, 9, -1, 9, 1]
+            .into_iter()
+            .flat_map(|note| [line(0, [note, 0, 0, 0]), vec![b'\n']].concat())
+            .collect();
+        let printed = room.run(rule.as_bytes(), &log);
+        let expected = format!("{expected}{:08X}{:08X}{:016X}\n", 0, 6, 0);
         assert_eq!(printed, expected, "{rule}");
-        same(&printed, &bench(rule.as_bytes(), b""), &rule);
+        same(&printed, &bench(rule.as_bytes(), &log), &rule);
     }
 }
 

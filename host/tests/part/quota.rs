@@ -6,7 +6,7 @@ use std::cell::Cell;
 const LEAST: usize = 200_000;
 
 /// The fewest calls of each test that makes many.
-const OF_TESTS: [(&str, usize); 30] = [
+const OF_TESTS: [(&str, usize); 34] = [
     ("vectors", 10_600),
     ("random texts", 9_000),
     ("damaged texts", 20_000),
@@ -16,9 +16,13 @@ const OF_TESTS: [(&str, usize); 30] = [
     ("damaged frames", 20_000),
     ("bytes of a line", 8_700),
     ("random lists of calls", 200_000),
+    ("lists of late rules", 220_000),
     ("several widths", 40_000),
+    ("several widths of late rules", 180_000),
     ("places of every width", 12_000),
     ("forged states", 60_000),
+    ("states around the start", 13_000),
+    ("factors and offsets", 15_000),
     ("views of buffers", 2_400),
     ("views after reports", 180_000),
     ("views of two logs", 400_000),

@@ -53,16 +53,16 @@ fn a_million_lines_of_one_event() {
 
 #[test]
 fn the_last_instance() {
-    // a[i-9999] lets p go to 1,009,999, and no further.
+    // a[i-9999] lets p go to 1,009,999, and no further. Verdicts begin at 9,999.
     let text = "events a; notes t; t(a[i-9999]) > 0";
     let mut state = Pair::of_text(text, 1).state().clone();
-    (state.counts[0], state.p, state.totals.unknown) = (1_000_000, 1_009_998, 1_009_998);
+    (state.counts[0], state.p, state.totals.unknown) = (1_000_000, 1_009_998, 999_999);
     let mut pair = Pair::forged(state.clone(), vec![5; 32]);
     assert_eq!(pair.pull(&mut [0; 166]), Pulled::Verdict(Truth::True));
     assert_eq!(pair.pull(&mut [0; 166]), Pulled::Waiting);
     assert_eq!(pair.feed(&line(0, [1; 4])), Fed::Refused(Refusal::of(16)));
     assert_eq!(pair.state().p, 1_009_999);
-    (state.p, state.totals.unknown) = (1_010_000, 1_010_000);
+    (state.p, state.totals.unknown) = (1_010_000, 1_000_001);
     let mut pair = Pair::forged(state, vec![5; 32]);
     let refused = Pulled::Refused(Refusal::of(12));
     assert_eq!(pair.pull(&mut [0; 166]), refused);

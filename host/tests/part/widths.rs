@@ -5,8 +5,9 @@ use crate::pair::Pair;
 use crate::quota::Quota;
 use crate::shared::driven::Driven;
 use crate::shared::log::{events, line, note};
-use crate::shared::random::{frames, Random};
+use crate::shared::random::{frames, late_frames, Random};
 use dillplatter_second::{Fed, Pulled, State, Truth};
+use std::ops::Range;
 
 /// The lines of each event.
 type Log = Vec<Vec<Vec<u8>>>;
@@ -48,13 +49,12 @@ fn run(random: &mut Random, frames: &[u8], w: u32, log: &Log) -> Vec<Truth> {
     verdicts
 }
 
-#[test]
-fn widths_and_orders_agree() {
-    let quota = Quota::begin("several widths");
+/// Random rules, each for several W. The answer is the most verdicts of one, and how many runs had a verdict with one before.
+fn widths(seeds: Range<u64>, rule: fn(&mut Random) -> Vec<u8>) -> (usize, usize) {
     let (mut longest, mut several) = (0, 0);
-    for seed in 0..120 {
-        let random = &mut Random::new(seed + 60_000_000);
-        let frames = frames(random);
+    for seed in seeds {
+        let random = &mut Random::new(seed);
+        let frames = rule(random);
         let log = random_log(random);
         let mut most: Vec<Truth> = Vec::new();
         for w in [1, 2, 3, 7, 16, 64, 256] {
@@ -68,7 +68,22 @@ fn widths_and_orders_agree() {
         }
         longest = longest.max(most.len());
     }
+    (longest, several)
+}
+
+#[test]
+fn widths_and_orders_agree() {
+    let quota = Quota::begin("several widths");
+    let (longest, several) = widths(60_000_000..60_000_120, frames);
     assert!(longest >= 30 && several >= 300, "{longest} {several}");
+    quota.end();
+}
+
+#[test]
+fn widths_and_orders_agree_for_rules_that_start_late() {
+    let quota = Quota::begin("several widths of late rules");
+    let (longest, several) = widths(380_000_000..380_000_120, late_frames);
+    assert!(longest >= 30 && several >= 600, "{longest} {several}");
     quota.end();
 }
 
