@@ -51,6 +51,10 @@ three =
     connective and (relation more (note 0 1 1 (negsuc 1)) (literal 0))
     (connective and (relation more (note 0 0 1 (pos 0)) (literal 5)) (relation unequal (note 0 0 1 (pos 1)) (literal 0)))
 
+-- t(a[2*i-3]) > 0: verdicts begin at instance 2 (document 02, point 2), and base is 2 × p - 3
+abbrev late : Cond
+late = relation more (note 0 0 2 (negsuc 2)) (literal 0)
+
 -- u(b[2*i+1]) < 9: base 2 × p + 1
 abbrev odd : Cond
 odd = relation less (note 1 1 2 (pos 1)) (literal 9)
@@ -165,6 +169,18 @@ table =
           ∷ [];
       tally = tallied 2 0 2 0 1 1;
       words = four (pos 9) (four (negsuc 2130574587) (zeros 56));
+    }
+    -- instance 2 is the first: it waits for a[1], and its report has its number
+    ∷ record {
+      rule = late;
+      width = 2;
+      calls = next ∷ line 0 9 ∷ next ∷ line 0 0 ∷ next ∷ next ∷ line 0 7 ∷ line 0 5 ∷ next ∷ [];
+      given =
+          pulled waiting (replicate 166 7) ∷ fed accepted ∷ pulled waiting (replicate 166 7) ∷ fed accepted
+          ∷ withReport (0 ∷ 0 ∷ 0 ∷ 2 ∷ 0 ∷ 1 ∷ 0 ∷ 0 ∷ 0 ∷ 0 ∷ 0 ∷ []) 155
+          ∷ pulled waiting (replicate 166 7) ∷ fed accepted ∷ fed accepted ∷ left True ∷ [];
+      tally = tallied 4 0 4 1 1 0;
+      words = zeros 4 ++ four (pos 5) (zeros 56);
     }
     -- b[0] is below base 1: counted and not stored
     ∷ record {
