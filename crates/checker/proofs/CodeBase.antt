@@ -30,7 +30,7 @@ use Rattle.checker.specs.Base.{ofEvent, isSome, referenced, orZero, star
 use Rattle.checker.specs.State.{Tally}
 use Rattle.checker.specs.StateTest.{allTo, countPasses, totalsPass, tallyPasses}
 use Rattle.checker.specs.BasePass.{noBase, lowered, basesWith, basesTo, basesOf, Startable, Passable, countFits, tallyFits}
-use Rattle.checker.specs.BasePass.{earlier, firstWith, firstTo}
+use Rattle.checker.specs.BasePass.{sooner, firstWith, firstTo}
 use Rattle.checker.specs.declared.Totals.{Totals}
 use Rattle.checker.proofs.Bases.{first-of-most}
 
@@ -185,9 +185,9 @@ base-is {s} b q p e h l =
 
 -- ---- the first instance
 -- by the offset's sign
-pub negated : (z : ℤ) → ltZ z (pos 0) ≡ true → pos 0 -ℤ z ≡ pos (natAbs z)
-negated (pos k) e = absurd (let h : k < 0 = ltb-true k 0 e in omega arith)
-negated (negsuc k) e = ap pos (omega arith)
+pub size-below : (z : ℤ) → ltZ z (pos 0) ≡ true → pos 0 -ℤ z ≡ pos (natAbs z)
+size-below (pos k) e = absurd (let h : k < 0 = ltb-true k 0 e in omega arith)
+size-below (negsuc k) e = ap pos (omega arith)
 
 pub first-below : (f : ℕ) (z : ℤ) → ltZ z (pos 0) ≡ true → (natAbs z + (f - 1)) / f ≡ firstBy f z
 first-below f (pos k) e = absurd (let h : k < 0 = ltb-true k 0 e in omega arith)
@@ -197,7 +197,7 @@ pub first-above : (f : ℕ) (z : ℤ) → ltZ z (pos 0) ≡ false → 0 ≡ firs
 first-above f (pos k) e = refl
 first-above f (negsuc k) e = absurd (true-false e)
 
-first-over : (rs : List Reference) (first : ℕ) → overReferences earlier rs first ≡ minOver first (map firstOf rs)
+first-over : (rs : List Reference) (first : ℕ) → overReferences sooner rs first ≡ minOver first (map firstOf rs)
 first-over [] first = refl
 first-over (r ∷ rs) first = first-over rs (min first (firstOf r))
 
@@ -211,7 +211,7 @@ unfolding accepted-rule
 first-is {s} b q =
     let r : IsRule s = accepted-rule b q in
     let some : references (treeOf s) ≢ [] = λ z. frames-exactly b .0 q .named (ap references (sym (tree-of r)) ∙ z) in
-    over-references earlier r offsetLimit
+    over-references sooner r offsetLimit
     ∙ first-over (references (r .tree)) offsetLimit
     ∙ ap (λ (t : Cond). minOver offsetLimit (map firstOf (references t))) (sym (tree-of r))
     ∙ first-from (references (treeOf s)) some (within-in b q)

@@ -41,16 +41,16 @@ unfoldable pub basesOf : List ℕ → ℕ → List ℕ
 basesOf s p = basesTo s p (frameCount s)
 
 -- "the first i with a reference that isn't void": with one reference more
-abbrev pub earlier : Reference → ℕ → ℕ
-earlier r first = min first (firstOf r)
+abbrev pub sooner : Reference → ℕ → ℕ
+sooner r first = min first (firstOf r)
 
 -- with one frame more
 abbrev pub firstWith : Frame → ℕ → ℕ
-firstWith x first = cond (eqb (x .kind) referenceByte) (earlier (referenceOf x) first) first
+firstWith x first = cond (eqb (x .kind) referenceByte) (sooner (referenceOf x) first) first
 
 -- after the first k frames; no reference's is later than the offset's limit
 abbrev pub firstTo : List ℕ → ℕ → ℕ
-firstTo s k = referencesTo earlier s offsetLimit k
+firstTo s k = referencesTo sooner s offsetLimit k
 
 -- what a frame's step requires: "The factor of i is 1 to 9 .., the offset −9,999 to 9,999", and not "p over 1,009,999"
 pub record Startable (p : ℕ) (x : Frame) : Type 0 where

@@ -1,8 +1,8 @@
 // The base of each event and the first instance, in one pass over the frames. Base is the document's term.
+use crate::limits;
 use rule::FRAME_BYTES;
 use rule::Frame;
 use rule::kinds;
-use rule::limits;
 use verdict::Instance;
 use verdict::Meant;
 ghost use mathlib.Core.Path.{_≡_};
@@ -35,16 +35,16 @@ fn first_by(factor: u8, offset: i32) -> Instance
     ensures { λ r. ⌜ r .0 ≡ firstBy factor offset ⌝ }
 {
     if offset < 0 {
-        let short = (0 - offset) as u32;
+        let back = (0 - offset) as u32;
         let divisor = factor as u32;
-        Instance((short + (divisor - 1)) / divisor)
+        Instance((back + (divisor - 1)) / divisor)
     } else {
         Instance(0)
     }
 }
 
-// The earlier of an instance and the first at which a reference is not void.
-fn earlier(first: Instance, factor: u8, offset: i32) -> Instance
+// The sooner of an instance and the first at which a reference is not void.
+fn sooner(first: Instance, factor: u8, offset: i32) -> Instance
     requires { ⌜ (1 ≤ factor) × (natAbs offset ≤ offsetLimit) ⌝ }
     ensures { λ r. ⌜ r .0 ≡ min (first .0) (firstBy factor offset) ⌝ }
 {
@@ -62,7 +62,7 @@ fn with_frame(bases: &mut [u32; 8], first: Instance, x: Frame, p: Instance) -> I
         let e = x.event as usize;
         let low = lower(bases[e], p, x.factor, x.value);
         bases[e] = low;
-        earlier(first, x.factor, x.value)
+        sooner(first, x.factor, x.value)
     } else {
         first
     }
@@ -82,7 +82,7 @@ pub fn starts_at(frames: &[u8], p: Instance) -> Starts
 {
     let n = frames.len() / FRAME_BYTES;
     let mut bases = [NO_BASE; 8];
-    let mut first = Instance(limits::OFFSET_NUMBER_LIMIT);
+    let mut first = Instance(limits::FIRST_LIMIT);
     let mut k = 0;
     while k < n {
         let x = rule::frame_at(frames, k);

@@ -12,6 +12,9 @@ pub const LINE_LIMIT: u32 = 1000000;
 // No instance number is larger.
 pub const INSTANCE_LIMIT: u32 = 1009999;
 
+// No rule's first instance is later, as no offset is further below 0.
+pub const FIRST_LIMIT: u32 = rule::limits::OFFSET_NUMBER_LIMIT;
+
 // A report buffer has at least 166 bytes.
 pub const REPORT_LEAST: usize = 166;
 

@@ -72,7 +72,7 @@ fn fresh(frames: &[u8], width: u32) -> State
     let first = starts.first;
     let n = (frames.len() / FRAME_BYTES) as u32;
     let bytes = copied(frames);
-    parts::first(bytes, n, width, first)
+    parts::at_first(bytes, n, width, first)
 }
 
 // The state that is zero throughout.
@@ -80,7 +80,7 @@ fn zero() -> State
     ensures { λ r. ⌜ r ≡ zeroState ⌝ }
 {
     let bytes = [0u8; 512];
-    parts::first(bytes, 0, 0, Instance(0))
+    parts::at_first(bytes, 0, 0, Instance(0))
 }
 
 // A refusal hands back the state that is zero throughout.

@@ -57,7 +57,7 @@ pub fn with_fields(frames: [u8; 512], f: Fields) -> State
 }
 
 // A state with no line counted and no verdict pulled.
-pub fn first(frames: [u8; 512], len: u32, width: u32, next: Instance) -> State
+pub fn at_first(frames: [u8; 512], len: u32, width: u32, next: Instance) -> State
     ensures { λ r. ⌜ r ≡ stateWith frames len width (tallyFrom (next .0)) ⌝ }
 {
     let counts = [0u32; 8];

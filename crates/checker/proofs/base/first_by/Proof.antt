@@ -10,7 +10,7 @@ use mir.Syntax.{w32}
 use mir.Val.{toZ, ofZ}
 use mir.Facts.{toZ-pos}
 use mir.ValLaws.{toZ-ofZ}
-use Rattle.checker.proofs.CodeBase.{negated, first-below, first-above}
+use Rattle.checker.proofs.CodeBase.{size-below, first-below, first-above}
 use Rattle.checker.proofs.base.first_by.Statement.{statement}
 use Rattle.checker.proofs.base.first_by.Tie as tie
 
@@ -20,32 +20,32 @@ same s = toZ-ofZ w32 (s .args .offset) (s .fits .offset)
 small : (s : tie.Start) → natAbs (s .args .offset) < 2 ^ 31
 small s = omega (arith, s .pre .1)
 
-short : (s : tie.Start) → ltZ (toZ w32 (ofZ w32 (s .args .offset))) (pos 0) ≡ true
+back : (s : tie.Start) → ltZ (toZ w32 (ofZ w32 (s .args .offset))) (pos 0) ≡ true
     → pos 0 -ℤ toZ w32 (ofZ w32 (s .args .offset)) ≡ pos (natAbs (s .args .offset))
-short s e = ap (λ (x : ℤ). pos 0 -ℤ x) (same s) ∙ negated (s .args .offset) (rw (same s) at e)
+back s e = ap (λ (x : ℤ). pos 0 -ℤ x) (same s) ∙ size-below (s .args .offset) (rw (same s) at e)
 
-sub-short : tie.Need-sub-short
-sub-short c =
+sub-back : tie.Need-sub-back
+sub-back c =
     let entry = c .before in
-    rw (short entry (c .if1 .taken)) (record { sfits = small entry })
+    rw (back entry (c .if1 .taken)) (record { sfits = small entry })
 
-cast-short : tie.Need-cast-short
-cast-short c =
+cast-back : tie.Need-cast-back
+cast-back c =
     let entry = c .before in
-    rw (short entry (c .if1 .taken), toZ-pos w32 {n = natAbs (entry .args .offset)} (small entry))
+    rw (back entry (c .if1 .taken), toZ-pos w32 {n = natAbs (entry .args .offset)} (small entry))
     (tt, record { fits = omega (arith, small entry) })
 
 add-t9 : tie.Need-add-t9
 add-t9 c =
     let entry = c .before in
-    rw (short entry (c .if1 .taken), toZ-pos w32 {n = natAbs (entry .args .offset)} (small entry))
+    rw (back entry (c .if1 .taken), toZ-pos w32 {n = natAbs (entry .args .offset)} (small entry))
     (omega (arith, small entry))
 
 returns : tie.Need-returns
 returns c =
     let entry = c .before in
     let a = entry .args in
-    rw (short entry (c .if1 .taken), toZ-pos w32 {n = natAbs (a .offset)} (small entry))
+    rw (back entry (c .if1 .taken), toZ-pos w32 {n = natAbs (a .offset)} (small entry))
     (first-below (a .factor) (a .offset) (rw (same entry) at (c .if1 .taken)))
 
 returns-2 : tie.Need-returns-2
@@ -54,4 +54,4 @@ returns-2 c =
     first-above (entry .args .factor) (entry .args .offset) (rw (same entry) at (c .if1 .left))
 
 pub first-by-spec : {M : Type 1} → statement M
-first-by-spec = tie.close (tie.spec sub-short cast-short (λ c. search needs) add-t9 (λ c. search needs) returns returns-2)
+first-by-spec = tie.close (tie.spec sub-back cast-back (λ c. search needs) add-t9 (λ c. search needs) returns returns-2)

@@ -34,8 +34,8 @@ element-write-bases c =
     let entry = at-if1 .before .before in
     omega (arith, entry .pre .0 .limits (at-if1 .if1 .taken) .event, entry .pre .1)
 
-earlier-requires : tie.Need-earlier-requires
-earlier-requires c κs =
+sooner-requires : tie.Need-sooner-requires
+sooner-requires c κs =
     let at-struct-told = c .before .before in
     let at-if1 = at-struct-told .before .before .before in
     let entry = at-if1 .before .before in
@@ -49,7 +49,7 @@ returns c =
     let entry = at-if1 .before .before in
     let t = eq-eqb (entry .args .x .kind) referenceByte (at-if1 .if1 .taken) in
     let z = same (at-lower .before) in
-    (simp length-set (entry .pre .1), (rw (t, at-lower .lower .ensures, z), rw (t, c .earlier .ensures, z)))
+    (simp length-set (entry .pre .1), (rw (t, at-lower .lower .ensures, z), rw (t, c .sooner .ensures, z)))
 
 returns-2 : tie.Need-returns-2
 returns-2 c =
@@ -67,6 +67,6 @@ with-frame-spec =
     lower-requires
     (λ c. search needs)
     element-write-bases
-    earlier-requires
+    sooner-requires
     returns
     returns-2)

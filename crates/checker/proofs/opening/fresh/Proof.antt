@@ -27,7 +27,7 @@ unfolding freshState
 returns c =
     let at-copied = c .before in
     let at-starts-at = at-copied .before .before in
-    rw (sym (at-copied .copied .ensures), sym (at-starts-at .starts-at .ensures .1)) (c .first2 .ensures)
+    rw (sym (at-copied .copied .ensures), sym (at-starts-at .starts-at .ensures .1)) (c .at-first .ensures)
 
 pub fresh-spec : {M : Type 1} → statement M
 fresh-spec = tie.close (tie.spec starts-at-requires cast-n copied-requires (λ c κs. search needs) returns)
