@@ -11,6 +11,7 @@ use dillplatter_second::{bench, bench_old, read};
 use std::collections::BTreeSet;
 use std::fs::File;
 use std::io::{Seek, Write};
+use std::ops::Range;
 use std::os::fd::OwnedFd;
 use std::os::unix::net::UnixDatagram;
 use std::path::{Path, PathBuf};
@@ -187,24 +188,32 @@ fn stored_cases() {
     }
 }
 
+/// Random rules on random logs, each beside the second checker: the rules with what was printed, more than 1,000 lines.
+fn random_runs(name: &str, seeds: Range<u64>, rule: RuleOf) -> Vec<(String, String)> {
+    let room = Room::new(name);
+    let runs: Vec<(String, String)> = seeds
+        .map(|seed| {
+            let random = &mut Random::new(seed);
+            let rule = random_rule(random, rule);
+            let lines = random.pick(&[0, 1, 2, 20, 200, 2_000]);
+            let log = random_log(random, lines, random_line);
+            let printed = room.run(rule.as_bytes(), &log);
+            let expected = bench(rule.as_bytes(), &log);
+            same(&printed, &expected, &format!("seed {seed}"));
+            (rule, printed)
+        })
+        .collect();
+    let lines: usize = runs
+        .iter()
+        .map(|(_, printed)| printed.lines().count())
+        .sum();
+    assert!(lines > 1_000, "{lines}");
+    runs
+}
+
 #[test]
 fn random_logs() {
-    let room = Room::new("random");
-    let mut printed_lines = 0;
-    for seed in 0..200 {
-        let random = &mut Random::new(seed + 80_000_000);
-        let rule = random_rule(random, rule);
-        let lines = random.pick(&[0, 1, 2, 20, 200, 2_000]);
-        let log = random_log(random, lines, random_line);
-        let printed = room.run(rule.as_bytes(), &log);
-        same(
-            &printed,
-            &bench(rule.as_bytes(), &log),
-            &format!("seed {seed}"),
-        );
-        printed_lines += printed.lines().count();
-    }
-    assert!(printed_lines > 1_000, "{printed_lines}");
+    random_runs("random", 80_000_000..80_000_200, rule);
 }
 
 /// The start of a rule's text.
@@ -226,25 +235,12 @@ fn totals(printed: &str) -> [u32; 3] {
 
 #[test]
 fn random_logs_of_rules_that_start_late() {
-    let room = Room::new("late");
-    let (mut late, mut printed_lines) = (0, 0);
-    for seed in 0..200 {
-        let random = &mut Random::new(seed + 390_000_000);
-        let rule = random_rule(random, late_rule);
-        let lines = random.pick(&[0, 1, 2, 20, 200, 2_000]);
-        let log = random_log(random, lines, random_line);
-        let printed = room.run(rule.as_bytes(), &log);
-        same(
-            &printed,
-            &bench(rule.as_bytes(), &log),
-            &format!("seed {seed}"),
-        );
-        let verdicts: u32 = totals(&printed).iter().sum();
-        late += usize::from(start(&rule) > 0 && verdicts > 0);
-        printed_lines += printed.lines().count();
-    }
+    let runs = random_runs("late", 390_000_000..390_000_200, late_rule);
+    let is_late = |(rule, printed): &&(String, String)| {
+        start(rule) > 0 && totals(printed).iter().sum::<u32>() > 0
+    };
+    let late = runs.iter().filter(is_late).count();
     assert!(late > 90, "{late}");
-    assert!(printed_lines > 1_000, "{printed_lines}");
 }
 
 #[test]
