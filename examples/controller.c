@@ -104,7 +104,6 @@ static int begin(void) {
         printf("opening refused with %" PRIu32 " at %" PRIu32 "\n", told.number, told.place);
         return 0;
     }
-    pull_all();
     return 1;
 }
 

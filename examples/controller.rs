@@ -179,7 +179,7 @@ fn main() {
         println!("opening refused with {} at {}", opened.number, opened.place);
         return;
     }
-    let mut state = pull_all(opened.state, &window, &mut report);
+    let mut state = opened.state;
     let today = [*b"000000000A000000000000000000000000", *b"0100000028000000000000000000000000"];
     let raised = [from_old(b"00003200000000"), from_old(b"01004b00000000")];
     for line in today.iter().chain(&raised) {

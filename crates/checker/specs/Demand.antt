@@ -54,7 +54,7 @@ unfoldable pub verdicts : List Out → List Verdict
 verdicts [] = []
 verdicts (o ∷ os) = handed (answerOf o) (verdicts os)
 
--- f at i, i + 1, .., i + n - 1, for the instances before p, "the number p of verdicts pulled"
+-- f at i, i + 1, .., i + n - 1, for the instances from the first on, "verdicts pulled"
 unfoldable pub instancesFrom : {A : Type 0} → ℕ → ℕ → (ℕ → A) → List A
 instancesFrom i zero f = []
 instancesFrom i (suc n) f = f i ∷ instancesFrom (i + 1) n f

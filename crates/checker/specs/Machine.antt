@@ -19,7 +19,7 @@ use Rattle.checker.specs.Calls.{Call, feed, pull, fed, pulled, Step}
 use Rattle.checker.specs.declared.Totals.{Totals}
 
 -- plain machine is the document's term. "per event the list of its accepted lines, each as its four notes, empty at first; the
--- number p of verdicts pulled and a total for each of the verdicts, 0 at first"; next is p
+-- number p .. and a total for each of the verdicts, 0 at first"; next is p, the instance of the next verdict
 pub record Machine : Type 0 where
   pub lists : ℕ → List (List ℤ)
   pub next : ℕ
