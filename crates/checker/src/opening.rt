@@ -69,10 +69,9 @@ fn fresh(frames: &[u8], width: u32) -> State
     ensures { λ r. ⌜ r ≡ freshState (now (frames .entry)) width ⌝ }
 {
     let starts = base::starts_at(frames, Instance(0));
-    let first = starts.first;
     let n = (frames.len() / FRAME_BYTES) as u32;
     let bytes = copied(frames);
-    parts::at_first(bytes, n, width, first)
+    parts::at_first(bytes, n, width, starts.first)
 }
 
 // The state that is zero throughout.

@@ -14,19 +14,19 @@ starts-at-requires c κs =
 
 cast-n : tie.Need-cast-n
 cast-n c =
-    let entry = c .before .before .before in
+    let entry = c .before .before in
     record { fits = omega (arith, passed (entry .args .frames .now) (entry .pre) .whole .most) }
 
 copied-requires : tie.Need-copied-requires
 copied-requires c κs =
-    let entry = c .before .before .before in
+    let entry = c .before .before in
     passed (entry .args .frames .now) (entry .pre) .whole .most
 
 returns : tie.Need-returns
 unfolding freshState
 returns c =
     let at-copied = c .before in
-    let at-starts-at = at-copied .before .before in
+    let at-starts-at = at-copied .before in
     rw (sym (at-copied .copied .ensures), sym (at-starts-at .starts-at .ensures .1)) (c .at-first .ensures)
 
 pub fresh-spec : {M : Type 1} → statement M
