@@ -28,7 +28,7 @@ use Rattle.rule.proofs.Laws.{latency, latencyText, bytes}
 use Rattle.log.specs.Digit.{digitValue}
 use Rattle.log.specs.Line.{digitsAtFront, badPlace, lineOf}
 use Rattle.log.specs.Walk.{linesOf}
-use Rattle.checker.specs.Base.{ofEvent, referenced, smallest, base, firstInstance}
+use Rattle.checker.specs.Base.{ofEvent, referenced, smallest, base, someNotVoid, firstFrom, firstInstance}
 use Rattle.checker.specs.State.{stateWith, freshState, withTally}
 use Rattle.checker.specs.Ring.{stored, kept}
 use Rattle.checker.specs.Open.{openDef}
@@ -145,7 +145,7 @@ record Feeds : Type 0 where
   fourth : fedLine after3 line4 ≡ fed4
 
 feeds : Feeds
-unfolding kindOf referenceCount orderOf sizesFit treeOf checkedOf digitValue digitsAtFront badPlace lineOf ofEvent referenced smallest base firstInstance rulePasses countPasses allTo tallyPasses statePasses admission withTally stored kept feedEvent feedDef reportBytes pullRead pullDef hexOf pulledOnce fedLine
+unfolding kindOf referenceCount orderOf sizesFit treeOf checkedOf digitValue digitsAtFront badPlace lineOf ofEvent referenced smallest base someNotVoid firstFrom firstInstance rulePasses countPasses allTo tallyPasses statePasses admission withTally stored kept feedEvent feedDef reportBytes pullRead pullDef hexOf pulledOnce fedLine
 feeds = record { first = refl; second = refl; third = refl; fourth = refl }
 
 record Rests : Type 0 where
@@ -156,7 +156,7 @@ record Rests : Type 0 where
   fourth : Waits after4
 
 rests : Rests
-unfolding kindOf referenceCount orderOf sizesFit treeOf checkedOf digitValue digitsAtFront badPlace lineOf ofEvent referenced smallest base firstInstance rulePasses countPasses allTo tallyPasses statePasses admission withTally stored kept feedEvent feedDef reportBytes pullRead pullDef hexOf pulledOnce fedLine
+unfolding kindOf referenceCount orderOf sizesFit treeOf checkedOf digitValue digitsAtFront badPlace lineOf ofEvent referenced smallest base someNotVoid firstFrom firstInstance rulePasses countPasses allTo tallyPasses statePasses admission withTally stored kept feedEvent feedDef reportBytes pullRead pullDef hexOf pulledOnce fedLine
 rests =
     record {
       at-first = record { none = refl; same = refl };
@@ -168,16 +168,16 @@ rests =
 
 -- instance 0 is false, with its report; instance 1 is true
 false-0 : Pulls fed2 after2
-unfolding kindOf referenceCount orderOf sizesFit treeOf checkedOf digitValue digitsAtFront badPlace lineOf ofEvent referenced smallest base firstInstance rulePasses countPasses allTo tallyPasses statePasses admission withTally stored kept feedEvent feedDef reportBytes pullRead pullDef hexOf pulledOnce fedLine
+unfolding kindOf referenceCount orderOf sizesFit treeOf checkedOf digitValue digitsAtFront badPlace lineOf ofEvent referenced smallest base someNotVoid firstFrom firstInstance rulePasses countPasses allTo tallyPasses statePasses admission withTally stored kept feedEvent feedDef reportBytes pullRead pullDef hexOf pulledOnce fedLine
 false-0 = record { some = refl; then = refl }
 
 true-1 : Pulls fed4 after4
-unfolding kindOf referenceCount orderOf sizesFit treeOf checkedOf digitValue digitsAtFront badPlace lineOf ofEvent referenced smallest base firstInstance rulePasses countPasses allTo tallyPasses statePasses admission withTally stored kept feedEvent feedDef reportBytes pullRead pullDef hexOf pulledOnce fedLine
+unfolding kindOf referenceCount orderOf sizesFit treeOf checkedOf digitValue digitsAtFront badPlace lineOf ofEvent referenced smallest base someNotVoid firstFrom firstInstance rulePasses countPasses allTo tallyPasses statePasses admission withTally stored kept feedEvent feedDef reportBytes pullRead pullDef hexOf pulledOnce fedLine
 true-1 = record { some = refl; then = refl }
 
 -- opening, and the whole run
 opens : beforeLog (openedFor framesOf5) ≡ start
-unfolding openDef freshState smallest firstInstance checkedOf kindOf orderOf referenceCount sizesFit treeOf
+unfolding openDef freshState someNotVoid firstFrom firstInstance checkedOf kindOf orderOf referenceCount sizesFit treeOf
 opens = refl
 
 abbrev four : List (List ℕ)
@@ -243,23 +243,23 @@ abbrev one3 : Progress
 one3 = come filled3 3 1 0 2 0 1 minusOne (lines ("00000001000100FFFFFFFF" ∷ [])) 1
 
 opens-3 : beforeLog (openedFor framesOf3) ≡ none3
-unfolding openDef freshState smallest firstInstance checkedOf kindOf orderOf referenceCount sizesFit treeOf
+unfolding openDef freshState someNotVoid firstFrom firstInstance checkedOf kindOf orderOf referenceCount sizesFit treeOf
 opens-3 = refl
 
 none-waits : Waits none3
-unfolding kindOf referenceCount orderOf sizesFit treeOf checkedOf digitValue digitsAtFront badPlace lineOf ofEvent referenced smallest base firstInstance rulePasses countPasses allTo tallyPasses statePasses admission withTally stored kept feedEvent feedDef reportBytes pullRead pullDef hexOf pulledOnce fedLine
+unfolding kindOf referenceCount orderOf sizesFit treeOf checkedOf digitValue digitsAtFront badPlace lineOf ofEvent referenced smallest base someNotVoid firstFrom firstInstance rulePasses countPasses allTo tallyPasses statePasses admission withTally stored kept feedEvent feedDef reportBytes pullRead pullDef hexOf pulledOnce fedLine
 none-waits = record { none = refl; same = refl }
 
 feeds-3 : fedLine none3 (bytes "00FFFFFFFF000000000000000000000000") ≡ fed3
-unfolding kindOf referenceCount orderOf sizesFit treeOf checkedOf digitValue digitsAtFront badPlace lineOf ofEvent referenced smallest base firstInstance rulePasses countPasses allTo tallyPasses statePasses admission withTally stored kept feedEvent feedDef reportBytes pullRead pullDef hexOf pulledOnce fedLine
+unfolding kindOf referenceCount orderOf sizesFit treeOf checkedOf digitValue digitsAtFront badPlace lineOf ofEvent referenced smallest base someNotVoid firstFrom firstInstance rulePasses countPasses allTo tallyPasses statePasses admission withTally stored kept feedEvent feedDef reportBytes pullRead pullDef hexOf pulledOnce fedLine
 feeds-3 = refl
 
 false-3 : Pulls fed3 one3
-unfolding kindOf referenceCount orderOf sizesFit treeOf checkedOf digitValue digitsAtFront badPlace lineOf ofEvent referenced smallest base firstInstance rulePasses countPasses allTo tallyPasses statePasses admission withTally stored kept feedEvent feedDef reportBytes pullRead pullDef hexOf pulledOnce fedLine
+unfolding kindOf referenceCount orderOf sizesFit treeOf checkedOf digitValue digitsAtFront badPlace lineOf ofEvent referenced smallest base someNotVoid firstFrom firstInstance rulePasses countPasses allTo tallyPasses statePasses admission withTally stored kept feedEvent feedDef reportBytes pullRead pullDef hexOf pulledOnce fedLine
 false-3 = record { some = refl; then = refl }
 
 one-waits : Waits one3
-unfolding kindOf referenceCount orderOf sizesFit treeOf checkedOf digitValue digitsAtFront badPlace lineOf ofEvent referenced smallest base firstInstance rulePasses countPasses allTo tallyPasses statePasses admission withTally stored kept feedEvent feedDef reportBytes pullRead pullDef hexOf pulledOnce fedLine
+unfolding kindOf referenceCount orderOf sizesFit treeOf checkedOf digitValue digitsAtFront badPlace lineOf ofEvent referenced smallest base someNotVoid firstFrom firstInstance rulePasses countPasses allTo tallyPasses statePasses admission withTally stored kept feedEvent feedDef reportBytes pullRead pullDef hexOf pulledOnce fedLine
 one-waits = record { none = refl; same = refl }
 
 begun-3 : begun (openedFor framesOf3) ≡ none3

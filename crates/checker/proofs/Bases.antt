@@ -1,10 +1,10 @@
 -- Laws of a rule's references: an event's base is at most the start of each of its references, is that of one of them, and rises
 -- with p; the first instance is the least at which some reference isn't void. Assumes nothing.
-use mathlib.Core.Path.{_≡_, refl, sym, _∙_, ap}
-use mathlib.Core.Bool.{Bool, true, false, cond}
+use mathlib.Core.Path.{_≡_, refl, sym, _∙_, ap, subst}
+use mathlib.Core.Bool.{Bool, true, false, cond, _||_, or-true}
 use mathlib.Core.List.{List, [], _∷_, map, List·Memᴰ, List·Memᴰ·head, List·Memᴰ·tail, List·Memᴰ·cases-cons}
 use mathlib.Core.Logic.{_↔_, _≢_, inl, inr, ⊎-elim}
-use Prim.Native.Nat.{ℕ, suc, _+_, _*_, _-_, _<_, _≤_}
+use Prim.Native.Nat.{ℕ, zero, suc, _+_, _*_, _-_, _<_, _≤_}
 use native.Mathlib.Nat.{mul-le-mul-left, mul-le-mul-right, mul-comm, suc-mul, div-lt-iff-lt-mul}
 use native.Mathlib.Omega.{arith}
 use borrow.Author.Tests.{eq-eqb, eqb-true, ltb-true, lt-ltb, le-ltb}
@@ -12,15 +12,17 @@ use lib.Dec.{ltb, eqb, leb→le, le→leb}
 use lib.IntN.{ℤ, pos, negsuc, natAbs, subℕ, _+ℤ_, _*ℤ_, pos-ne-negsuc}
 use Rattle.rule.specs.Limits.{offsetLimit}
 use Rattle.rule.specs.Tree.{Reference, LimitsR}
+use Rattle.rule.proofs.Laws.{AllWithin}
 use Rattle.numbers.proofs.Bools.{true-false}
-use Rattle.verdict.specs.Found.{meantBy, pending, Lookup, resolve}
+use Rattle.verdict.specs.Found.{meantBy, meant, pending, Lookup, resolve}
 use Rattle.verdict.specs.declared.Meant.{Meant}
 use Rattle.verdict.specs.declared.Meant.the-variants.{Void, At}
 use Rattle.verdict.proofs.Laws.{resolve-late}
 use Rattle.checker.specs.Base.{ofEvent, isSome, referenced, orZero, startAt, smallest, base}
 use Rattle.checker.specs.Base.{ReferenceTo, Referenced, Maximum, SmallestStart}
-use Rattle.checker.specs.Base.{roundedUp, firstBy, firstOf, firstInstance, SomeNotVoid, FirstInstance}
-use Rattle.checker.proofs.Choices.{cond-case, less-or}
+use Rattle.checker.specs.Base.{isNotVoid, someNotVoid, firstFrom, firstInstance, SomeNotVoid, FirstInstance}
+use Rattle.checker.specs.BasePass.{roundedUp, firstBy, firstOf}
+use Rattle.checker.proofs.Choices.{cond-case, never-true, less-or}
 
 -- ---- an event's references
 in-event : (e : ℕ) (refs : List Reference) (r : Reference) → r .event ≡ e → List·Memᴰ r refs → List·Memᴰ r (ofEvent e refs)
@@ -179,6 +181,38 @@ unfolding base
 base-mono refs e p q h = smallest-mono (startAt p) (startAt q) (λ r. start-mono r p q h) (ofEvent e refs)
 
 -- ---- the first instance at which a reference isn't void
+not-void : (m : Meant) → (m ≢ Void) ↔ (isNotVoid m ≡ true)
+not-void Void = (λ n. absurd (n refl), λ q. absurd (true-false (sym q)))
+not-void (At k) = (λ n. refl, λ q z. true-false (ap isNotVoid z))
+
+some-not-void : (refs : List Reference) (i : ℕ) → (someNotVoid refs i ≡ true) ↔ SomeNotVoid refs i
+unfolding someNotVoid
+some-not-void [] i = (λ q. absurd (true-false (sym q)), λ h. elim (h .one) [ ])
+some-not-void (x ∷ xs) i = (to (isNotVoid (meant i x)) refl (some-not-void xs i .0), back (some-not-void xs i .1))
+  where
+    to : (t : Bool) → isNotVoid (meant i x) ≡ t → (someNotVoid xs i ≡ true → SomeNotVoid xs i)
+        → (t || someNotVoid xs i) ≡ true → SomeNotVoid (x ∷ xs) i
+    to true e ih q = record { reference = x; one = List·Memᴰ·head refl; not-void = not-void (meant i x) .1 e }
+    to false e ih q = let h = ih q in record { reference = h .reference; one = List·Memᴰ·tail (h .one); not-void = h .not-void }
+
+    back : (SomeNotVoid xs i → someNotVoid xs i ≡ true) → SomeNotVoid (x ∷ xs) i → (isNotVoid (meant i x) || someNotVoid xs i) ≡ true
+    back ih h =
+        ⊎-elim
+        (λ (p : h .reference ≡ x). rw (not-void (meant i x) .0 (λ z. h .not-void (ap (meant i) p ∙ z))))
+        (λ (m : List·Memᴰ (h .reference) xs).
+        rw (ih (record { reference = h .reference; one = m; not-void = h .not-void })) (or-true (isNotVoid (meant i x))))
+        (List·Memᴰ·cases-cons (h .one))
+
+first-found : (n i m : ℕ) (f : ℕ → Bool) → i ≤ m → m ≤ i + n → f m ≡ true → ((j : ℕ) → j < m → f j ≡ false) → firstFrom n i f ≡ m
+unfolding firstFrom
+first-found zero i m f a b t none = omega arith
+first-found (suc n) i m f a b t none =
+    ⊎-elim
+    (λ (l : i < m). rw (none i l) (first-found n (i + 1) m f (omega arith) (omega arith) t none))
+    (λ (l : m ≤ i). let e : i ≡ m = omega arith in rw (e, t))
+    (less-or i m)
+
+-- by the offset's sign, as a quotient
 round-exactly : (n d i : ℕ) → 1 ≤ d → (roundedUp n d ≤ i) ↔ (n ≤ d * i)
 round-exactly n d i h =
     let b = div-lt-iff-lt-mul {k = d} {x = n + (d - 1)} {y = suc i} (omega arith) in
@@ -188,19 +222,14 @@ round-exactly n d i h =
       λ l. omega (arith, b .1 (omega (arith, l, m, c))),
     )
 
-abbrev isVoid : Meant → Bool
-isVoid Void = true
-isVoid (At k) = false
-
 void-sub : (a b : ℕ) → (meantBy (subℕ a b) ≢ Void) ↔ (b ≤ a)
 void-sub a b = (
   λ n. ⊎-elim (λ (h : a < b). absurd (n (rw (lt-ltb a b h)))) (λ (h : b ≤ a). h) (less-or a b),
-  λ h q. true-false (sym (ap isVoid q) ∙ rw (le-ltb a b h)),
+  λ h. not-void (meantBy (subℕ a b)) .1 (rw (le-ltb a b h)),
 )
 
--- by the offset's sign
 void-by : (f i : ℕ) (z : ℤ) → 1 ≤ f → (meantBy (pos (f * i) +ℤ z) ≢ Void) ↔ (firstBy f z ≤ i)
-void-by f i (pos k) h = (λ n. omega arith, λ l q. true-false (sym (ap isVoid q)))
+void-by f i (pos k) h = (λ n. omega arith, λ l q. true-false (ap isNotVoid q))
 void-by f i (negsuc k) h =
     let s = void-sub (f * i) (suc k) in
     let r = round-exactly (suc k) f i h in
@@ -213,19 +242,25 @@ first-by-most f (negsuc k) h l = round-exactly (suc k) f offsetLimit h .1 (omega
 pub first-of-most : (r : Reference) → LimitsR r → firstOf r ≤ offsetLimit
 first-of-most r l = first-by-most (r .factor) (r .offset) (l .least) (l .offset)
 
--- of a rule
+pub within-member : (rs : List Reference) → AllWithin rs → (r : Reference) → List·Memᴰ r rs → LimitsR r
+within-member [] a r m = elim m [ ]
+within-member (x ∷ xs) a r m =
+    ⊎-elim
+    (λ (p : r ≡ x). subst LimitsR (sym p) (a .0))
+    (λ (n : List·Memᴰ r xs). within-member xs (a .1) r n)
+    (List·Memᴰ·cases-cons m)
+
+-- of a rule: the search finds the smallest of the quotients
 module _ (refs : List Reference) (some : refs ≢ []) (limits : (r : Reference) → List·Memᴰ r refs → LimitsR r) where
-  one-first : (x : Reference) × List·Memᴰ x refs × (firstInstance refs ≡ firstOf x)
-  unfolding firstInstance
+  one-first : (x : Reference) × List·Memᴰ x refs × (smallest (map firstOf refs) ≡ firstOf x)
   one-first = go refs refl
     where
       go : (l : List Reference) → refs ≡ l → (x : Reference) × List·Memᴰ x refs × (smallest (map firstOf refs) ≡ firstOf x)
       go [] q = absurd (some q)
       go (r ∷ l) q = smallest-one firstOf refs r (rw q (List·Memᴰ·head refl))
 
-  pub first-on : (i : ℕ) → SomeNotVoid refs i ↔ (firstInstance refs ≤ i)
-  unfolding firstInstance
-  first-on i = (
+  smallest-on : (i : ℕ) → SomeNotVoid refs i ↔ (smallest (map firstOf refs) ≤ i)
+  smallest-on i = (
     λ s. (let r = s .reference in
         omega (arith, smallest-le firstOf refs r (s .one), void-by (r .factor) i (r .offset) (limits r (s .one) .least) .0 (s .not-void))),
     λ h. (let x = one-first in record {
@@ -234,6 +269,20 @@ module _ (refs : List Reference) (some : refs ≢ []) (limits : (r : Reference) 
       not-void = void-by (x .0 .factor) i (x .0 .offset) (limits (x .0) (x .1) .least) .1 (omega (arith, x .2, h));
     }),
   )
+
+  smallest-most : smallest (map firstOf refs) ≤ offsetLimit
+  smallest-most = let x = one-first in omega (arith, x .2, first-of-most (x .0) (limits (x .0) (x .1)))
+
+  pub first-smallest : firstInstance refs ≡ smallest (map firstOf refs)
+  unfolding firstInstance
+  first-smallest =
+      let q = smallest (map firstOf refs) in
+      first-found offsetLimit 0 q (someNotVoid refs) (omega arith) (omega (arith, smallest-most))
+      (some-not-void refs q .1 (smallest-on q .1 (omega arith)))
+      (λ j l. never-true (someNotVoid refs j) (λ t. absurd (omega (arith, l, smallest-on j .0 (some-not-void refs j .0 t)))))
+
+  pub first-on : (i : ℕ) → SomeNotVoid refs i ↔ (firstInstance refs ≤ i)
+  first-on i = rw first-smallest (smallest-on i)
 
   pub first-exactly : (n : ℕ) → (firstInstance refs ≡ n) ↔ FirstInstance refs n
   first-exactly n = (
@@ -245,7 +294,7 @@ module _ (refs : List Reference) (some : refs ≢ []) (limits : (r : Reference) 
   )
 
   pub first-most : firstInstance refs ≤ offsetLimit
-  first-most = let x = one-first in omega (arith, x .2, first-of-most (x .0) (limits (x .0) (x .1)))
+  first-most = omega (arith, first-smallest, smallest-most)
 
 -- ---- an instance so late that 1,000,000 lines do not reach its references
 pub late-pending : (l : Lookup) (r : Reference) (p : ℕ) → 1 ≤ r .factor → natAbs (r .offset) ≤ 9999 → l .count (r .event) ≤ 1000000 → 1009999 ≤ p

@@ -18,7 +18,7 @@ use Rattle.verdict.specs.declared.Verdict.{Verdict}
 use Rattle.verdict.specs.declared.Verdict.the-variants.{True, False, Unknown}
 use Rattle.checker.specs.Limits.{windowWords}
 use Rattle.checker.specs.Answer.{opened, accepted, waiting, verdict, refused}
-use Rattle.checker.specs.Base.{ofEvent, referenced, smallest, base, firstInstance}
+use Rattle.checker.specs.Base.{ofEvent, referenced, smallest, base, someNotVoid, firstFrom, firstInstance}
 use Rattle.checker.specs.State.{Tally, tallyIn, freshState, withTally}
 use Rattle.checker.specs.Ring.{stored, kept}
 use Rattle.checker.specs.Open.{openDef}
@@ -34,7 +34,7 @@ use Rattle.checker.proofs.Marked.{digits, line, next}
 
 -- ---- rules; a is event 0 and b event 1, t is note 0 and u note 1
 -- note n of event e at factor × i + offset
-abbrev note : ℕ → ℕ → ℕ → ℤ → Sum
+abbrev pub note : ℕ → ℕ → ℕ → ℤ → Sum
 note n e factor offset = reference (record { event = e; note = n; factor = factor; offset = offset })
 
 -- t(a[2*i+1]) - t(a[2*i]) < 9: base 2 × p
@@ -242,6 +242,6 @@ pub record CallsShown (xs : List CallExample) : Type 0 where
   pub words : map (λ x. checkerAfter (framesOf x) (x .width) (windowOf x) (x .calls) .words) xs ≡ map (λ x. x .words) xs
 
 pub calls-shown : CallsShown table
-unfolding kindOf referenceCount orderOf sizesFit treeOf checkedOf digitValue digitsAtFront badPlace lineOf ofEvent referenced smallest base firstInstance freshState withTally stored kept openDef rulePasses countPasses allTo tallyPasses statePasses admission feedEvent feedDef reportBytes pullRead pullDef outs end tabulated joined moved
+unfolding kindOf referenceCount orderOf sizesFit treeOf checkedOf digitValue digitsAtFront badPlace lineOf ofEvent referenced smallest base someNotVoid firstFrom firstInstance freshState withTally stored kept openDef rulePasses countPasses allTo tallyPasses statePasses admission feedEvent feedDef reportBytes pullRead pullDef outs end tabulated joined moved
 calls-shown =
     record { opening = refl; machine = refl; checker = refl; machine-tally = refl; checker-tally = refl; words = refl }

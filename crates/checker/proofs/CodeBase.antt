@@ -26,13 +26,13 @@ use Rattle.rule.proofs.Laws.{AllWithin, references-within, reference-at, passed
 use Rattle.verdict.specs.Found.{instanceLimit, meantBy}
 use Rattle.verdict.proofs.Laws.{natAbs-add}
 use Rattle.checker.specs.Limits.{lineLimit}
-use Rattle.checker.specs.Base.{ofEvent, isSome, referenced, orZero, startAt, smallest, base, firstBy, firstOf, firstInstance, firstFor}
+use Rattle.checker.specs.Base.{ofEvent, isSome, referenced, orZero, startAt, smallest, base, firstInstance, firstFor}
 use Rattle.checker.specs.State.{Tally}
 use Rattle.checker.specs.StateTest.{allTo, countPasses, totalsPass, tallyPasses}
 use Rattle.checker.specs.BasePass.{noBase, lowered, basesWith, basesTo, basesOf, Startable, Passable, countFits, tallyFits}
-use Rattle.checker.specs.BasePass.{sooner, firstWith, firstTo}
+use Rattle.checker.specs.BasePass.{firstBy, firstOf, sooner, firstWith, firstTo}
 use Rattle.checker.specs.declared.Totals.{Totals}
-use Rattle.checker.proofs.Bases.{first-of-most}
+use Rattle.checker.proofs.Bases.{first-of-most, within-member, first-smallest}
 
 -- ---- the tree of accepted bytes
 pub bytes-take : (n : ℕ) (s : List ℕ) → ((i : ℕ) → getD s i 0 < 256) → Bytes (take n s)
@@ -202,9 +202,9 @@ first-over [] first = refl
 first-over (r ∷ rs) first = first-over rs (min first (firstOf r))
 
 first-from : (rs : List Reference) → rs ≢ [] → AllWithin rs → minOver offsetLimit (map firstOf rs) ≡ firstInstance rs
-unfolding firstInstance
 first-from [] n w = absurd (n refl)
-first-from (r ∷ rs) n w = min-from firstOf offsetLimit r rs (first-of-most r (w .0))
+first-from (r ∷ rs) n w =
+    min-from firstOf offsetLimit r rs (first-of-most r (w .0)) ∙ sym (first-smallest (r ∷ rs) n (within-member (r ∷ rs) w))
 
 first-is : {s : List ℕ} → Bytes s → checkedOf s ≡ checking.accepted → firstTo s (frameCount s) ≡ firstFor s
 unfolding accepted-rule

@@ -1,8 +1,8 @@
 -- What an unrefused opening gives back is in step with the plain machine at first. Assumes nothing.
 use mathlib.Core.Path.{_≡_, refl, sym, _∙_, ap, subst}
 use mathlib.Core.Bool.{Bool, true, false, _&&_, cond}
-use mathlib.Core.List.{List, [], _∷_, List·Memᴰ, List·Memᴰ·cases-cons}
-use mathlib.Core.Logic.{_↔_, ⊎-elim}
+use mathlib.Core.List.{List, map}
+use mathlib.Core.Logic.{_↔_}
 use Prim.Native.Nat.{ℕ, _*_, _-_, _/_, _≤_}
 use native.Mathlib.Omega.{arith}
 use borrow.Author.Tests.{le-leb}
@@ -11,24 +11,26 @@ use lib.ListN.{length, replicate, length-replicate}
 use lib.Seq.{take-at}
 use Rattle.rule.specs.Limits.{offsetLimit, frameLimit, frameBytes}
 use Rattle.rule.specs.Frames.{Bytes}
-use Rattle.rule.specs.Tree.{Reference, references, postfix, LimitsR}
+use Rattle.rule.specs.Tree.{references, postfix}
 use Rattle.rule.specs.Build.{treeOf}
 use Rattle.rule.specs.Check.{checkedOf}
 use Rattle.rule.specs.Opening.{Proper}
 use Rattle.rule.specs.CheckTold.{CheckAnswer}
 use Rattle.rule.specs.CheckTold as checking
 use Rattle.rule.proofs.Main.{frames-exactly, tree-of}
-use Rattle.rule.proofs.Laws.{proper-rule, rule-length, AllWithin, references-within}
+use Rattle.rule.proofs.Laws.{proper-rule, rule-length, references-within}
 use Rattle.numbers.proofs.Bools.{true-false, and-true}
 use Rattle.checker.specs.Limits.{windowWords}
 use Rattle.checker.specs.Answer.{Answer, opened, accepted, ignored, waiting, verdict, refused}
-use Rattle.checker.specs.Base.{firstFor, SomeNotVoid, FirstInstance}
+use Rattle.checker.specs.Base.{smallest, firstFor, SomeNotVoid, FirstInstance}
+use Rattle.checker.specs.BasePass.{firstOf}
 use Rattle.checker.specs.State.{countOf, freshState}
 use Rattle.checker.specs.Open.{OpenResult, widthFits, windowFits, openedAs, notOpened, afterFrames, openDef}
 use Rattle.checker.specs.Calls.{Checker}
 use Rattle.checker.specs.Demand.{Unrefused, fresh}
 use Rattle.checker.specs.Machine.{tabulated, atFirst, tallyOf}
 use Rattle.checker.proofs.Bases as bases
+pub use Rattle.checker.proofs.Bases.{within-member}
 use Rattle.checker.proofs.Simulation.{Fine, Both, count-of}
 
 -- ---- an opening that is not refused
@@ -65,14 +67,6 @@ passed frames w win h =
     record { accepted = q .0; width = q .1 .0; result = q .1 .1 }
 
 -- ---- accepted frames
-pub within-member : (rs : List Reference) → AllWithin rs → (r : Reference) → List·Memᴰ r rs → LimitsR r
-within-member [] a r m = elim m [ ]
-within-member (x ∷ xs) a r m =
-    ⊎-elim
-    (λ (p : r ≡ x). subst LimitsR (sym p) (a .0))
-    (λ (n : List·Memᴰ r xs). within-member xs (a .1) r n)
-    (List·Memᴰ·cases-cons m)
-
 fine : (frames : List ℕ) (w : ℕ) (win : List ℤ) → Bytes frames → Passed frames w win → Fine frames w
 fine frames w win b o =
     let p : Proper frames = frames-exactly b .0 (o .accepted) in
@@ -129,6 +123,9 @@ module _ {frames : List ℕ} {w : ℕ} {win : List ℤ} (o : Unrefused frames w 
 
   pub first-exactly : (n : ℕ) → (firstFor frames ≡ n) ↔ FirstInstance (references (treeOf frames)) n
   first-exactly = bases.first-exactly (references (treeOf frames)) (opened-fine .some) (opened-fine .limits)
+
+  pub first-smallest : firstFor frames ≡ smallest (map firstOf (references (treeOf frames)))
+  first-smallest = bases.first-smallest (references (treeOf frames)) (opened-fine .some) (opened-fine .limits)
 
   pub first-most : firstFor frames ≤ offsetLimit
   first-most = bases.first-most (references (treeOf frames)) (opened-fine .some) (opened-fine .limits)

@@ -28,7 +28,8 @@ use Rattle.verdict.specs.declared.Verdict.{Verdict}
 use Rattle.verdict.specs.declared.Verdict.the-variants.{False, Unknown}
 use Rattle.checker.specs.Limits.{widthLimit, windowWords, lineLimit, reportLeast}
 use Rattle.checker.specs.Answer.{opened, accepted, waiting, verdict, refused, openTold, feedTold, pullTold}
-use Rattle.checker.specs.Base.{referenced, startAt, base, Referenced, Maximum, SmallestStart, firstFor, SomeNotVoid, FirstInstance}
+use Rattle.checker.specs.Base.{referenced, startAt, smallest, base, Referenced, Maximum, SmallestStart, firstFor, SomeNotVoid, FirstInstance}
+use Rattle.checker.specs.BasePass.{firstOf}
 use Rattle.checker.specs.State.{tallyIn, stateFrames, zeroState, SameRule}
 use Rattle.checker.specs.Ring.{wordAt}
 use Rattle.checker.specs.Open.{openDef}
@@ -142,6 +143,10 @@ module _ {frames : List ℕ} {w : ℕ} {win : List ℤ} (o : Unrefused frames w 
   -- from there on, and at none before, some reference isn't void
   pub first-on : (i : ℕ) → SomeNotVoid (references (treeOf frames)) i ↔ (firstFor frames ≤ i)
   first-on = Fresh.first-on o
+
+  -- as a quotient: the smallest over the references of 0 for an offset of 0 or more, else −offset / factor rounded up
+  pub first-smallest : firstFor frames ≡ smallest (map firstOf (references (treeOf frames)))
+  first-smallest = Fresh.first-smallest o
 
   -- at most 9,999
   pub first-most : firstFor frames ≤ offsetLimit

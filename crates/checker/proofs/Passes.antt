@@ -55,7 +55,7 @@ module _ (s : State) (g : statePasses s ≡ true) where
         opens = passes-opens;
         few-lines = λ e l. t .counts e l .few;
         few-verdicts = t .low;
-        begun = t .begun;
+        begun = omega (arith, t .begun);
         sum = t .sum;
         none = λ e l h. t .counts e l .none (never-true (referenced (refsIn s) e) (λ q. h (referenced-exactly (refsIn s) e .0 q)));
         within = λ e l h. t .counts e l .room (referenced-exactly (refsIn s) e .1 h);
@@ -72,7 +72,7 @@ module _ (s : State) (h : Passing s) where
           none = λ q. h .none e l (λ r. true-false (sym (referenced-exactly (refsIn s) e .1 r) ∙ q));
         };
         low = h .few-verdicts;
-        begun = h .begun;
+        begun = omega (arith, h .begun, h .sum);
         sum = h .sum;
       }
 

@@ -16,7 +16,7 @@ use Rattle.rule.specs.Spelling.{decimalFrom, decimal}
 use Rattle.rule.specs.Machine.{deeper, startFactor, step, finish, run}
 use Rattle.rule.specs.Memory.{position, negated, put, acts}
 use Rattle.rule.specs.Frames.{more, or, kindOf}
-use Rattle.rule.specs.Tree.{literal, reference, Cond, relation, connective, postfix, bytesOf}
+use Rattle.rule.specs.Tree.{literal, Cond, relation, connective, postfix, bytesOf}
 use Rattle.rule.specs.References.{referenceCount}
 use Rattle.rule.specs.Order.{orderOf}
 use Rattle.rule.specs.Sizes.{sizesFit}
@@ -27,16 +27,17 @@ use Rattle.rule.specs.Reading.{judged, readOf}
 use Rattle.rule.specs.ReadTold as reading
 use Rattle.rule.proofs.Laws.{bytes}
 use Rattle.checker.specs.Limits.{windowWords}
-use Rattle.checker.specs.Base.{ofEvent, referenced, smallest, base, firstInstance, firstFor}
+use Rattle.checker.specs.Base.{ofEvent, referenced, smallest, base, someNotVoid, firstFrom, firstInstance, firstFor}
 use Rattle.checker.specs.State.{stateWith, freshState}
 use Rattle.checker.specs.Open.{openDef}
 use Rattle.checker.specs.StateTest.{rulePasses, countPasses, allTo, tallyPasses, statePasses}
 use Rattle.checker.specs.Machine.{atFirst}
 use Rattle.checker.specs.declared.State.{State}
+use Rattle.checker.proofs.CallExamples.{note}
 
 -- t(a[..]) > 0 or t(b[..]) > 0, by the event's number, the factor and the offset
 abbrev above : ℕ → ℕ → ℤ → Cond
-above e factor offset = relation more (reference (record { event = e; note = 0; factor = factor; offset = offset })) (literal 0)
+above e factor offset = relation more (note 0 e factor offset) (literal 0)
 
 -- ---- the first instance
 record StartExample : Type 0 where
@@ -64,8 +65,12 @@ starts =
     ∷ record { text = "t(a[i-5]) > 0 || t(b[i-2]) > 0"; rule = connective or (above 0 1 (negsuc 4)) (above 1 1 (negsuc 1)); start = 2 }
     ∷ record { text = "t(b[i-2]) > 0 || t(a[i-5]) > 0"; rule = connective or (above 1 1 (negsuc 1)) (above 0 1 (negsuc 4)); start = 2 }
     ∷ record { text = "t(a[i-5]) > 0 || t(b[i]) > 0"; rule = connective or (above 0 1 (negsuc 4)) (above 1 1 (pos 0)); start = 0 }
-    -- the greatest
-    ∷ record { text = "t(a[i-9998]) > 0"; rule = above 0 1 (negsuc 9997); start = 9998 }
+    ∷ []
+
+-- the greatest
+abbrev latest : List StartExample
+latest =
+    record { text = "t(a[i-9998]) > 0"; rule = above 0 1 (negsuc 9997); start = 9998 }
     ∷ record { text = "t(a[i-9999]) > 0"; rule = above 0 1 (negsuc 9998); start = 9999 }
     ∷ record { text = "t(a[9*i-9999]) > 0"; rule = above 0 9 (negsuc 9998); start = 1111 }
     ∷ []
@@ -76,17 +81,25 @@ framesOf x = bytesOf (postfix (x .rule))
 abbrev textOf : StartExample → List ℕ
 textOf x = bytes "events a b; notes t; " ++ bytes (x .text)
 
--- of the rule's frames, of the plain machine at first, and in the state that opening gives; reading the text gives these frames
-record StartsShown (xs : List StartExample) : Type 0 where
+-- of the rule's frames, which reading the text gives
+record FirstShown (xs : List StartExample) : Type 0 where
   pub frames : map (λ x. readOf (textOf x) (replicate bufferBytes 7)) xs
       ≡ map (λ x. (reading.frames (length (postfix (x .rule))), framesOf x ++ replicate (bufferBytes - length (framesOf x)) 0)) xs
   pub first : map (λ x. firstFor (framesOf x)) xs ≡ map (λ x. x .start) xs
-  pub machine : map (λ x. atFirst (framesOf x) .next) xs ≡ map (λ x. x .start) xs
-  pub opened : map (λ x. openDef (framesOf x) 1 (replicate (windowWords 1) (pos 7)) .state .next .0) xs ≡ map (λ x. x .start) xs
 
-starts-shown : StartsShown starts
-unfolding classOf span same wordKind longestMark markWidth tokenKind widthOf tokenHere tokenAt tokensIn tokensFrom code nameCode decimalFrom decimal numberValue startFactor step finish run deeper position negated put acts judged readOf kindOf referenceCount orderOf sizesFit treeOf checkedOf smallest firstInstance freshState openDef
-starts-shown = record { frames = refl; first = refl; machine = refl; opened = refl }
+starts-shown : FirstShown starts
+unfolding classOf span same wordKind longestMark markWidth tokenKind widthOf tokenHere tokenAt tokensIn tokensFrom code nameCode decimalFrom decimal numberValue startFactor step finish run deeper position negated put acts judged readOf kindOf referenceCount orderOf sizesFit treeOf checkedOf someNotVoid firstFrom firstInstance
+starts-shown = record { frames = refl; first = refl }
+
+latest-shown : FirstShown latest
+unfolding classOf span same wordKind longestMark markWidth tokenKind widthOf tokenHere tokenAt tokensIn tokensFrom code nameCode decimalFrom decimal numberValue startFactor step finish run deeper position negated put acts judged readOf kindOf referenceCount orderOf sizesFit treeOf checkedOf someNotVoid firstFrom firstInstance
+latest-shown = record { frames = refl; first = refl }
+
+-- of the plain machine at first, and in the state that opening gives
+p-shown : (map (λ x. atFirst (framesOf x) .next) starts ≡ map (λ x. x .start) starts)
+    × (map (λ x. openDef (framesOf x) 1 (replicate (windowWords 1) (pos 7)) .state .next .0) starts ≡ map (λ x. x .start) starts)
+unfolding kindOf referenceCount orderOf sizesFit treeOf checkedOf someNotVoid firstFrom firstInstance freshState openDef
+p-shown = (refl, refl)
 
 -- ---- 12, with W 1 and no line
 record TallyExample : Type 0 where
@@ -128,5 +141,5 @@ tallies =
     ∷ []
 
 tallies-tested : map (λ x. statePasses (stateOf x)) tallies ≡ map (λ x. x .passes) tallies
-unfolding kindOf referenceCount orderOf sizesFit treeOf checkedOf ofEvent referenced smallest base firstInstance rulePasses countPasses allTo tallyPasses statePasses
+unfolding kindOf referenceCount orderOf sizesFit treeOf checkedOf ofEvent referenced smallest base someNotVoid firstFrom firstInstance rulePasses countPasses allTo tallyPasses statePasses
 tallies-tested = refl

@@ -13,7 +13,7 @@ use Rattle.rule.specs.Sizes.{sizesFit}
 use Rattle.rule.specs.Build.{treeOf}
 use Rattle.rule.specs.Check.{checkedOf}
 use Rattle.rule.proofs.Laws.{latency}
-use Rattle.checker.specs.Base.{ofEvent, referenced, smallest, base, firstInstance}
+use Rattle.checker.specs.Base.{ofEvent, referenced, smallest, base, someNotVoid, firstFrom, firstInstance}
 use Rattle.checker.specs.State.{withTally, zeroState, freshState}
 use Rattle.checker.specs.StateTest.{rulePasses, countPasses, allTo, tallyPasses, statePasses}
 use Rattle.checker.specs.Tariff.{bandsFrom, bandsOf, riseFrom, bandsFit, inRange, pricesFit, priceOf, priceSum, surcharged, centsOf}
@@ -142,16 +142,16 @@ state held failed unknown =
 
 -- the true and the unknown don't count
 beside-others : chargeDef (state 3 12 1) example ≡ cents 546
-unfolding bandsFrom riseFrom bandsFit inRange pricesFit priceOf priceSum surcharged chargeDef kindOf referenceCount orderOf sizesFit treeOf checkedOf ofEvent referenced smallest base firstInstance freshState withTally rulePasses countPasses allTo tallyPasses statePasses
+unfolding bandsFrom riseFrom bandsFit inRange pricesFit priceOf priceSum surcharged chargeDef kindOf referenceCount orderOf sizesFit treeOf checkedOf ofEvent referenced smallest base someNotVoid firstFrom firstInstance freshState withTally rulePasses countPasses allTo tallyPasses statePasses
 beside-others = refl
 
 -- the greatest charge, and one violation more than a state can have
 most-charged : chargeDef (state 0 1009999 0) noBand ≡ cents 20199980000
-unfolding bandsFrom riseFrom bandsFit inRange pricesFit kindOf referenceCount orderOf sizesFit treeOf checkedOf ofEvent referenced smallest base firstInstance freshState withTally rulePasses countPasses allTo tallyPasses statePasses
+unfolding bandsFrom riseFrom bandsFit inRange pricesFit kindOf referenceCount orderOf sizesFit treeOf checkedOf ofEvent referenced smallest base someNotVoid firstFrom firstInstance freshState withTally rulePasses countPasses allTo tallyPasses statePasses
 most-charged = charged-by (state 0 1009999 0) noBand refl refl refl ∙ ap cents greatest
 
 one-too-many : chargeDef (state 0 1010000 0) noBand ≡ turned 12 0
-unfolding bandsFrom riseFrom bandsFit inRange pricesFit kindOf referenceCount orderOf sizesFit treeOf checkedOf ofEvent referenced smallest base firstInstance freshState withTally rulePasses countPasses allTo tallyPasses statePasses
+unfolding bandsFrom riseFrom bandsFit inRange pricesFit kindOf referenceCount orderOf sizesFit treeOf checkedOf ofEvent referenced smallest base someNotVoid firstFrom firstInstance freshState withTally rulePasses countPasses allTo tallyPasses statePasses
 one-too-many = turned-12 (state 0 1010000 0) noBand refl refl refl
 
 -- "With 45 cents to 10, 30 to 100, 12 beyond and 7 percent, 12 violations cost 546 cents"

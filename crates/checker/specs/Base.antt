@@ -1,13 +1,14 @@
 -- Which events a rule references, an event's base, and where verdicts begin. From document 01, "Feeding, pulling and the window",
 -- and document 02, point 2. Assumes nothing: definitions.
 use mathlib.Core.Path.{_≡_}
-use mathlib.Core.Bool.{Bool, true, false, cond}
+use mathlib.Core.Bool.{Bool, true, false, cond, _||_}
 use mathlib.Core.List.{List, [], _∷_, map, List·Memᴰ}
 use mathlib.Core.Logic.{_⊎_, _≢_}
-use Prim.Native.Nat.{ℕ, suc, _+_, _-_, _/_, min, _≤_}
+use Prim.Native.Nat.{ℕ, zero, suc, _+_, min, _≤_}
 use lib.Dec.{eqb}
-use lib.IntN.{ℤ, pos, negsuc}
+use lib.IntN.{ℤ}
 use lib.Signed.{_≤ℤ_}
+use Rattle.rule.specs.Limits.{offsetLimit}
 use Rattle.rule.specs.Tree.{Reference, references}
 use Rattle.rule.specs.Build.{treeOf}
 use Rattle.verdict.specs.Found.{meant}
@@ -79,22 +80,24 @@ pub record SmallestStart (refs : List Reference) (e p b : ℕ) : Type 0 where
   pub at-most : (r : Reference) → ReferenceTo refs e r → b ≤ startAt p r
 
 -- ---- where verdicts begin
--- n / d rounded up
-abbrev pub roundedUp : ℕ → ℕ → ℕ
-roundedUp n d = (n + (d - 1)) / d
+-- not "void"
+abbrev pub isNotVoid : Meant → Bool
+isNotVoid Void = false
+isNotVoid (At k) = true
 
--- "the first i" at which factor × i + offset is not below 0: 0 for an offset of 0 or more, else −offset / factor rounded up
-abbrev pub firstBy : ℕ → ℤ → ℕ
-firstBy factor (pos k) = 0
-firstBy factor (negsuc k) = roundedUp (suc k) factor
+-- not "An instance whose references are all void": i has "a reference that isn't void"
+unfoldable pub someNotVoid : List Reference → ℕ → Bool
+someNotVoid [] i = false
+someNotVoid (r ∷ rs) i = isNotVoid (meant i r) || someNotVoid rs i
 
--- "the first i" at which this reference "isn't void"
-abbrev pub firstOf : Reference → ℕ
-firstOf r = firstBy (r .factor) (r .offset)
+-- "the first i" from a number on at which f holds, at most n later
+unfoldable pub firstFrom : ℕ → ℕ → (ℕ → Bool) → ℕ
+firstFrom zero i f = i
+firstFrom (suc n) i f = cond (f i) i (firstFrom n (i + 1) f)
 
--- "Verdicts begin at the first i with a reference that isn't void, and p starts there": the smallest over the rule's references
+-- "Verdicts begin at the first i with a reference that isn't void, and p starts there"; it is at most 9,999, as offsets are
 unfoldable pub firstInstance : List Reference → ℕ
-firstInstance refs = smallest (map firstOf refs)
+firstInstance refs = firstFrom offsetLimit 0 (someNotVoid refs)
 
 -- so of "the rule .. that opening was given", as frames
 abbrev pub firstFor : List ℕ → ℕ

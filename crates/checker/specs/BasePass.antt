@@ -3,8 +3,9 @@
 use mathlib.Core.Path.{_≡_}
 use mathlib.Core.Bool.{Bool, _&&_, cond}
 use mathlib.Core.List.{List}
-use Prim.Native.Nat.{ℕ, _+_, _*_, _≤_, min}
+use Prim.Native.Nat.{ℕ, suc, _+_, _-_, _*_, _/_, _≤_, min}
 use lib.Dec.{leb, eqb}
+use lib.IntN.{ℤ, pos, negsuc}
 use lib.ListN.{getD, set, take, replicate}
 use Rattle.rule.specs.Limits.{eventLimit, offsetLimit, frameLimit, frameBytes}
 use Rattle.rule.specs.Tree.{Reference, LimitsR}
@@ -15,7 +16,7 @@ use Rattle.rule.specs.declared.Frame.{Frame}
 use Rattle.rule.specs.CheckTold as checking
 use Rattle.verdict.specs.Found.{instanceLimit}
 use Rattle.checker.specs.Limits.{lineLimit}
-use Rattle.checker.specs.Base.{startAt, firstOf, firstFor}
+use Rattle.checker.specs.Base.{startAt, firstFor}
 use Rattle.checker.specs.Open.{widthFits}
 use Rattle.checker.specs.StateTest.{isAccepted, allTo, totalsPass}
 use Rattle.checker.specs.declared.Totals.{Totals}
@@ -40,7 +41,20 @@ basesTo s p k = referencesTo (lowered p) s (replicate eventLimit noBase) k
 unfoldable pub basesOf : List ℕ → ℕ → List ℕ
 basesOf s p = basesTo s p (frameCount s)
 
--- "the first i with a reference that isn't void": with one reference more
+-- n / d rounded up
+abbrev pub roundedUp : ℕ → ℕ → ℕ
+roundedUp n d = (n + (d - 1)) / d
+
+-- the first i at which factor × i + offset is not below 0: 0 for an offset of 0 or more, else −offset / factor rounded up
+abbrev pub firstBy : ℕ → ℤ → ℕ
+firstBy factor (pos k) = 0
+firstBy factor (negsuc k) = roundedUp (suc k) factor
+
+-- of a reference
+abbrev pub firstOf : Reference → ℕ
+firstOf r = firstBy (r .factor) (r .offset)
+
+-- "the first i with a reference that isn't void", as the smallest of these: with one reference more
 abbrev pub sooner : Reference → ℕ → ℕ
 sooner r first = min first (firstOf r)
 

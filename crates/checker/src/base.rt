@@ -11,8 +11,8 @@ ghost use lib.IntN.{natAbs};
 ghost use lib.ListN.{length};
 ghost use Rattle.rule.specs.Limits.{eventLimit, factorLimit, offsetLimit};
 ghost use Rattle.verdict.specs.Found.{instanceLimit, occurrence, meantBy};
-ghost use Rattle.checker.specs.Base.{orZero, firstBy, firstFor};
-ghost use Rattle.checker.specs.BasePass.{basesWith, basesOf, firstWith, Startable, Passable};
+ghost use Rattle.checker.specs.Base.{orZero, firstFor};
+ghost use Rattle.checker.specs.BasePass.{basesWith, basesOf, firstBy, firstWith, Startable, Passable};
 
 // In the place of a base, of an event with no reference; no base is as large.
 pub const NO_BASE: u32 = 4294967295;

@@ -4,7 +4,7 @@ use native.Mathlib.Omega.{arith}
 use borrow.Author.Needs.{needs}
 use mir.Syntax.{w32}
 use mir.ValLaws.{toZ-ofZ}
-use Rattle.checker.specs.Base.{firstBy}
+use Rattle.checker.specs.BasePass.{firstBy}
 use Rattle.checker.proofs.base.sooner.Statement.{statement}
 use Rattle.checker.proofs.base.sooner.Tie as tie
 
