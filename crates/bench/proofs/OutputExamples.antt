@@ -83,7 +83,7 @@ read-latency = refl
 abbrev come : List ℕ → ℕ → ℕ → ℕ → ℕ → ℕ → ℕ → List ℤ → List ℕ → ℕ → Progress
 come frames len ins outs p held failed words said n =
     record {
-      state = stateWith frames len benchWidth (record {
+      state = stateWith frames len benchWidth 0 (record {
         counts = ins ∷ (outs ∷ replicate 6 0);
         next = p;
         totals = record { held = held; failed = failed; unknown = 0 };

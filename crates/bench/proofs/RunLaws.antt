@@ -20,6 +20,7 @@ use Rattle.checker.specs.Demand.{Unrefused}
 use Rattle.checker.specs.Ready.{Ready}
 use Rattle.checker.specs.Feed.{FeedResult, feedDef, feedOutcome}
 use Rattle.checker.specs.Pull.{PullResult, pullDef, pullOutcome}
+use Rattle.checker.specs.declared.Profile.{Profile}
 use Rattle.checker.specs.declared.Opened.{Opened}
 use Rattle.checker.specs.declared.feeding.FedFields.{FedFields}
 use Rattle.checker.specs.declared.pulling.PulledFields.{PulledFields}
@@ -113,10 +114,10 @@ module _ (frames : List ℕ) (f after : Fields) where
       record { long = r .long; let-in = ap₂ admission e w ∙ fed-stays (stateOf frames f) win (r .let-in) line }
 
 -- so is what an opening gives
-pub ready-opened : (frames fs : List ℕ) (w : ℕ) (win : List ℤ) (o : Opened) (win′ : List ℤ) (f : Fields) → Bytes frames → openTold (o .answer) ≡ opened
-    → length fs ≡ frameLimit * frameBytes → stateOf fs f ≡ o .state → openOutcome o win′ ≡ openDef frames w win → Ready fs f win′
-ready-opened frames fs w win o win′ f b a l e d =
-    let u : Unrefused frames w win = record { bytes = b; answer = sym (ap (λ (x : OpenResult). x .answer) d) ∙ a } in
+pub ready-opened : (profile : Profile) (frames fs : List ℕ) (w : ℕ) (win : List ℤ) (o : Opened) (win′ : List ℤ) (f : Fields) → Bytes frames → openTold (o .answer) ≡ opened
+    → length fs ≡ frameLimit * frameBytes → stateOf fs f ≡ o .state → openOutcome o win′ ≡ openDef profile frames w win → Ready fs f win′
+ready-opened profile frames fs w win o win′ f b a l e d =
+    let u : Unrefused profile frames w win = record { bytes = b; answer = sym (ap (λ (x : OpenResult). x .answer) d) ∙ a } in
     record {
       long = l;
       let-in = ap₂ admission (e ∙ ap (λ (x : OpenResult). x .state) d) (ap (λ (x : OpenResult). x .words) d) ∙ opened-stays u;

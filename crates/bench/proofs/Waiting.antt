@@ -25,6 +25,7 @@ use Rattle.checker.specs.StateTest.{statePasses}
 use Rattle.checker.specs.Demand.{Unrefused}
 use Rattle.checker.specs.Feed.{feedDef}
 use Rattle.checker.specs.Pull.{offered, pullRead, PullResult, givenHere, pulledBy, pullDef}
+use Rattle.checker.specs.declared.Profile.the-variants.{Desk}
 use Rattle.checker.specs.declared.State.{State}
 use Rattle.checker.proofs.Main.{passes-exactly}
 use Rattle.checker.proofs.Laws.{both-opened, in-good, opened-stays, fed-stays, pulled-stays, feed-rule, pull-rule}
@@ -110,7 +111,7 @@ in-lines x (l ∷ ls) s =
     in-lines (afterLine x l) ls (in-until (fedLine x l) (afterLine x l) (pulls-wait (fedLine x l) f) f)
 
 -- ---- from an unrefused opening
-in-first : {frames : List ℕ} {win : List ℤ} → Unrefused frames benchWidth win → LetIn (beforeLog (openDef frames benchWidth win))
+in-first : {frames : List ℕ} {win : List ℤ} → Unrefused Desk frames benchWidth win → LetIn (beforeLog (openDef Desk frames benchWidth win))
 in-first {frames} {win} o =
     record {
       admits = opened-stays o;

@@ -14,6 +14,7 @@ use Rattle.checker.specs.Answer.{Answer, opened, accepted, ignored, waiting, ve
 use Rattle.checker.specs.Open.{OpenResult, openDef}
 use Rattle.bench.specs.Print.{totalsLine, refusedLine}
 use Rattle.bench.specs.Progress.{Progress, pulls, pullLimit, afterLines}
+use Rattle.checker.specs.declared.Profile.the-variants.{Desk}
 
 -- "W 64"
 abbrev pub benchWidth : ℕ
@@ -44,9 +45,9 @@ afterOpening log o ignored = []
 afterOpening log o waiting = []
 afterOpening log o (verdict v) = []
 
--- the checker that frames open
+-- the checker that frames open, at the desk
 abbrev pub openedFor : List ℕ → OpenResult
-openedFor frames = openDef frames benchWidth (replicate (windowWords benchWidth) (pos 0))
+openedFor frames = openDef Desk frames benchWidth (replicate (windowWords benchWidth) (pos 0))
 
 -- "A refused rule prints .. the only line"
 abbrev pub afterReading : List ℕ → List ℕ → ReadAnswer → List ℕ

@@ -7,6 +7,7 @@ mod step; // step.rt: one line, and the pulls after it
 use checker::Fields;
 use checker::OpenAnswer;
 use checker::Opened;
+use checker::Profile;
 use libc::STDIN_FILENO;
 use libc::STDOUT_FILENO;
 use log::walk::Found;
@@ -19,6 +20,7 @@ ghost use Prim.Native.Nat.{_*_, _≤_};
 ghost use lib.ListN.{length, take};
 ghost use Rattle.rule.specs.Limits.{frameBytes};
 ghost use Rattle.checker.specs.Open.{openDef, openOutcome};
+ghost use Rattle.checker.specs.declared.Profile.the-variants.{Desk};
 ghost use Rattle.checker.specs.Ready.{Ready};
 ghost use Rattle.bench.specs.Print.{totalsLine};
 ghost use Rattle.bench.specs.Kept.{keptLimit};
@@ -225,11 +227,11 @@ fn say_refused(r: Refusal) {
     io::write_all(STDOUT_FILENO, &line[..n]);
 }
 
-// A checker is opened with the document's W.
+// A checker is opened at the desk, with the document's W.
 fn open_rule(frames: &[u8], window: &mut [i32]) -> Opened
-    ensures { λ r. ⌜ openOutcome r (now (window .exit)) ≡ openDef (now (frames .entry)) benchWidth (now (window .entry)) ⌝ }
+    ensures { λ r. ⌜ openOutcome r (now (window .exit)) ≡ openDef Desk (now (frames .entry)) benchWidth (now (window .entry)) ⌝ }
 {
-    checker::open(frames, WIDTH, window)
+    checker::open(Profile::Desk, frames, WIDTH, window)
 }
 
 // A rule's frames are opened with a window and run.

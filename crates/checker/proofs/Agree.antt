@@ -11,15 +11,16 @@ use Rattle.checker.specs.Base.{firstFor}
 use Rattle.checker.specs.Calls.{Call, outs, end, checker}
 use Rattle.checker.specs.Machine.{atFirst, machineFor}
 use Rattle.checker.specs.Demand.{Unrefused, fresh, verdicts}
+use Rattle.checker.specs.declared.Profile.{Profile}
 use Rattle.checker.proofs.Final.{said, said-stays, final, verdict-one, instances-from-at}
 
-module _ {frames : List ℕ} {w w′ : ℕ} {win win′ : List ℤ} (o : Unrefused frames w win) (o′ : Unrefused frames w′ win′) (cs cs′ : List Call) where
+module _ {profile profile′ : Profile} {frames : List ℕ} {w w′ : ℕ} {win win′ : List ℤ} (o : Unrefused profile frames w win) (o′ : Unrefused profile′ frames w′ win′) (cs cs′ : List Call) where
   pub agree : MoreLines (end (machineFor frames w) cs (atFirst frames) .lists) (end (machineFor frames w′) cs′ (atFirst frames) .lists) → (i : ℕ)
-      → i < length (verdicts (outs checker cs (fresh frames w win))) → i < length (verdicts (outs checker cs′ (fresh frames w′ win′)))
-      → getD (verdicts (outs checker cs (fresh frames w win))) i Unknown ≡ getD (verdicts (outs checker cs′ (fresh frames w′ win′))) i Unknown
+      → i < length (verdicts (outs checker cs (fresh profile frames w win))) → i < length (verdicts (outs checker cs′ (fresh profile′ frames w′ win′)))
+      → getD (verdicts (outs checker cs (fresh profile frames w win))) i Unknown ≡ getD (verdicts (outs checker cs′ (fresh profile′ frames w′ win′))) i Unknown
   agree more i h h′ =
-      let vs = verdicts (outs checker cs (fresh frames w win)) in
-      let vs′ = verdicts (outs checker cs′ (fresh frames w′ win′)) in
+      let vs = verdicts (outs checker cs (fresh profile frames w win)) in
+      let vs′ = verdicts (outs checker cs′ (fresh profile′ frames w′ win′)) in
       let m = end (machineFor frames w) cs (atFirst frames) in
       let m′ = end (machineFor frames w′) cs′ (atFirst frames) in
       let a = instances-from-at vs (firstFor frames) (said frames m) i (final o cs) h in

@@ -30,6 +30,7 @@ use Rattle.checker.specs.Pull.{pullRead, pullDef}
 use Rattle.checker.specs.Calls.{Call, feed, pull, Out, fed, pulled, outs, end, checker}
 use Rattle.checker.specs.Machine.{atFirst, tallyOf, tabulated, joined, moved, machineFor}
 use Rattle.checker.specs.Demand.{fresh, checkerAfter, machineAfter}
+use Rattle.checker.specs.declared.Profile.the-variants.{Desk}
 use Rattle.checker.proofs.Marked.{digits, line, next}
 
 -- ---- rules; a is event 0 and b event 1, t is note 0 and u note 1
@@ -233,13 +234,13 @@ windowOf x = replicate (windowWords (x .width)) (pos 7)
 
 -- opening, the plain machine and the checker, example by example
 pub record CallsShown (xs : List CallExample) : Type 0 where
-  pub opening : map (λ x. openDef (framesOf x) (x .width) (windowOf x) .answer) xs ≡ map (λ x. opened) xs
+  pub opening : map (λ x. openDef Desk (framesOf x) (x .width) (windowOf x) .answer) xs ≡ map (λ x. opened) xs
   pub machine : map (λ x. outs (machineFor (framesOf x) (x .width)) (x .calls) (atFirst (framesOf x))) xs ≡ map (λ x. x .given) xs
-  pub checker : map (λ x. outs checker (x .calls) (fresh (framesOf x) (x .width) (windowOf x))) xs ≡ map (λ x. x .given) xs
+  pub checker : map (λ x. outs checker (x .calls) (fresh Desk (framesOf x) (x .width) (windowOf x))) xs ≡ map (λ x. x .given) xs
   pub machine-tally : map (λ x. tallyOf (machineAfter (framesOf x) (x .width) (x .calls))) xs ≡ map (λ x. x .tally) xs
-  pub checker-tally : map (λ x. tallyIn (checkerAfter (framesOf x) (x .width) (windowOf x) (x .calls) .state)) xs
+  pub checker-tally : map (λ x. tallyIn (checkerAfter Desk (framesOf x) (x .width) (windowOf x) (x .calls) .state)) xs
       ≡ map (λ x. x .tally) xs
-  pub words : map (λ x. checkerAfter (framesOf x) (x .width) (windowOf x) (x .calls) .words) xs ≡ map (λ x. x .words) xs
+  pub words : map (λ x. checkerAfter Desk (framesOf x) (x .width) (windowOf x) (x .calls) .words) xs ≡ map (λ x. x .words) xs
 
 pub calls-shown : CallsShown table
 unfolding kindOf referenceCount orderOf sizesFit treeOf checkedOf digitValue digitsAtFront badPlace lineOf ofEvent referenced smallest base someNotVoid firstFrom firstInstance freshState withTally stored kept openDef rulePasses countPasses allTo tallyPasses statePasses admission feedEvent feedDef reportBytes pullRead pullDef outs end tabulated joined moved

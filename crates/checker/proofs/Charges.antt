@@ -20,6 +20,7 @@ use Rattle.checker.specs.Demand.{Unrefused, countIn, checkerAfter, machi
 use Rattle.checker.specs.Tariff.{bandLimit, lastLimit, priceLimit, surchargeLimit}
 use Rattle.checker.specs.Tariff.{Band, bandAt, bandsOf, riseFrom, bandsFit, inRange, pricesFit, priceSum, surcharged, centsOf}
 use Rattle.checker.specs.Tariff.{Charge, cents, turned, chargeTold, chargeDef, BandsRise, PricesInRange, ChargeRefused, bad-bands, bad-prices, bad-state}
+use Rattle.checker.specs.declared.Profile.{Profile}
 use Rattle.checker.specs.declared.State.{State}
 use Rattle.checker.specs.declared.Totals.{Totals}
 use Rattle.checker.specs.declared.Tariff.{Tariff}
@@ -238,10 +239,10 @@ more-charged s s′ t c c′ e e′ h =
     rw (charged-facts s t c e .1 .1 .1, charged-facts s′ t c′ e′ .1 .1 .1) (more t (s .totals .failed) (s′ .totals .failed) h)
 
 -- ---- after a list of calls
-pub charged-after : {frames : List ℕ} {w : ℕ} {win : List ℤ} → Unrefused frames w win → (cs : List Call) (t : Tariff) → BandsRise t → PricesInRange t
-    → chargeDef (checkerAfter frames w win cs .state) t ≡ cents (centsOf t (countIn (handedOut frames w win cs) False))
-charged-after {frames} {w} {win} o cs t r p =
-    let k = checkerAfter frames w win cs in
+pub charged-after : {profile : Profile} {frames : List ℕ} {w : ℕ} {win : List ℤ} → Unrefused profile frames w win → (cs : List Call) (t : Tariff) → BandsRise t → PricesInRange t
+    → chargeDef (checkerAfter profile frames w win cs .state) t ≡ cents (centsOf t (countIn (handedOut profile frames w win cs) False))
+charged-after {profile} {frames} {w} {win} o cs t r p =
+    let k = checkerAfter profile frames w win cs in
     let g = simulation.good frames w (opened-fine o) (machineAfter frames w cs) k (lists.in-step o cs) in
     charged-by (k .state) t (rise-fits t r) (range-fits t p) g
     ∙ ap (λ (x : Totals). cents (centsOf t (x .failed))) (sums.sums o cs .1)

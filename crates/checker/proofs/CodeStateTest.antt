@@ -16,6 +16,7 @@ use Rattle.rule.specs.CheckTold.{CheckAnswer}
 use Rattle.rule.specs.CheckTold as checking
 use Rattle.verdict.specs.Found.{instanceLimit}
 use Rattle.checker.specs.Limits.{widthLimit}
+use Rattle.checker.specs.Profile.{profilePasses}
 use Rattle.checker.specs.Base.{firstFor}
 use Rattle.checker.specs.State.{sumOf, tallyIn, stateFrames, refsIn}
 use Rattle.checker.specs.Open.{widthFits}
@@ -28,11 +29,13 @@ use Rattle.checker.specs.declared.parts.Fields.{Fields}
 use Rattle.checker.specs.declared.Totals.{Totals}
 use Rattle.checker.specs.declared.State.{State}
 use Rattle.checker.proofs.Choices.{same-or, never-true}
+use Rattle.checker.proofs.ProfileLaws.{Known, passes-known, passes-room}
 use Rattle.checker.proofs.Admissions.{in-good}
 use Rattle.checker.proofs.Tallies.{totals-facts, tally-facts}
 
 -- ---- a good state
 pub record Facts (s : State) : Type 0 where
+  pub known : Known (s .profile) (s .width) (s .len)
   pub few : s .len ≤ frameLimit
   pub accepted : checkedOf (stateFrames s) ≡ checking.accepted
   pub some : 1 ≤ s .width
@@ -47,12 +50,14 @@ pub good-facts : (s : State) → statePasses s ≡ true → Facts s
 unfolding statePasses rulePasses tallyPasses
 good-facts s e =
     let a = and-true (rulePasses s) (tallyPasses (refsIn s) (s .width) (tallyIn s)) e in
-    let b = and-true (leb (s .len) frameLimit && isAccepted (checkedOf (stateFrames s))) (widthFits (s .width)) (a .0) in
-    let f = and-true (leb (s .len) frameLimit) (isAccepted (checkedOf (stateFrames s))) (b .0) in
+    let m = profilePasses (s .profile) (s .width) (s .len) in
+    let b = and-true (m && isAccepted (checkedOf (stateFrames s))) (widthFits (s .width)) (a .0) in
+    let f = and-true m (isAccepted (checkedOf (stateFrames s))) (b .0) in
     let w = and-true (leb 1 (s .width)) (leb (s .width) widthLimit) (b .1) in
     let t = tally-facts (refsIn s) (s .width) (tallyIn s) (a .1) in
     record {
-      few = leb-true (s .len) frameLimit (f .0);
+      known = passes-known (s .profile) (s .width) (s .len) (f .0);
+      few = passes-room (s .profile) (s .width) (s .len) (f .0);
       accepted = accepted-by (checkedOf (stateFrames s)) (f .1);
       some = leb-true 1 (s .width) (w .0);
       most = leb-true (s .width) widthLimit (w .1);
@@ -64,17 +69,17 @@ pub ready-facts : {frames : List ℕ} {f : Fields} {win : List ℤ} → Ready fr
 ready-facts {frames} {f} {win} r = good-facts (stateOf frames f) (in-good (stateOf frames f) win (r .let-in))
 
 -- ---- 12, field by field
-pub rule-facts : (frames : List ℕ) (n w : ℕ) → ruleFits frames n w ≡ true → (n ≤ frameLimit) × (checkedOf (take (n * frameBytes) frames) ≡ checking.accepted)
-rule-facts frames n w e =
-    let r = and-true (leb n frameLimit && isAccepted (checkedOf (take (n * frameBytes) frames))) (widthFits w) e in
-    let f = and-true (leb n frameLimit) (isAccepted (checkedOf (take (n * frameBytes) frames))) (r .0) in
-    (leb-true n frameLimit (f .0), accepted-by (checkedOf (take (n * frameBytes) frames)) (f .1))
+pub rule-facts : (frames : List ℕ) (n w number : ℕ) → ruleFits frames n w number ≡ true → (n ≤ frameLimit) × (checkedOf (take (n * frameBytes) frames) ≡ checking.accepted)
+rule-facts frames n w number e =
+    let r = and-true (profilePasses number w n && isAccepted (checkedOf (take (n * frameBytes) frames))) (widthFits w) e in
+    let f = and-true (profilePasses number w n) (isAccepted (checkedOf (take (n * frameBytes) frames))) (r .0) in
+    (passes-room number w n (f .0), accepted-by (checkedOf (take (n * frameBytes) frames)) (f .1))
 
-pub good-by : (s : State) (r : Bool) → ruleFits (s .frames) (s .len) (s .width) ≡ true → r ≡ tallyPasses (refsIn s) (s .width) (tallyIn s) → r ≡ statePasses s
+pub good-by : (s : State) (r : Bool) → ruleFits (s .frames) (s .len) (s .width) (s .profile) ≡ true → r ≡ tallyPasses (refsIn s) (s .width) (tallyIn s) → r ≡ statePasses s
 unfolding statePasses rulePasses
 good-by s r q e = e ∙ sym (ap (λ (x : Bool). x && tallyPasses (refsIn s) (s .width) (tallyIn s)) q)
 
-pub bad-by : (s : State) → ruleFits (s .frames) (s .len) (s .width) ≡ false → false ≡ statePasses s
+pub bad-by : (s : State) → ruleFits (s .frames) (s .len) (s .width) (s .profile) ≡ false → false ≡ statePasses s
 unfolding statePasses rulePasses
 bad-by s q = sym (ap (λ (x : Bool). x && tallyPasses (refsIn s) (s .width) (tallyIn s)) q)
 

@@ -22,6 +22,7 @@ use Rattle.checker.specs.Calls.{Call, feed, pull, Out, fed, pulled, outs
 use Rattle.checker.specs.Machine.{Machine, atFirst, tallyOf, afterFeed, machineFor}
 use Rattle.checker.specs.Demand.{Unrefused, handed, verdicts}
 use Rattle.checker.specs.Earlier.{oldMachineFor, raisedOr, raisedCall, inRaised, outRaised, RaisedLog}
+use Rattle.checker.specs.declared.Profile.{Profile}
 use Rattle.checker.proofs.Choices.{cond-case}
 use Rattle.checker.proofs.Lists
 
@@ -117,8 +118,8 @@ verdicts-kept [] = refl
 verdicts-kept (fed a ∷ os) = handed-same a (verdicts (map outRaised os)) ∙ ap (handed a) (verdicts-kept os)
 verdicts-kept (pulled a report ∷ os) = ap (handed a) (verdicts-kept os)
 
-pub raised-log : {frames : List ℕ} {w : ℕ} {win : List ℤ} → Unrefused frames w win
-    → (other : List ℕ) → lineOf other ≡ line.refused 15 0 → (cs : List Call) → RaisedLog frames w win other cs
+pub raised-log : {profile : Profile} {frames : List ℕ} {w : ℕ} {win : List ℤ} → Unrefused profile frames w win
+    → (other : List ℕ) → lineOf other ≡ line.refused 15 0 → (cs : List Call) → RaisedLog profile frames w win other cs
 raised-log {frames} {w} o other named cs =
     let same = Lists.answers o (map (raisedCall other) cs) ∙ all-outs frames w other named cs (atFirst frames) in
     record {

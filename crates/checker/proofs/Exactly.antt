@@ -45,6 +45,7 @@ use Rattle.checker.specs.Pull.{short, offered, pullRead, pullAnswer, pul
 use Rattle.checker.specs.Calls.{Call, feed, pull, end, Checker, checker}
 use Rattle.checker.specs.Machine.{Machine, atFirst, tallyOf, machineFor}
 use Rattle.checker.specs.Demand.{Unrefused, fresh, answerOf}
+use Rattle.checker.specs.declared.Profile.{Profile}
 use Rattle.checker.proofs.Simulation.{count-of, out-step}
 use Rattle.checker.proofs.Bases.{referenced-below}
 use Rattle.checker.proofs.Fresh.{opened-fine, first-on}
@@ -119,23 +120,23 @@ module _ (e : ℕ) (notes : List ℤ) where
   by-full : (r a b : Bool) → r ≡ true → a ≡ false → b ≡ true → answered r a b ≡ refused 17 0
   by-full r a b p q h = rw (p, q, h)
 
-module _ {frames : List ℕ} {w : ℕ} {win : List ℤ} (o : Unrefused frames w win) (cs : List Call) where
+module _ {profile : Profile} {frames : List ℕ} {w : ℕ} {win : List ℤ} (o : Unrefused profile frames w win) (cs : List Call) where
   abbrev machineEnd : Machine
   machineEnd = end (machineFor frames w) cs (atFirst frames)
 
   abbrev checkerEnd : Checker
-  checkerEnd = end checker cs (fresh frames w win)
+  checkerEnd = end checker cs (fresh profile frames w win)
 
   -- the answer to one call more
-  pull-answer : (buffer : List ℕ) → pullDef (end checker cs (fresh frames w win) .state) (end checker cs (fresh frames w win) .words) buffer .answer
+  pull-answer : (buffer : List ℕ) → pullDef (end checker cs (fresh profile frames w win) .state) (end checker cs (fresh profile frames w win) .words) buffer .answer
       ≡ pullAnswer (pullRead (treeOf frames) (givenIn (machineEnd .lists) (machineEnd .next)) (length buffer))
   pull-answer buffer = ap answerOf (out-step frames w (opened-fine o) machineEnd checkerEnd (in-step o cs) (pull buffer))
 
-  feed-answer : (line : List ℕ) → feedDef (end checker cs (fresh frames w win) .state) (end checker cs (fresh frames w win) .words) line .answer
+  feed-answer : (line : List ℕ) → feedDef (end checker cs (fresh profile frames w win) .state) (end checker cs (fresh profile frames w win) .words) line .answer
       ≡ feedAnswer (feedRead (references (treeOf frames)) w (tallyOf machineEnd) (lineOf line))
   feed-answer line = ap answerOf (out-step frames w (opened-fine o) machineEnd checkerEnd (in-step o cs) (feed line))
 
-  pub waiting-exactly : (buffer : List ℕ) → (pullDef (end checker cs (fresh frames w win) .state) (end checker cs (fresh frames w win) .words) buffer .answer ≡ waiting)
+  pub waiting-exactly : (buffer : List ℕ) → (pullDef (end checker cs (fresh profile frames w win) .state) (end checker cs (fresh profile frames w win) .words) buffer .answer ≡ waiting)
       ↔ ((reportLeast ≤ length buffer) × (settled (givenIn (end (machineFor frames w) cs (atFirst frames) .lists) (end (machineFor frames w) cs (atFirst frames) .next)) (treeOf frames) ≡ false))
   unfolding pullRead
   waiting-exactly buffer =
@@ -149,7 +150,7 @@ module _ {frames : List ℕ} {w : ℕ} {win : List ℤ} (o : Unrefused frames w 
       )
 
   pub verdict-present : (buffer : List ℕ) (v : Verdict)
-      → pullDef (end checker cs (fresh frames w win) .state) (end checker cs (fresh frames w win) .words) buffer .answer ≡ verdict v
+      → pullDef (end checker cs (fresh profile frames w win) .state) (end checker cs (fresh profile frames w win) .words) buffer .answer ≡ verdict v
       → someOf isPresent (givenIn (end (machineFor frames w) cs (atFirst frames) .lists) (end (machineFor frames w) cs (atFirst frames) .next) .found) (references (treeOf frames)) ≡ true
   unfolding pullRead
   verdict-present buffer v q =
@@ -160,7 +161,7 @@ module _ {frames : List ℕ} {w : ℕ} {win : List ℤ} (o : Unrefused frames w 
       (gives-by (ltb (length buffer) reportLeast) (settled g (treeOf frames)) (settling.verdictOf t) v (sym (pull-answer buffer) ∙ q))
 
   module _ (line : List ℕ) (e : ℕ) (a b c d : ℤ) (l : lineOf line ≡ log.line e a b c d) where
-    line-answer : feedDef (end checker cs (fresh frames w win) .state) (end checker cs (fresh frames w win) .words) line .answer
+    line-answer : feedDef (end checker cs (fresh profile frames w win) .state) (end checker cs (fresh profile frames w win) .words) line .answer
         ≡ answered e (a ∷ b ∷ c ∷ d ∷ []) (referenced (references (treeOf frames)) e) (leb lineLimit (countOf (tallyOf machineEnd) e)) (leb (base (references (treeOf frames)) e (machineEnd .next) + w) (countOf (tallyOf machineEnd) e))
     unfolding feedEvent
     line-answer = feed-answer line ∙ ap (λ x. feedAnswer (feedRead (references (treeOf frames)) w (tallyOf machineEnd) x)) l
@@ -168,7 +169,7 @@ module _ {frames : List ℕ} {w : ℕ} {win : List ℤ} (o : Unrefused frames w 
     count-e : referenced (references (treeOf frames)) e ≡ true → countOf (tallyOf machineEnd) e ≡ length (machineEnd .lists e)
     count-e r = count-of machineEnd e (referenced-below 8 (references (treeOf frames)) e (λ x h. opened-fine o .limits x h .event) r)
 
-    pub accepted-exactly : (feedDef (end checker cs (fresh frames w win) .state) (end checker cs (fresh frames w win) .words) line .answer ≡ accepted)
+    pub accepted-exactly : (feedDef (end checker cs (fresh profile frames w win) .state) (end checker cs (fresh profile frames w win) .words) line .answer ≡ accepted)
         ↔ ((referenced (references (treeOf frames)) e ≡ true) × (length (end (machineFor frames w) cs (atFirst frames) .lists e) < lineLimit)
         × (length (end (machineFor frames w) cs (atFirst frames) .lists e) < base (references (treeOf frames)) e (end (machineFor frames w) cs (atFirst frames) .next) + w))
     accepted-exactly =
@@ -180,7 +181,7 @@ module _ {frames : List ℕ} {w : ℕ} {win : List ℤ} (o : Unrefused frames w 
               (lt-leb lineLimit n (subst (λ (x : ℕ). x < lineLimit) (sym (count-e (h .0))) (h .1))) (lt-leb B n (subst (λ (x : ℕ). x < B) (sym (count-e (h .0))) (h .2))),
         )
 
-    pub full-exactly : (feedDef (end checker cs (fresh frames w win) .state) (end checker cs (fresh frames w win) .words) line .answer ≡ refused 17 0)
+    pub full-exactly : (feedDef (end checker cs (fresh profile frames w win) .state) (end checker cs (fresh profile frames w win) .words) line .answer ≡ refused 17 0)
         ↔ ((referenced (references (treeOf frames)) e ≡ true) × (length (end (machineFor frames w) cs (atFirst frames) .lists e) < lineLimit)
         × (base (references (treeOf frames)) e (end (machineFor frames w) cs (atFirst frames) .next) + w ≤ length (end (machineFor frames w) cs (atFirst frames) .lists e)))
     full-exactly =
@@ -193,30 +194,8 @@ module _ {frames : List ℕ} {w : ℕ} {win : List ℤ} (o : Unrefused frames w 
         )
 
   pub window-holds : (e k n : ℕ) → e < 8 → base (references (treeOf frames)) e (end (machineFor frames w) cs (atFirst frames) .next) ≤ k → k < length (end (machineFor frames w) cs (atFirst frames) .lists e) → n < 4
-      → getD (end checker cs (fresh frames w win) .words) (wordAt w e k n) (pos 0) ≡ getD (getD (end (machineFor frames w) cs (atFirst frames) .lists e) k []) n (pos 0)
+      → getD (end checker cs (fresh profile frames w win) .words) (wordAt w e k n) (pos 0) ≡ getD (getD (end (machineFor frames w) cs (atFirst frames) .lists e) k []) n (pos 0)
   window-holds = in-step o cs .sim .live
-
--- ---- opening
-opens-by : (frames : List ℕ) (w : ℕ) (win : List ℤ) (t : CheckAnswer) → afterFrames frames w win t .answer ≡ opened → (t ≡ checking.accepted) × ((widthFits w && windowFits w win) ≡ true)
-opens-by frames w win (checking.refused number place) q = absurd (let z : 5 + number ≡ 0 = ap codeOf q in omega arith)
-opens-by frames w win checking.accepted q = (refl, go (widthFits w && windowFits w win) q)
-  where
-    go : (t : Bool) → cond t (openedAs frames w) (notOpened win 11 0) .answer ≡ opened → t ≡ true
-    go true q = refl
-    go false q = absurd (let z : 16 ≡ 0 = ap codeOf q in omega arith)
-
-pub opens-exactly : {frames : List ℕ} (w : ℕ) (win : List ℤ) → Bytes frames
-    → (openDef frames w win .answer ≡ opened) ↔ (Proper frames × (1 ≤ w) × (w ≤ widthLimit) × (length win ≡ windowWords w))
-unfolding openDef
-opens-exactly {frames} w win b = (
-  λ q. (let h = opens-by frames w win (checkedOf frames) q in
-      let f = and-true (widthFits w) (windowFits w win) (h .1) in
-      let g = and-true (leb 1 w) (leb w widthLimit) (f .0) in
-      (frames-exactly b .0 (h .0), leb-true 1 w (g .0), leb-true w widthLimit (g .1), eqb-true (length win) (windowWords w) (f .1))),
-  λ h. ap (λ (t : CheckAnswer). afterFrames frames w win t .answer) (frames-exactly b .1 (h .0))
-      ∙ ap (λ (t : Bool). cond t (openedAs frames w) (notOpened win 11 0) .answer)
-      (true-and (widthFits w) (windowFits w win) (true-and (leb 1 w) (leb w widthLimit) (le-leb 1 w (h .1)) (le-leb w widthLimit (h .2))) (eq-eqb (length win) (windowWords w) (h .3))),
-)
 
 -- ---- the state of a refused opening
 pub zero-feed : (win : List ℤ) (line : List ℕ) → feedDef zeroState win line .answer ≡ refused 12 0

@@ -22,6 +22,7 @@ use Rattle.checker.specs.Pull.{PullRead, short, waits, gave, pullAnswer}
 use Rattle.checker.specs.Calls.{Call, feed, pull, outs, end, checker}
 use Rattle.checker.specs.Machine.{Machine, atFirst, joined, moved, afterFeed, afterPull, machineFeed, machinePull, machineFor}
 use Rattle.checker.specs.Demand.{Unrefused, fresh, handed, verdicts, instancesFrom}
+use Rattle.checker.specs.declared.Profile.{Profile}
 use Rattle.checker.proofs.Choices.{cond-case}
 use Rattle.checker.proofs.Simulation.{Gave, gave-judged, verdict-settled}
 use Rattle.checker.proofs.Lists as lists
@@ -106,13 +107,13 @@ module _ (frames : List ℕ) (w : ℕ) where
       (gave-judged (treeOf frames) (givenIn (m .lists) (m .next)) (length buffer))
       (all-handed cs (afterPull m x))
 
-module _ {frames : List ℕ} {w : ℕ} {win : List ℤ} (o : Unrefused frames w win) (cs : List Call) where
-  pub verdicts-same : verdicts (outs checker cs (fresh frames w win)) ≡ verdicts (outs (machineFor frames w) cs (atFirst frames))
+module _ {profile : Profile} {frames : List ℕ} {w : ℕ} {win : List ℤ} (o : Unrefused profile frames w win) (cs : List Call) where
+  pub verdicts-same : verdicts (outs checker cs (fresh profile frames w win)) ≡ verdicts (outs (machineFor frames w) cs (atFirst frames))
   verdicts-same = ap verdicts (lists.answers o cs)
 
   -- instance by instance from the first on, over the machine's lists after the last call
-  pub final : map settling.verdict (verdicts (outs checker cs (fresh frames w win)))
-      ≡ instancesFrom (firstFor frames) (length (verdicts (outs checker cs (fresh frames w win)))) (said frames (end (machineFor frames w) cs (atFirst frames)))
+  pub final : map settling.verdict (verdicts (outs checker cs (fresh profile frames w win)))
+      ≡ instancesFrom (firstFor frames) (length (verdicts (outs checker cs (fresh profile frames w win)))) (said frames (end (machineFor frames w) cs (atFirst frames)))
   final = rw verdicts-same (all-handed frames w cs (atFirst frames) .0)
 
 -- ---- one verdict

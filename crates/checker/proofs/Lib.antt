@@ -2,6 +2,7 @@
 mod Choices
 mod Ring
 mod Bases
+mod ProfileLaws
 mod Tallies
 mod Admissions
 -- The plain machine and the checker: one call, a fresh checker, every list of calls.
@@ -20,6 +21,7 @@ mod Order
 mod Reports
 mod Never
 mod Exactly
+mod Openings
 mod Unchanged
 mod Told
 -- Points of document 02: views, logs of the earlier edition, the rework tariff.

@@ -7,6 +7,7 @@ use Rattle.checker.specs.State.{tallyIn}
 use Rattle.checker.specs.Calls.{Call, outs, end, Checker, checker}
 use Rattle.checker.specs.Machine.{Machine, atFirst, tallyOf, machineFor}
 use Rattle.checker.specs.Demand.{Unrefused, fresh}
+use Rattle.checker.specs.declared.Profile.{Profile}
 use Rattle.checker.proofs.Simulation.{Fine, Both, out-step, next-step}
 use Rattle.checker.proofs.Fresh.{opened-fine, both-opened}
 
@@ -21,13 +22,13 @@ module _ (frames : List ℕ) (w : ℕ) (ok : Fine frames w) where
   all-end [] m k b = b
   all-end (c ∷ cs) m k b = all-end cs _ _ (next-step frames w ok m k b c)
 
-module _ {frames : List ℕ} {w : ℕ} {win : List ℤ} (o : Unrefused frames w win) (cs : List Call) where
-  pub answers : outs checker cs (fresh frames w win) ≡ outs (machineFor frames w) cs (atFirst frames)
-  answers = all-outs frames w (opened-fine o) cs (atFirst frames) (fresh frames w win) (both-opened o)
+module _ {profile : Profile} {frames : List ℕ} {w : ℕ} {win : List ℤ} (o : Unrefused profile frames w win) (cs : List Call) where
+  pub answers : outs checker cs (fresh profile frames w win) ≡ outs (machineFor frames w) cs (atFirst frames)
+  answers = all-outs frames w (opened-fine o) cs (atFirst frames) (fresh profile frames w win) (both-opened o)
 
   -- checker and machine are in step after the list
-  pub in-step : Both frames w (end (machineFor frames w) cs (atFirst frames)) (end checker cs (fresh frames w win))
-  in-step = all-end frames w (opened-fine o) cs (atFirst frames) (fresh frames w win) (both-opened o)
+  pub in-step : Both frames w (end (machineFor frames w) cs (atFirst frames)) (end checker cs (fresh profile frames w win))
+  in-step = all-end frames w (opened-fine o) cs (atFirst frames) (fresh profile frames w win) (both-opened o)
 
-  pub state : tallyIn (end checker cs (fresh frames w win) .state) ≡ tallyOf (end (machineFor frames w) cs (atFirst frames))
+  pub state : tallyIn (end checker cs (fresh profile frames w win) .state) ≡ tallyOf (end (machineFor frames w) cs (atFirst frames))
   state = in-step .sim .tally

@@ -9,7 +9,7 @@ use lib.ListN.{length, take, getD, replicate}
 use Rattle.rule.specs.Limits.{offsetLimit, frameBytes}
 use Rattle.rule.specs.Token.{tokens}
 use Rattle.rule.specs.Grammar.{Rule, yield, words}
-use Rattle.rule.specs.Frames.{Bytes}
+use Rattle.rule.specs.Frames.{Bytes, frameCount}
 use Rattle.rule.specs.Tree.{Reference, references}
 use Rattle.rule.specs.Build.{treeOf}
 use Rattle.rule.specs.Opening.{Proper}
@@ -26,7 +26,8 @@ use Rattle.verdict.specs.Settled as settling
 use Rattle.verdict.specs.Later.{MoreLines}
 use Rattle.verdict.specs.declared.Verdict.{Verdict}
 use Rattle.verdict.specs.declared.Verdict.the-variants.{False, Unknown}
-use Rattle.checker.specs.Limits.{widthLimit, windowWords, lineLimit, reportLeast}
+use Rattle.checker.specs.Limits.{widthLimit, windowWords, lineLimit, reportLeast, boardWidthLimit, boardFrameLimit}
+use Rattle.checker.specs.Profile.{widthMost, framesMost}
 use Rattle.checker.specs.Answer.{opened, accepted, waiting, verdict, refused, openTold, feedTold, pullTold}
 use Rattle.checker.specs.Base.{referenced, startAt, smallest, base, Referenced, Maximum, SmallestStart, firstFor, SomeNotVoid, FirstInstance}
 use Rattle.checker.specs.BasePass.{firstOf}
@@ -43,6 +44,8 @@ use Rattle.checker.specs.Demand.{reportsOut, Reported, ReportedTwice}
 use Rattle.checker.specs.View.{viewDef, viewsOut, reportedOut, seen}
 use Rattle.checker.specs.Earlier.{RaisedLog}
 use Rattle.checker.specs.Tariff.{priceLimit, bandsOf, priceSum, centsOf, cents, turned, chargeTold, chargeDef, BandsRise, PricesInRange, ChargeRefused}
+use Rattle.checker.specs.declared.Profile.{Profile}
+use Rattle.checker.specs.declared.Profile.the-variants.{Board}
 use Rattle.checker.specs.declared.State.{State}
 use Rattle.checker.specs.declared.OpenAnswer.{OpenAnswer}
 use Rattle.checker.specs.declared.FeedAnswer.{FeedAnswer}
@@ -56,6 +59,7 @@ use Rattle.checker.proofs.Sums
 use Rattle.checker.proofs.Text
 use Rattle.checker.proofs.Never
 use Rattle.checker.proofs.Exactly
+use Rattle.checker.proofs.Openings
 use Rattle.checker.proofs.Agree
 use Rattle.checker.proofs.Order
 use Rattle.checker.proofs.Reports
@@ -70,38 +74,38 @@ use Rattle.checker.proofs.Passes
 use Rattle.checker.proofs.Told
 
 -- ---- a list of calls, whatever its lines and report buffers, from an unrefused opening, whatever W
-module _ {frames : List ℕ} {w : ℕ} {win : List ℤ} (o : Unrefused frames w win) (cs : List Call) where
+module _ {profile : Profile} {frames : List ℕ} {w : ℕ} {win : List ℤ} (o : Unrefused profile frames w win) (cs : List Call) where
   -- each answer with its number and place, and each report buffer after its pull, is the plain machine's
-  pub third-answers : outs checker cs (fresh frames w win) ≡ outs (machineFor frames w) cs (atFirst frames)
+  pub third-answers : outs checker cs (fresh profile frames w win) ≡ outs (machineFor frames w) cs (atFirst frames)
   third-answers = Lists.answers o cs
 
   -- the counts, p and totals in the state are the machine's
-  pub third-state : tallyIn (checkerAfter frames w win cs .state) ≡ tallyOf (machineAfter frames w cs)
+  pub third-state : tallyIn (checkerAfter profile frames w win cs .state) ≡ tallyOf (machineAfter frames w cs)
   third-state = Lists.state o cs
 
   -- the verdicts handed out are those of settled instances, from the first on, by the definition over the machine's lists after
   -- the last call
-  pub third-final : map settling.verdict (handedOut frames w win cs)
-      ≡ instancesFrom (firstFor frames) (length (handedOut frames w win cs)) (λ (i : ℕ). judgement (givenIn (machineAfter frames w cs .lists) i) (treeOf frames))
+  pub third-final : map settling.verdict (handedOut profile frames w win cs)
+      ≡ instancesFrom (firstFor frames) (length (handedOut profile frames w win cs)) (λ (i : ℕ). judgement (givenIn (machineAfter frames w cs .lists) i) (treeOf frames))
   third-final = Final.final o cs
 
   -- p and the totals in the state count them
-  pub third-totals : (checkerAfter frames w win cs .state .next .0 ≡ firstFor frames + length (handedOut frames w win cs))
-      × (checkerAfter frames w win cs .state .totals ≡ totalsOf (handedOut frames w win cs))
+  pub third-totals : (checkerAfter profile frames w win cs .state .next .0 ≡ firstFor frames + length (handedOut profile frames w win cs))
+      × (checkerAfter profile frames w win cs .state .totals ≡ totalsOf (handedOut profile frames w win cs))
   third-totals = Sums.sums o cs
 
   -- 12 and 13 never come
-  pub never-12-13 : (x : Out) → List·Memᴰ x (outs checker cs (fresh frames w win)) → (place : ℕ) → (answerOf x ≢ refused 12 place) × (answerOf x ≢ refused 13 place)
+  pub never-12-13 : (x : Out) → List·Memᴰ x (outs checker cs (fresh profile frames w win)) → (place : ℕ) → (answerOf x ≢ refused 12 place) × (answerOf x ≢ refused 13 place)
   never-12-13 = Never.never o cs
 
   -- the five together: "The third demand is a single claim about the whole list and not one for each call"
-  pub third-demand : ThirdDemand frames w win cs
+  pub third-demand : ThirdDemand profile frames w win cs
   third-demand =
       record { answers = third-answers; state = third-state; final = third-final; totals = third-totals; never-12-13 = never-12-13 }
 
   -- one call more: 'waiting' exactly where the buffer is long enough and the next instance is not settled by the machine's lists
   pub waiting-exactly : (buffer : List ℕ)
-      → (pullDef (checkerAfter frames w win cs .state) (checkerAfter frames w win cs .words) buffer .answer ≡ waiting)
+      → (pullDef (checkerAfter profile frames w win cs .state) (checkerAfter profile frames w win cs .words) buffer .answer ≡ waiting)
       ↔ ((reportLeast ≤ length buffer)
       × (settled (givenIn (machineAfter frames w cs .lists) (machineAfter frames w cs .next)) (treeOf frames) ≡ false))
   waiting-exactly = Exactly.waiting-exactly o cs
@@ -109,13 +113,13 @@ module _ {frames : List ℕ} {w : ℕ} {win : List ℤ} (o : Unrefused frames w 
   -- document 02, point 2, "No verdict before the first piece": where one call more hands out a verdict, a reference of its instance is
   -- present by the machine's lists
   pub verdict-present : (buffer : List ℕ) (v : Verdict)
-      → pullDef (checkerAfter frames w win cs .state) (checkerAfter frames w win cs .words) buffer .answer ≡ verdict v
+      → pullDef (checkerAfter profile frames w win cs .state) (checkerAfter profile frames w win cs .words) buffer .answer ≡ verdict v
       → someOf isPresent (givenIn (machineAfter frames w cs .lists) (machineAfter frames w cs .next) .found) (references (treeOf frames)) ≡ true
   verdict-present = Exactly.verdict-present o cs
 
   -- accepted exactly where the event is referenced, has fewer than 1,000,000 lines and has not reached base plus W
   pub accepted-exactly : (line : List ℕ) (e : ℕ) (a b c d : ℤ) → lineOf line ≡ log.line e a b c d
-      → (feedDef (checkerAfter frames w win cs .state) (checkerAfter frames w win cs .words) line .answer ≡ accepted)
+      → (feedDef (checkerAfter profile frames w win cs .state) (checkerAfter profile frames w win cs .words) line .answer ≡ accepted)
       ↔ ((referenced (references (treeOf frames)) e ≡ true)
       × (length (machineAfter frames w cs .lists e) < lineLimit)
       × (length (machineAfter frames w cs .lists e) < base (references (treeOf frames)) e (machineAfter frames w cs .next) + w))
@@ -123,7 +127,7 @@ module _ {frames : List ℕ} {w : ℕ} {win : List ℤ} (o : Unrefused frames w 
 
   -- 'window full' exactly where it has reached base plus W
   pub full-exactly : (line : List ℕ) (e : ℕ) (a b c d : ℤ) → lineOf line ≡ log.line e a b c d
-      → (feedDef (checkerAfter frames w win cs .state) (checkerAfter frames w win cs .words) line .answer ≡ refused 17 0)
+      → (feedDef (checkerAfter profile frames w win cs .state) (checkerAfter profile frames w win cs .words) line .answer ≡ refused 17 0)
       ↔ ((referenced (references (treeOf frames)) e ≡ true)
       × (length (machineAfter frames w cs .lists e) < lineLimit)
       × (base (references (treeOf frames)) e (machineAfter frames w cs .next) + w ≤ length (machineAfter frames w cs .lists e)))
@@ -131,11 +135,11 @@ module _ {frames : List ℕ} {w : ℕ} {win : List ℤ} (o : Unrefused frames w 
 
   -- each accepted occurrence from base on is found in the window, all four notes
   pub window-holds : (e k n : ℕ) → e < 8 → base (references (treeOf frames)) e (machineAfter frames w cs .next) ≤ k → k < length (machineAfter frames w cs .lists e) → n < 4
-      → getD (checkerAfter frames w win cs .words) (wordAt w e k n) (pos 0) ≡ getD (getD (machineAfter frames w cs .lists e) k []) n (pos 0)
+      → getD (checkerAfter profile frames w win cs .words) (wordAt w e k n) (pos 0) ≡ getD (getD (machineAfter frames w cs .lists e) k []) n (pos 0)
   window-holds = Exactly.window-holds o cs
 
 -- ---- document 02, point 2: where verdicts begin, of every unrefused opening, whatever W
-module _ {frames : List ℕ} {w : ℕ} {win : List ℤ} (o : Unrefused frames w win) where
+module _ {profile : Profile} {frames : List ℕ} {w : ℕ} {win : List ℤ} (o : Unrefused profile frames w win) where
   -- "the first i with a reference that isn't void", both ways
   pub first-exactly : (n : ℕ) → (firstFor frames ≡ n) ↔ FirstInstance (references (treeOf frames)) n
   first-exactly = Fresh.first-exactly o
@@ -156,60 +160,61 @@ module _ {frames : List ℕ} {w : ℕ} {win : List ℤ} (o : Unrefused frames w 
 -- with the frames that were filled, and every list of calls: each verdict handed out is that of the value, at its instance over the
 -- lines accepted in the list, of the rule that the text means
 pub text-to-verdict : (text buffer filled : List ℕ) (n : ℕ) → readOf text buffer ≡ (reading.frames n, filled) → (x : Rule) → yield x ≡ words (tokens text)
-    → (w : ℕ) (win : List ℤ) → openDef (take (n * frameBytes) filled) w win .answer ≡ opened → (cs : List Call) (i : ℕ) → i < length (handedOut (take (n * frameBytes) filled) w win cs)
-    → getD (handedOut (take (n * frameBytes) filled) w win cs) i Unknown
+    → (profile : Profile) (w : ℕ) (win : List ℤ) → openDef profile (take (n * frameBytes) filled) w win .answer ≡ opened
+    → (cs : List Call) (i : ℕ) → i < length (handedOut profile (take (n * frameBytes) filled) w win cs)
+    → getD (handedOut profile (take (n * frameBytes) filled) w win cs) i Unknown
     ≡ verdictOf (value (givenIn (machineAfter (take (n * frameBytes) filled) w cs .lists) (firstFor (take (n * frameBytes) filled) + i)) (meaning text x))
 text-to-verdict = Text.text-to-verdict
 
 -- ---- two lists for one rule, with any two windows
-module _ {frames : List ℕ} {w w′ : ℕ} {win win′ : List ℤ} (o : Unrefused frames w win) (o′ : Unrefused frames w′ win′) (cs cs′ : List Call) where
+module _ {profile profile′ : Profile} {frames : List ℕ} {w w′ : ℕ} {win win′ : List ℤ} (o : Unrefused profile frames w win) (o′ : Unrefused profile′ frames w′ win′) (cs cs′ : List Call) where
   -- where one's accepted lines begin the other's, event by event, verdicts that both hand out are equal
   pub third-agree : MoreLines (machineAfter frames w cs .lists) (machineAfter frames w′ cs′ .lists) → (i : ℕ)
-      → i < length (handedOut frames w win cs) → i < length (handedOut frames w′ win′ cs′)
-      → getD (handedOut frames w win cs) i Unknown ≡ getD (handedOut frames w′ win′ cs′) i Unknown
+      → i < length (handedOut profile frames w win cs) → i < length (handedOut profile′ frames w′ win′ cs′)
+      → getD (handedOut profile frames w win cs) i Unknown ≡ getD (handedOut profile′ frames w′ win′ cs′) i Unknown
   third-agree = Agree.agree o o′ cs cs′
 
   -- so it is after another order of lines between events and with later lines, whenever verdicts are pulled
   pub third-order : Reordered (acceptedIn frames w cs (atFirst frames)) (acceptedIn frames w′ cs′ (atFirst frames)) → (i : ℕ)
-      → i < length (handedOut frames w win cs) → i < length (handedOut frames w′ win′ cs′)
-      → getD (handedOut frames w win cs) i Unknown ≡ getD (handedOut frames w′ win′ cs′) i Unknown
+      → i < length (handedOut profile frames w win cs) → i < length (handedOut profile′ frames w′ win′ cs′)
+      → getD (handedOut profile frames w win cs) i Unknown ≡ getD (handedOut profile′ frames w′ win′ cs′) i Unknown
   third-order = Order.order o o′ cs cs′
 
   -- where one's accepted lines begin the other's, the two reports of an instance that both hand out as false are the same but for
   -- references that are present in one and pending in the other
   pub third-reports : MoreLines (machineAfter frames w cs .lists) (machineAfter frames w′ cs′ .lists) → (i : ℕ)
-      → getD (handedOut frames w win cs) i Unknown ≡ False → getD (handedOut frames w′ win′ cs′) i Unknown ≡ False
+      → getD (handedOut profile frames w win cs) i Unknown ≡ False → getD (handedOut profile′ frames w′ win′ cs′) i Unknown ≡ False
       → ReportedTwice frames w w′ cs cs′ (firstFor frames + i)
-      (getD (reportsOut frames w win cs) i []) (getD (reportsOut frames w′ win′ cs′) i [])
+      (getD (reportsOut profile frames w win cs) i []) (getD (reportsOut profile′ frames w′ win′ cs′) i [])
   third-reports = Reports.two-reports o o′ cs cs′
 
   -- so it is after another order of lines between events and with later lines
   pub third-order-reports : Reordered (acceptedIn frames w cs (atFirst frames)) (acceptedIn frames w′ cs′ (atFirst frames)) → (i : ℕ)
-      → getD (handedOut frames w win cs) i Unknown ≡ False → getD (handedOut frames w′ win′ cs′) i Unknown ≡ False
+      → getD (handedOut profile frames w win cs) i Unknown ≡ False → getD (handedOut profile′ frames w′ win′ cs′) i Unknown ≡ False
       → ReportedTwice frames w w′ cs cs′ (firstFor frames + i)
-      (getD (reportsOut frames w win cs) i []) (getD (reportsOut frames w′ win′ cs′) i [])
+      (getD (reportsOut profile frames w win cs) i []) (getD (reportsOut profile′ frames w′ win′ cs′) i [])
   third-order-reports = Reports.order-reports o o′ cs cs′
 
   -- document 02, point 3: machine hands, given one view after each report, get the same views in the same order exactly where the
   -- reported instances and verdicts are equal
-  pub views-exactly : (viewsOut frames w win cs ≡ viewsOut frames w′ win′ cs′)
-      ↔ (reportedOut frames w win cs ≡ reportedOut frames w′ win′ cs′)
+  pub views-exactly : (viewsOut profile frames w win cs ≡ viewsOut profile′ frames w′ win′ cs′)
+      ↔ (reportedOut profile frames w win cs ≡ reportedOut profile′ frames w′ win′ cs′)
   views-exactly = Views.views-exactly o o′ cs cs′
 
   -- so, whatever the notes, equal reported instances and verdicts give equal views
-  pub views-equal : reportedOut frames w win cs ≡ reportedOut frames w′ win′ cs′
-      → viewsOut frames w win cs ≡ viewsOut frames w′ win′ cs′
+  pub views-equal : reportedOut profile frames w win cs ≡ reportedOut profile′ frames w′ win′ cs′
+      → viewsOut profile frames w win cs ≡ viewsOut profile′ frames w′ win′ cs′
   views-equal = Views.same-views o o′ cs cs′
 
 -- ---- within one list: each false verdict handed out comes with the report of its instance at the moment of the pull
-pub third-report : {frames : List ℕ} {w : ℕ} {win : List ℤ} → Unrefused frames w win → (cs : List Call) (i : ℕ)
-    → getD (handedOut frames w win cs) i Unknown ≡ False
-    → Reported frames w cs (firstFor frames + i) (getD (reportsOut frames w win cs) i [])
+pub third-report : {profile : Profile} {frames : List ℕ} {w : ℕ} {win : List ℤ} → Unrefused profile frames w win → (cs : List Call) (i : ℕ)
+    → getD (handedOut profile frames w win cs) i Unknown ≡ False
+    → Reported frames w cs (firstFor frames + i) (getD (reportsOut profile frames w win cs) i [])
 third-report = Reports.report
 
 -- the views of a list are its reported instances and verdicts, in their order, and show no note
-pub views-seen : {frames : List ℕ} {w : ℕ} {win : List ℤ} → Unrefused frames w win → (cs : List Call)
-    → viewsOut frames w win cs ≡ map seen (reportedOut frames w win cs)
+pub views-seen : {profile : Profile} {frames : List ℕ} {w : ℕ} {win : List ℤ} → Unrefused profile frames w win → (cs : List Call)
+    → viewsOut profile frames w win cs ≡ map seen (reportedOut profile frames w win cs)
 views-seen = Views.views-seen
 
 -- ---- a pull that fills a report, whatever the state, the window and the buffer: the view is not refused, and shows its instance and
@@ -220,8 +225,8 @@ view-after = Views.view-after
 
 -- ---- document 02, point 8: for every list of calls whose lines are old ones, on the plain machine, the list with each line raised gives
 -- the same answers and verdicts; in place of a line that 23 names stand bytes that 15 refuses at 0
-pub raised-log : {frames : List ℕ} {w : ℕ} {win : List ℤ} → Unrefused frames w win
-    → (other : List ℕ) → lineOf other ≡ log.refused 15 0 → (cs : List Call) → RaisedLog frames w win other cs
+pub raised-log : {profile : Profile} {frames : List ℕ} {w : ℕ} {win : List ℤ} → Unrefused profile frames w win
+    → (other : List ℕ) → lineOf other ≡ log.refused 15 0 → (cs : List Call) → RaisedLog profile frames w win other cs
 raised-log = Earlier.raised-log
 
 -- such are the zero bytes that raising hands back, and an empty line
@@ -265,8 +270,8 @@ pub cents-nearest : (t : Tariff) (n : ℕ)
 cents-nearest = Charges.cents-nearest
 
 -- after every list of calls: the false verdicts that it handed out are charged
-pub charged-after : {frames : List ℕ} {w : ℕ} {win : List ℤ} → Unrefused frames w win → (cs : List Call) (t : Tariff) → BandsRise t → PricesInRange t
-    → chargeDef (checkerAfter frames w win cs .state) t ≡ cents (centsOf t (countIn (handedOut frames w win cs) False))
+pub charged-after : {profile : Profile} {frames : List ℕ} {w : ℕ} {win : List ℤ} → Unrefused profile frames w win → (cs : List Call) (t : Tariff) → BandsRise t → PricesInRange t
+    → chargeDef (checkerAfter profile frames w win cs .state) t ≡ cents (centsOf t (countIn (handedOut profile frames w win cs) False))
 charged-after = Charges.charged-after
 
 -- the document's example, computed, of every state with 12 violations that 12 lets through, whatever the entries after the two bands
@@ -278,10 +283,19 @@ tariff-example = TariffExamples.document-example
 pub zero-charge : (t : Tariff) → BandsRise t → PricesInRange t → chargeDef zeroState t ≡ turned 12 0
 zero-charge = Charges.zero-charge
 
--- ---- opening is not refused exactly where the frames are a rule's within the limits, W is 1 to 256 and the window 32 × W words
-pub opens-exactly : {frames : List ℕ} (w : ℕ) (win : List ℤ) → Bytes frames
-    → (openDef frames w win .answer ≡ opened) ↔ (Proper frames × (1 ≤ w) × (w ≤ widthLimit) × (length win ≡ windowWords w))
-opens-exactly = Exactly.opens-exactly
+-- ---- opening is not refused exactly where the frames are a rule's within the limits, W is 1 to 256 of the desk, 1 to 32 of the board,
+-- the frames are at most 64 of the desk, 16 of the board, and the window has 32 × W words
+pub opens-exactly : (profile : Profile) {frames : List ℕ} (w : ℕ) (win : List ℤ) → Bytes frames
+    → (openDef profile frames w win .answer ≡ opened)
+    ↔ (Proper frames × (1 ≤ w) × (w ≤ widthMost profile) × (frameCount frames ≤ framesMost profile) × (length win ≡ windowWords w))
+opens-exactly = Openings.opens-exactly
+
+-- document 02, point 9: 26 comes exactly where 9, 10, 7, 8 and 11 do not, at "a board opening above either figure"
+pub open-26-exactly : (profile : Profile) {frames : List ℕ} (w : ℕ) (win : List ℤ) → Bytes frames
+    → (openDef profile frames w win .answer ≡ refused 26 0)
+    ↔ (Proper frames × (1 ≤ w) × (w ≤ widthLimit) × (length win ≡ windowWords w)
+    × (profile ≡ Board) × ((w ≤ boardWidthLimit) × (frameCount frames ≤ boardFrameLimit) → ⊥))
+open-26-exactly = Openings.open-26-exactly
 
 -- ---- 12 lets a state through exactly where none of the document's conditions holds of it
 pub passes-exactly : (s : State) → (statePasses s ≡ true) ↔ Passing s
@@ -319,8 +333,8 @@ pub pull-told-injective : (a b : PullAnswer) → pullTold a ≡ pullTold b → a
 pull-told-injective = Told.pull-told-injective
 
 -- ---- every call, whatever its arguments: what is refused, ignored or waiting leaves state and lent words as they were
-pub refused-unchanged-open : (frames : List ℕ) (w : ℕ) (win : List ℤ) → openDef frames w win .answer ≢ opened
-    → (openDef frames w win .state ≡ zeroState) × (openDef frames w win .words ≡ win)
+pub refused-unchanged-open : (profile : Profile) (frames : List ℕ) (w : ℕ) (win : List ℤ) → openDef profile frames w win .answer ≢ opened
+    → (openDef profile frames w win .state ≡ zeroState) × (openDef profile frames w win .words ≡ win)
 refused-unchanged-open = Unchanged.open-unchanged
 
 pub refused-unchanged-feed : (s : State) (win : List ℤ) (line : List ℕ) → feedDef s win line .answer ≢ accepted
@@ -340,7 +354,7 @@ zero-pull = Exactly.zero-pull
 
 -- ---- a state that 12 lets through stays one, whatever is fed and pulled, and an unrefused opening gives one; a state's frames
 -- are bytes, as an array of them is
-pub good-stays-open : {frames : List ℕ} {w : ℕ} {win : List ℤ} → Unrefused frames w win → statePasses (openDef frames w win .state) ≡ true
+pub good-stays-open : {profile : Profile} {frames : List ℕ} {w : ℕ} {win : List ℤ} → Unrefused profile frames w win → statePasses (openDef profile frames w win .state) ≡ true
 good-stays-open = Stays.good-open
 
 pub good-stays-feed : (s : State) → statePasses s ≡ true → (win : List ℤ) (line : List ℕ) → statePasses (feedDef s win line .state) ≡ true

@@ -45,6 +45,7 @@ use Rattle.checker.specs.Pull.{pullRead, pullDef}
 use Rattle.checker.specs.Calls.{Call, feed, pull, Out, fed, pulled, outs, checker}
 use Rattle.checker.specs.Demand.{answerOf, fresh}
 use Rattle.checker.specs.Machine.{atFirst, tabulated, joined, moved, machineFor}
+use Rattle.checker.specs.declared.Profile.the-variants.{Desk}
 
 -- ---- rules, as texts and as trees; t is note 0
 abbrev t : ℕ → ℤ → Sum
@@ -268,12 +269,12 @@ abbrev byMachine : Example → List Answer
 byMachine x = map answerOf (outs (machineFor (framesOf x) (x .width)) (x .calls) (atFirst (framesOf x)))
 
 abbrev byChecker : Example → List Answer
-byChecker x = map answerOf (outs checker (x .calls) (fresh (framesOf x) (x .width) (windowOf x)))
+byChecker x = map answerOf (outs checker (x .calls) (fresh Desk (framesOf x) (x .width) (windowOf x)))
 
 -- reading, opening, the plain machine and the checker, example by example
 pub record Shown (xs : List Example) : Type 0 where
   pub reading : map (λ x. readOf (bytes (x .text)) lent) xs ≡ map (λ x. (x .reading, filled x (x .reading))) xs
-  pub opening : map (λ x. openDef (framesOf x) (x .width) (windowOf x) .answer) xs ≡ map (λ x. x .opening) xs
+  pub opening : map (λ x. openDef Desk (framesOf x) (x .width) (windowOf x) .answer) xs ≡ map (λ x. x .opening) xs
   pub machine : map byMachine xs ≡ map (λ x. x .answers) xs
   pub checker : map byChecker xs ≡ map (λ x. x .answers) xs
 
@@ -292,6 +293,6 @@ benchOuts =
     ∷ []
 
 pub bench-report : (outs (machineFor (bytesOf (postfix latency)) 4) bench (atFirst (bytesOf (postfix latency))) ≡ benchOuts)
-    × (outs checker bench (fresh (bytesOf (postfix latency)) 4 (replicate (windowWords 4) (pos 7))) ≡ benchOuts)
+    × (outs checker bench (fresh Desk (bytesOf (postfix latency)) 4 (replicate (windowWords 4) (pos 7))) ≡ benchOuts)
 unfolding kindOf referenceCount orderOf sizesFit treeOf checkedOf digitValue digitsAtFront badPlace lineOf ofEvent referenced smallest base someNotVoid firstFrom firstInstance freshState withTally stored kept openDef rulePasses countPasses allTo tallyPasses statePasses admission feedEvent feedDef reportBytes pullRead pullDef outs tabulated joined moved
 bench-report = (refl, refl)

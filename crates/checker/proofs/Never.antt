@@ -19,6 +19,7 @@ use Rattle.checker.specs.Pull.{PullRead, short, waits, gave, pullAnswer}
 use Rattle.checker.specs.Calls.{Call, feed, pull, Out, outs, checker}
 use Rattle.checker.specs.Machine.{Machine, atFirst, tallyOf, machinePull, machineFor}
 use Rattle.checker.specs.Demand.{Unrefused, fresh, answerOf}
+use Rattle.checker.specs.declared.Profile.{Profile}
 use Rattle.checker.proofs.Choices.{cond-case}
 use Rattle.checker.proofs.Lists as lists
 
@@ -66,8 +67,8 @@ module _ (frames : List ℕ) (w : ℕ) where
       (λ (n : List·Memᴰ x (outs (machineFor frames w) cs (machineFor frames w m c .next))). late-all cs (machineFor frames w m c .next) x n)
       (List·Memᴰ·cases-cons h)
 
-module _ {frames : List ℕ} {w : ℕ} {win : List ℤ} (o : Unrefused frames w win) (cs : List Call) where
-  pub never : (x : Out) → List·Memᴰ x (outs checker cs (fresh frames w win)) → (place : ℕ) → (answerOf x ≢ refused 12 place) × (answerOf x ≢ refused 13 place)
+module _ {profile : Profile} {frames : List ℕ} {w : ℕ} {win : List ℤ} (o : Unrefused profile frames w win) (cs : List Call) where
+  pub never : (x : Out) → List·Memᴰ x (outs checker cs (fresh profile frames w win)) → (place : ℕ) → (answerOf x ≢ refused 12 place) × (answerOf x ≢ refused 13 place)
   never x h place =
       let l = late-all frames w cs (atFirst frames) x (subst (λ (os : List Out). List·Memᴰ x os) (lists.answers o cs) h) in
       (λ q. l .0 (ap numberIn q), λ q. l .1 (ap numberIn q))

@@ -17,6 +17,7 @@ use Rattle.checker.specs.Pull.{PullRead, short, waits, gave}
 use Rattle.checker.specs.Calls.{Call, feed, pull, outs, end, checker}
 use Rattle.checker.specs.Machine.{Machine, atFirst, joined, moved, afterFeed, afterPull, machineFeed, machinePull, machineFor}
 use Rattle.checker.specs.Demand.{Unrefused, fresh, verdicts, Entry, joining, acceptedIn, Reordered, same, later, swapped, then}
+use Rattle.checker.specs.declared.Profile.{Profile}
 use Rattle.checker.proofs.Final.{more-refl, more-trans}
 use Rattle.checker.proofs.Agree.{agree}
 
@@ -97,8 +98,8 @@ order-more frames w w′ cs cs′ r =
     more-same (end (machineFor frames w) cs (atFirst frames) .lists) (linesIn es) (end (machineFor frames w′) cs′ (atFirst frames) .lists) (linesIn es′)
     (end-lines frames w cs (atFirst frames)) (end-lines frames w′ cs′ (atFirst frames)) (reordered-more es es′ r)
 
-module _ {frames : List ℕ} {w w′ : ℕ} {win win′ : List ℤ} (o : Unrefused frames w win) (o′ : Unrefused frames w′ win′) (cs cs′ : List Call) where
+module _ {profile profile′ : Profile} {frames : List ℕ} {w w′ : ℕ} {win win′ : List ℤ} (o : Unrefused profile frames w win) (o′ : Unrefused profile′ frames w′ win′) (cs cs′ : List Call) where
   pub order : Reordered (acceptedIn frames w cs (atFirst frames)) (acceptedIn frames w′ cs′ (atFirst frames)) → (i : ℕ)
-      → i < length (verdicts (outs checker cs (fresh frames w win))) → i < length (verdicts (outs checker cs′ (fresh frames w′ win′)))
-      → getD (verdicts (outs checker cs (fresh frames w win))) i Unknown ≡ getD (verdicts (outs checker cs′ (fresh frames w′ win′))) i Unknown
+      → i < length (verdicts (outs checker cs (fresh profile frames w win))) → i < length (verdicts (outs checker cs′ (fresh profile′ frames w′ win′)))
+      → getD (verdicts (outs checker cs (fresh profile frames w win))) i Unknown ≡ getD (verdicts (outs checker cs′ (fresh profile′ frames w′ win′))) i Unknown
   order r = agree o o′ cs cs′ (order-more frames w w′ cs cs′ r)

@@ -4,28 +4,32 @@ use mathlib.Core.Path.{_≡_, refl, sym, ap, _∙_}
 use mathlib.Core.Bool.{Bool, true, false, cond}
 use mathlib.Core.List.{List}
 use mathlib.Core.Logic.{_↔_, _≢_}
-use Prim.Native.Nat.{ℕ}
+use Prim.Native.Nat.{ℕ, _*_, _≤_}
 use native.Mathlib.Omega.{arith}
 use borrow.Author.Tests.{le-leb, eq-eqb}
 use lib.Dec.{leb}
 use lib.IntN.{ℤ, pos}
-use lib.ListN.{length, replicate, length-replicate}
+use lib.ListN.{length, replicate, length-replicate, length-take}
 use Rattle.numbers.proofs.Bools.{true-false, true-and}
-use Rattle.rule.specs.Limits.{frameLimit}
+use Rattle.rule.specs.Limits.{frameBytes}
+use Rattle.rule.specs.Frames.{frameCount}
 use Rattle.log.specs.Line.{lineOf}
 use Rattle.checker.specs.Limits.{widthLimit, windowWords}
 use Rattle.checker.specs.Answer.{opened, refused}
+use Rattle.checker.specs.Profile.{widthMost, framesMost, profilePasses}
 use Rattle.checker.specs.Base.{referenced}
 use Rattle.checker.specs.State.{tallyIn, stateFrames, refsIn}
-use Rattle.checker.specs.Open.{widthFits, windowFits, openedAs, notOpened, afterFrames, openDef}
+use Rattle.checker.specs.Open.{widthFits, windowFits, openedAs, notOpened, afterWindow, afterFrames, openDef}
 use Rattle.checker.specs.StateTest.{isAccepted, rulePasses, statePasses, Passing}
 use Rattle.checker.specs.Admission.{Admission}
 use Rattle.checker.specs.Feed.{FeedRead, turned, skipped, taken, feedAnswer, fedBy, lineIn, fedIf, feedDef}
 use Rattle.checker.specs.Pull.{nextIn, pulledIf, pullDef}
+use Rattle.checker.specs.declared.Profile.{Profile}
 use Rattle.checker.specs.declared.State.{State}
 use Rattle.checker.proofs.Choices.{never-true}
 use Rattle.checker.proofs.Admissions.{let-in, barred-12, barred-13}
 use Rattle.checker.proofs.Bases.{referenced-exactly}
+use Rattle.checker.proofs.ProfileLaws.{within-facts, within-by, number-passes}
 use Rattle.checker.proofs.Tallies.{Sound, tally-good}
 use Rattle.checker.proofs.Fresh.{passed}
 use Rattle.checker.proofs.Stays.{sound-in}
@@ -40,18 +44,28 @@ module _ (s : State) (g : statePasses s ≡ true) where
       (le-leb 1 (s .width) (good-facts s g .some))
       (le-leb (s .width) widthLimit (good-facts s g .most))
 
-  passes-opens : (win : List ℤ) → length win ≡ windowWords (s .width) → openDef (stateFrames s) (s .width) win .answer ≡ opened
+  abbrev whose : Profile
+  whose = good-facts s g .known .profile
+
+  most : (s .width ≤ widthMost whose) × (s .len ≤ framesMost whose)
+  most = within-facts whose (s .width) (s .len) (good-facts s g .known .within)
+
+  passes-opens : (win : List ℤ) → length win ≡ windowWords (s .width) → openDef whose (stateFrames s) (s .width) win .answer ≡ opened
   unfolding openDef
   passes-opens win l =
-      ap (λ t. afterFrames (stateFrames s) (s .width) win t .answer) (good-facts s g .accepted)
-      ∙ ap (λ (t : Bool). cond t (openedAs (stateFrames s) (s .width)) (notOpened win 11 0) .answer)
+      ap (λ t. afterFrames whose (stateFrames s) (s .width) win t .answer) (good-facts s g .accepted)
+      ∙ ap (λ (t : Bool). cond t (afterWindow whose (stateFrames s) (s .width) win) (notOpened win 11 0) .answer)
       (true-and (widthFits (s .width)) (windowFits (s .width) win) width-fits (eq-eqb (length win) (windowWords (s .width)) l))
+      ∙ ap (λ (t : Bool). cond t (openedAs whose (stateFrames s) (s .width)) (notOpened win 26 0) .answer)
+      (within-by whose (s .width) (frameCount (stateFrames s)) (most .0) (omega (arith, most .1, length-take (s .len * frameBytes) (s .frames))))
 
   passing-by : Passing s
   passing-by =
       let t = sound-in s g in
       record {
-        room = good-facts s g .few;
+        profile = whose;
+        number = good-facts s g .known .number-of;
+        room = most .1;
         opens = passes-opens;
         few-lines = λ e l. t .counts e l .few;
         few-verdicts = t .low;
@@ -80,9 +94,11 @@ module _ (s : State) (h : Passing s) where
   unfolding statePasses rulePasses
   by-passing =
       let win : List ℤ = replicate (windowWords (s .width)) (pos 0) in
-      let p = passed (stateFrames s) (s .width) win (h .opens win (length-replicate (windowWords (s .width)) (pos 0))) in
+      let p = passed (h .profile) (stateFrames s) (s .width) win (h .opens win (length-replicate (windowWords (s .width)) (pos 0))) in
+      let m = within-by (h .profile) (s .width) (s .len) (within-facts (h .profile) (s .width) (frameCount (stateFrames s)) (p .within) .0) (h .room) in
+      let n = ap (λ (x : ℕ). profilePasses x (s .width) (s .len)) (h .number) ∙ number-passes (h .profile) (s .width) (s .len) m in
       true-and _ _
-      (true-and _ _ (true-and _ _ (le-leb (s .len) frameLimit (h .room)) (ap isAccepted (p .accepted))) (p .width))
+      (true-and _ _ (true-and _ _ n (ap isAccepted (p .accepted))) (p .width))
       (tally-good (refsIn s) (s .width) (tallyIn s) passing-sound)
 
 pub passes-exactly : (s : State) → (statePasses s ≡ true) ↔ Passing s

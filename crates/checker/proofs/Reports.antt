@@ -27,6 +27,7 @@ use Rattle.checker.specs.Machine.{Machine, atFirst, joined, moved, after
 use Rattle.checker.specs.Demand.{Unrefused, handed, verdicts, isIt, machineAfter, handedOut, acceptedIn, Reordered}
 use Rattle.checker.specs.Demand.{reporting, reports, reportsOut, Reported, ReportedTwice}
 use Rattle.checker.specs.Demand.{FreeBetween, equal, present-pending, pending-present}
+use Rattle.checker.specs.declared.Profile.{Profile}
 use Rattle.checker.proofs.Lists as lists
 use Rattle.checker.proofs.Final.{more-trans, more-end}
 use Rattle.checker.proofs.Order.{order-more}
@@ -129,9 +130,9 @@ module _ (frames : List ℕ) (w : ℕ) where
         gains = lines-gain (machineAfter frames w (h .before) .lists) (machineAfter frames w cs .lists) more i;
       }
 
-module _ {frames : List ℕ} {w : ℕ} {win : List ℤ} (o : Unrefused frames w win) (cs : List Call) where
-  pub report : (i : ℕ) → getD (handedOut frames w win cs) i Unknown ≡ False
-      → Reported frames w cs (firstFor frames + i) (getD (reportsOut frames w win cs) i [])
+module _ {profile : Profile} {frames : List ℕ} {w : ℕ} {win : List ℤ} (o : Unrefused profile frames w win) (cs : List Call) where
+  pub report : (i : ℕ) → getD (handedOut profile frames w win cs) i Unknown ≡ False
+      → Reported frames w cs (firstFor frames + i) (getD (reportsOut profile frames w win cs) i [])
   report i q =
       let h = all-wrote frames w cs (atFirst frames) i (rw (sym (lists.answers o cs)) q) in
       rw (lists.answers o cs) (reported frames w cs (firstFor frames + i) _ h)
@@ -155,12 +156,12 @@ free-between : (a b c : ℕ → List (List ℤ)) → MoreLines a c → MoreLines
 free-between a b c p q i r =
     free-at (byLists a) (byLists b) (byLists c) (r .event) (r .note) (meant i r) (lines-gain a c p i r) (lines-gain b c q i r)
 
-module _ {frames : List ℕ} {w w′ : ℕ} {win win′ : List ℤ}
-    (o : Unrefused frames w win) (o′ : Unrefused frames w′ win′) (cs cs′ : List Call) where
+module _ {profile profile′ : Profile} {frames : List ℕ} {w w′ : ℕ} {win win′ : List ℤ}
+    (o : Unrefused profile frames w win) (o′ : Unrefused profile′ frames w′ win′) (cs cs′ : List Call) where
   pub two-reports : MoreLines (machineAfter frames w cs .lists) (machineAfter frames w′ cs′ .lists) → (i : ℕ)
-      → getD (handedOut frames w win cs) i Unknown ≡ False → getD (handedOut frames w′ win′ cs′) i Unknown ≡ False
+      → getD (handedOut profile frames w win cs) i Unknown ≡ False → getD (handedOut profile′ frames w′ win′ cs′) i Unknown ≡ False
       → ReportedTwice frames w w′ cs cs′ (firstFor frames + i)
-      (getD (reportsOut frames w win cs) i []) (getD (reportsOut frames w′ win′ cs′) i [])
+      (getD (reportsOut profile frames w win cs) i []) (getD (reportsOut profile′ frames w′ win′ cs′) i [])
   two-reports more i q q′ =
       let x = report o cs i q in
       let y = report o′ cs′ i q′ in
@@ -176,7 +177,7 @@ module _ {frames : List ℕ} {w w′ : ℕ} {win win′ : List ℤ}
       }
 
   pub order-reports : Reordered (acceptedIn frames w cs (atFirst frames)) (acceptedIn frames w′ cs′ (atFirst frames)) → (i : ℕ)
-      → getD (handedOut frames w win cs) i Unknown ≡ False → getD (handedOut frames w′ win′ cs′) i Unknown ≡ False
+      → getD (handedOut profile frames w win cs) i Unknown ≡ False → getD (handedOut profile′ frames w′ win′ cs′) i Unknown ≡ False
       → ReportedTwice frames w w′ cs cs′ (firstFor frames + i)
-      (getD (reportsOut frames w win cs) i []) (getD (reportsOut frames w′ win′ cs′) i [])
+      (getD (reportsOut profile frames w win cs) i []) (getD (reportsOut profile′ frames w′ win′ cs′) i [])
   order-reports r = two-reports (order-more frames w w′ cs cs′ r)

@@ -10,7 +10,6 @@ use lib.Dec.{ltb, leb, eqb}
 use lib.IntN.{ℤ, pos}
 use lib.ListN.{length, getD, set, length-append, List·getD-append}
 use lib.Seq.{getD-append-seam}
-use Rattle.rule.specs.Limits.{frameLimit}
 use Rattle.rule.specs.Tree.{Reference, Cond, references, LimitsR}
 use Rattle.rule.specs.Build.{treeOf}
 use Rattle.rule.specs.Check.{checkedOf}
@@ -29,6 +28,7 @@ use Rattle.verdict.specs.declared.Judgement.the-variants.{Unsettled, True, Fals
 use Rattle.verdict.proofs.Main.{own-references}
 use Rattle.verdict.proofs.Laws.{SameOn, found-same}
 use Rattle.checker.specs.Limits.{windowWords, lineLimit, reportLeast}
+use Rattle.checker.specs.Profile.{profilePasses}
 use Rattle.checker.specs.Base.{referenced, orZero, base}
 use Rattle.checker.specs.State.{Tally, countOf, tallyIn, stateFrames, refsIn, withLine, withVerdict, withTally}
 use Rattle.checker.specs.Ring.{wordAt, kept}
@@ -62,7 +62,7 @@ Live refs w m words =
 -- a checker in step with the machine
 pub record Sim (frames : List ℕ) (w : ℕ) (m : Machine) (k : Checker) : Type 0 where
   pub rule : stateFrames (k .state) ≡ frames
-  pub len : leb (k .state .len) frameLimit ≡ true
+  pub len : profilePasses (k .state .profile) (k .state .width) (k .state .len) ≡ true
   pub width : k .state .width ≡ w
   pub tally : tallyIn (k .state) ≡ tallyOf m
   pub long : length (k .words) ≡ windowWords w

@@ -32,6 +32,7 @@ use Rattle.checker.specs.State.{stateWith, freshState}
 use Rattle.checker.specs.Open.{openDef}
 use Rattle.checker.specs.StateTest.{rulePasses, countPasses, allTo, tallyPasses, statePasses}
 use Rattle.checker.specs.Machine.{atFirst}
+use Rattle.checker.specs.declared.Profile.the-variants.{Desk}
 use Rattle.checker.specs.declared.State.{State}
 use Rattle.checker.proofs.CallExamples.{note}
 
@@ -97,7 +98,7 @@ latest-shown = record { frames = refl; first = refl }
 
 -- of the plain machine at first, and in the state that opening gives
 p-shown : (map (λ x. atFirst (framesOf x) .next) starts ≡ map (λ x. x .start) starts)
-    × (map (λ x. openDef (framesOf x) 1 (replicate (windowWords 1) (pos 7)) .state .next .0) starts ≡ map (λ x. x .start) starts)
+    × (map (λ x. openDef Desk (framesOf x) 1 (replicate (windowWords 1) (pos 7)) .state .next .0) starts ≡ map (λ x. x .start) starts)
 unfolding kindOf referenceCount orderOf sizesFit treeOf checkedOf someNotVoid firstFrom firstInstance freshState openDef
 p-shown = (refl, refl)
 
@@ -112,7 +113,7 @@ record TallyExample : Type 0 where
 -- a state of the rule t(a[i-2]) > 0, which starts at 2
 abbrev stateOf : TallyExample → State
 stateOf x =
-    stateWith (bytesOf (postfix (above 0 1 (negsuc 1))) ++ replicate (frameLimit * frameBytes - 24) 0) 3 1
+    stateWith (bytesOf (postfix (above 0 1 (negsuc 1))) ++ replicate (frameLimit * frameBytes - 24) 0) 3 1 0
     (record {
       counts = replicate 8 0;
       next = x .next;

@@ -30,6 +30,7 @@ use Rattle.checker.specs.Feed.{FeedRead, turned, skipped, taken, fedBy, 
 use Rattle.checker.specs.Pull.{PullRead, short, waits, gave, givenHere, foundHere, pulledBy, nextIn, pulledIf, pullDef}
 use Rattle.checker.specs.Machine.{atFirst}
 use Rattle.checker.specs.Demand.{Unrefused, fresh}
+use Rattle.checker.specs.declared.Profile.{Profile}
 use Rattle.checker.specs.declared.State.{State}
 use Rattle.checker.proofs.Choices.{less-or}
 use Rattle.checker.proofs.Ring.{length-kept}
@@ -122,11 +123,11 @@ module _ (s : State) (g : statePasses s ≡ true) where
 
 -- ---- the rule and W stay
 rule-same : (s : State) → SameRule s s
-rule-same s = record { frames = refl; len = refl; width = refl }
+rule-same s = record { frames = refl; len = refl; width = refl; profile = refl }
 
 rule-with : (s : State) (t : Tally) → SameRule s (withTally s t)
 unfolding withTally
-rule-with s t = record { frames = refl; len = refl; width = refl }
+rule-with s t = record { frames = refl; len = refl; width = refl; profile = refl }
 
 module _ (s : State) (win : List ℤ) where
   rule-fed : (f : FeedRead) → SameRule s (fedBy s win f .state)
@@ -169,8 +170,8 @@ module _ (s : State) (win : List ℤ) (a : admission s win ≡ admitted) where
       let-in (pullDef s win buffer .state) win (good-pull s (in-good s win a) b win buffer) (eq-eqb _ _ l)
 
 -- so is what an unrefused opening gives
-pub opened-stays : {frames : List ℕ} {w : ℕ} {win : List ℤ} → Unrefused frames w win → admission (openDef frames w win .state) (openDef frames w win .words) ≡ admitted
-opened-stays {frames} {w} {win} o = in-step-stays frames w (opened-fine o) (atFirst frames) (fresh frames w win) (both-opened o)
+pub opened-stays : {profile : Profile} {frames : List ℕ} {w : ℕ} {win : List ℤ} → Unrefused profile frames w win → admission (openDef profile frames w win .state) (openDef profile frames w win .words) ≡ admitted
+opened-stays {profile} {frames} {w} {win} o = in-step-stays frames w (opened-fine o) (atFirst frames) (fresh profile frames w win) (both-opened o)
 
-pub good-open : {frames : List ℕ} {w : ℕ} {win : List ℤ} → Unrefused frames w win → statePasses (openDef frames w win .state) ≡ true
-good-open {frames} {w} {win} o = in-good (openDef frames w win .state) (openDef frames w win .words) (opened-stays o)
+pub good-open : {profile : Profile} {frames : List ℕ} {w : ℕ} {win : List ℤ} → Unrefused profile frames w win → statePasses (openDef profile frames w win .state) ≡ true
+good-open {profile} {frames} {w} {win} o = in-good (openDef profile frames w win .state) (openDef profile frames w win .words) (opened-stays o)

@@ -15,6 +15,7 @@ use Rattle.checker.specs.Pull.{PullRead, short, waits, gave, pullAnswer}
 use Rattle.checker.specs.Calls.{Call, feed, pull, outs, end, checker}
 use Rattle.checker.specs.Machine.{Machine, atFirst, joined, moved, afterFeed, afterPull, machineFeed, machinePull, machineFor}
 use Rattle.checker.specs.Demand.{Unrefused, fresh, handed, verdicts, countIn, totalsOf}
+use Rattle.checker.specs.declared.Profile.{Profile}
 use Rattle.checker.specs.declared.Totals.{Totals}
 use Rattle.checker.proofs.Lists as lists
 use Rattle.checker.proofs.Final.{verdicts-same}
@@ -67,10 +68,10 @@ sums-are frames m vs c =
         ∙ ap (λ (x : ℕ). record { held = a; failed = x; unknown = t .unknown }) q
         ∙ ap (λ (x : ℕ). record { held = a; failed = b; unknown = x }) r
 
-module _ {frames : List ℕ} {w : ℕ} {win : List ℤ} (o : Unrefused frames w win) (cs : List Call) where
+module _ {profile : Profile} {frames : List ℕ} {w : ℕ} {win : List ℤ} (o : Unrefused profile frames w win) (cs : List Call) where
   -- in the checker's state
-  pub sums : (end checker cs (fresh frames w win) .state .next .0 ≡ firstFor frames + length (verdicts (outs checker cs (fresh frames w win))))
-      × (end checker cs (fresh frames w win) .state .totals ≡ totalsOf (verdicts (outs checker cs (fresh frames w win))))
+  pub sums : (end checker cs (fresh profile frames w win) .state .next .0 ≡ firstFor frames + length (verdicts (outs checker cs (fresh profile frames w win))))
+      × (end checker cs (fresh profile frames w win) .state .totals ≡ totalsOf (verdicts (outs checker cs (fresh profile frames w win))))
   sums =
       let t = lists.state o cs in
       let v = verdicts-same o cs in

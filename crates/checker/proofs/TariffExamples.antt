@@ -18,6 +18,7 @@ use Rattle.checker.specs.State.{withTally, zeroState, freshState}
 use Rattle.checker.specs.StateTest.{rulePasses, countPasses, allTo, tallyPasses, statePasses}
 use Rattle.checker.specs.Tariff.{bandsFrom, bandsOf, riseFrom, bandsFit, inRange, pricesFit, priceOf, priceSum, surcharged, centsOf}
 use Rattle.checker.specs.Tariff.{cents, turned, chargeDef}
+use Rattle.checker.specs.declared.Profile.the-variants.{Desk}
 use Rattle.checker.specs.declared.State.{State}
 use Rattle.checker.specs.declared.Tariff.{Tariff}
 use Rattle.checker.proofs.Prices.{sum-none}
@@ -136,7 +137,7 @@ greatest = ap (λ (sum : ℕ). surcharged sum 100) (sum-none 10000 1009999)
 -- ---- the call: a state of document 01's first rule with these totals
 abbrev state : ℕ → ℕ → ℕ → State
 state held failed unknown =
-    let s = freshState (bytesOf (postfix latency)) 1 in
+    let s = freshState Desk (bytesOf (postfix latency)) 1 in
     withTally s
     (record { counts = s .counts; next = held + failed + unknown; totals = record { held = held; failed = failed; unknown = unknown } })
 

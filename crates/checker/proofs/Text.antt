@@ -22,13 +22,14 @@ use Rattle.checker.specs.Base.{firstFor}
 use Rattle.checker.specs.Open.{openDef}
 use Rattle.checker.specs.Calls.{Call}
 use Rattle.checker.specs.Demand.{machineAfter, handedOut}
+use Rattle.checker.specs.declared.Profile.{Profile}
 use Rattle.checker.proofs.Value.{value-of}
 
 module _ (text buffer filled : List ℕ) (n : ℕ) (r : readOf text buffer ≡ (reading.frames n, filled)) (x : Rule) (spelled : yield x ≡ words (tokens text)) where
-  pub text-to-verdict : (w : ℕ) (win : List ℤ) → openDef (take (n * frameBytes) filled) w win .answer ≡ opened → (cs : List Call) (i : ℕ)
-      → i < length (handedOut (take (n * frameBytes) filled) w win cs)
-      → getD (handedOut (take (n * frameBytes) filled) w win cs) i Unknown
+  pub text-to-verdict : (profile : Profile) (w : ℕ) (win : List ℤ) → openDef profile (take (n * frameBytes) filled) w win .answer ≡ opened → (cs : List Call) (i : ℕ)
+      → i < length (handedOut profile (take (n * frameBytes) filled) w win cs)
+      → getD (handedOut profile (take (n * frameBytes) filled) w win cs) i Unknown
       ≡ verdictOf (value (givenIn (machineAfter (take (n * frameBytes) filled) w cs .lists) (firstFor (take (n * frameBytes) filled) + i)) (meaning text x))
-  text-to-verdict w win o cs i h =
+  text-to-verdict profile w win o cs i h =
       value-of (record { bytes = read-bytes text buffer n filled r; answer = o }) cs i h
       ∙ ap (λ (t : Cond). verdictOf (value (givenIn (machineAfter (take (n * frameBytes) filled) w cs .lists) (firstFor (take (n * frameBytes) filled) + i)) t)) (read-tree text buffer n filled r x spelled)

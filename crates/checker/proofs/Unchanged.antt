@@ -6,6 +6,7 @@ use mathlib.Core.Logic.{_≢_}
 use Prim.Native.Nat.{ℕ}
 use lib.IntN.{ℤ}
 use lib.ListN.{length}
+use Rattle.rule.specs.Frames.{frameCount}
 use Rattle.rule.specs.Check.{checkedOf}
 use Rattle.rule.specs.CheckTold.{CheckAnswer}
 use Rattle.rule.specs.CheckTold as checking
@@ -13,24 +14,28 @@ use Rattle.log.specs.Line.{lineOf}
 use Rattle.verdict.specs.declared.Verdict.{Verdict}
 use Rattle.checker.specs.Answer.{opened, accepted, verdict}
 use Rattle.checker.specs.State.{zeroState}
-use Rattle.checker.specs.Open.{OpenResult, widthFits, windowFits, openedAs, notOpened, afterFrames, openDef}
+use Rattle.checker.specs.Profile.{withinMost}
+use Rattle.checker.specs.Open.{OpenResult, widthFits, windowFits, openedAs, notOpened, afterWindow, afterFrames, openDef}
 use Rattle.checker.specs.Admission.{Admission, admitted, barred, admission}
 use Rattle.checker.specs.Feed.{FeedRead, turned, skipped, taken, FeedResult, fedBy, lineIn, fedIf, feedDef}
 use Rattle.checker.specs.Pull.{PullRead, short, waits, gave, PullResult, pulledBy, nextIn, pulledIf, pullDef}
+use Rattle.checker.specs.declared.Profile.{Profile}
 use Rattle.checker.specs.declared.State.{State}
 use Rattle.checker.proofs.Choices.{cond-case}
 
 -- ---- opening
-module _ (frames : List ℕ) (w : ℕ) (win : List ℤ) where
+module _ (profile : Profile) (frames : List ℕ) (w : ℕ) (win : List ℤ) where
   abbrev KeptO : OpenResult → Type 0
   KeptO x = x .answer ≢ opened → (x .state ≡ zeroState) × (x .words ≡ win)
 
-  open-by : (c : CheckAnswer) → KeptO (afterFrames frames w win c)
+  open-by : (c : CheckAnswer) → KeptO (afterFrames profile frames w win c)
   open-by (checking.refused number place) = λ h. (refl, refl)
   open-by checking.accepted =
-      cond-case KeptO (widthFits w && windowFits w win) (openedAs frames w) (notOpened win 11 0) (λ _ h. absurd (h refl)) (λ _ h. (refl, refl))
+      cond-case KeptO (widthFits w && windowFits w win) (afterWindow profile frames w win) (notOpened win 11 0)
+      (λ _. cond-case KeptO (withinMost profile w (frameCount frames)) (openedAs profile frames w) (notOpened win 26 0) (λ _ h. absurd (h refl)) (λ _ h. (refl, refl)))
+      (λ _ h. (refl, refl))
 
-  pub open-unchanged : KeptO (openDef frames w win)
+  pub open-unchanged : KeptO (openDef profile frames w win)
   unfolding openDef
   open-unchanged = open-by (checkedOf frames)
 

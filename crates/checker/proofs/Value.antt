@@ -16,6 +16,7 @@ use Rattle.verdict.specs.declared.Judgement.the-variants.{Unsettled}
 use Rattle.checker.specs.Base.{firstFor}
 use Rattle.checker.specs.Calls.{Call}
 use Rattle.checker.specs.Demand.{Unrefused, machineAfter, handedOut}
+use Rattle.checker.specs.declared.Profile.{Profile}
 use Rattle.checker.proofs.Simulation.{verdict-settled}
 use Rattle.checker.proofs.Final.{said, final, verdict-one, instances-from-at}
 
@@ -24,11 +25,11 @@ from-said : (b : Bool) (v t : Verdict) → settling.verdict v ≡ cond b (settli
 from-said true v t q = verdict-one v t q
 from-said false v t q = absurd (verdict-settled v q)
 
-module _ {frames : List ℕ} {w : ℕ} {win : List ℤ} (o : Unrefused frames w win) (cs : List Call) where
-  pub value-of : (i : ℕ) → i < length (handedOut frames w win cs)
-      → getD (handedOut frames w win cs) i Unknown ≡ verdictOf (value (givenIn (machineAfter frames w cs .lists) (firstFor frames + i)) (treeOf frames))
+module _ {profile : Profile} {frames : List ℕ} {w : ℕ} {win : List ℤ} (o : Unrefused profile frames w win) (cs : List Call) where
+  pub value-of : (i : ℕ) → i < length (handedOut profile frames w win cs)
+      → getD (handedOut profile frames w win cs) i Unknown ≡ verdictOf (value (givenIn (machineAfter frames w cs .lists) (firstFor frames + i)) (treeOf frames))
   value-of i h =
       let m = machineAfter frames w cs in
       let g = givenIn (m .lists) (firstFor frames + i) in
-      from-said (settled g (treeOf frames)) (getD (handedOut frames w win cs) i Unknown) (verdictOf (value g (treeOf frames)))
-      (instances-from-at (handedOut frames w win cs) (firstFor frames) (said frames m) i (final o cs) h)
+      from-said (settled g (treeOf frames)) (getD (handedOut profile frames w win cs) i Unknown) (verdictOf (value g (treeOf frames)))
+      (instances-from-at (handedOut profile frames w win cs) (firstFor frames) (said frames m) i (final o cs) h)

@@ -21,6 +21,7 @@ use Rattle.checker.specs.Base.{ofEvent, referenced, smallest, base, some
 use Rattle.checker.specs.State.{freshState, withTally}
 use Rattle.checker.specs.Ring.{stored, kept}
 use Rattle.checker.specs.Open.{openDef}
+use Rattle.checker.specs.declared.Profile.the-variants.{Desk}
 use Rattle.checker.specs.StateTest.{rulePasses, countPasses, allTo, tallyPasses, statePasses}
 use Rattle.checker.specs.Admission.{admission}
 use Rattle.checker.specs.Feed.{feedEvent, feedDef}
@@ -86,9 +87,9 @@ bothReported = record { instance = 0; verdict = False } ∷ record { instance = 
 abbrev bothViews : List (List ℕ)
 bothViews = (0 ∷ 0 ∷ 0 ∷ 0 ∷ 0 ∷ []) ∷ (0 ∷ 0 ∷ 0 ∷ 2 ∷ 0 ∷ []) ∷ []
 
-two-logs : (reportedOut frames 4 (window 4) oneLog ≡ bothReported)
-    × (viewsOut frames 4 (window 4) oneLog ≡ bothViews)
-    × (reportedOut frames 1 (window 1) otherLog ≡ bothReported)
-    × (viewsOut frames 1 (window 1) otherLog ≡ bothViews)
+two-logs : (reportedOut Desk frames 4 (window 4) oneLog ≡ bothReported)
+    × (viewsOut Desk frames 4 (window 4) oneLog ≡ bothViews)
+    × (reportedOut Desk frames 1 (window 1) otherLog ≡ bothReported)
+    × (viewsOut Desk frames 1 (window 1) otherLog ≡ bothViews)
 unfolding viewDef views reportedFrom verdicts kindOf referenceCount orderOf sizesFit treeOf checkedOf digitValue digitsAtFront badPlace lineOf ofEvent referenced smallest base someNotVoid firstFrom firstInstance freshState withTally stored kept openDef rulePasses countPasses allTo tallyPasses statePasses admission feedEvent feedDef reportBytes pullRead pullDef outs
 two-logs = (refl, refl, refl, refl)

@@ -29,6 +29,7 @@ use Rattle.checker.specs.Machine.{Machine, atFirst, joined, moved, after
 use Rattle.checker.specs.Demand.{Unrefused, handed, verdicts}
 use Rattle.checker.specs.View.{ViewResult, viewDef, viewing, views, viewsOut}
 use Rattle.checker.specs.View.{InstanceVerdict, reportedFrom, reportedOut, seen}
+use Rattle.checker.specs.declared.Profile.{Profile}
 use Rattle.checker.specs.declared.State.{State}
 use Rattle.checker.proofs.Choices.{cond-case}
 use Rattle.checker.proofs.Lists as lists
@@ -141,8 +142,8 @@ module _ (frames : List ℕ) (w : ℕ) where
       let long = enough (treeOf frames) (givenIn (m .lists) (m .next)) (length buffer) in
       seen-pulled m buffer x long (verdicts os) (views os) (all-seen cs (afterPull m x))
 
-module _ {frames : List ℕ} {w : ℕ} {win : List ℤ} (o : Unrefused frames w win) (cs : List Call) where
-  pub views-seen : viewsOut frames w win cs ≡ map seen (reportedOut frames w win cs)
+module _ {profile : Profile} {frames : List ℕ} {w : ℕ} {win : List ℤ} (o : Unrefused profile frames w win) (cs : List Call) where
+  pub views-seen : viewsOut profile frames w win cs ≡ map seen (reportedOut profile frames w win cs)
   views-seen = rw (lists.answers o cs) (all-seen frames w cs (atFirst frames))
 
 -- ---- a view fixes the instance and the verdict
@@ -168,19 +169,19 @@ reported-back i (Verdict.False ∷ vs) = ap₂ _∷_ (reported-seen i) (reported
 reported-back i (Verdict.Unknown ∷ vs) = reported-back (i + 1) vs
 
 -- ---- two lists
-module _ {frames : List ℕ} {w w′ : ℕ} {win win′ : List ℤ}
-    (o : Unrefused frames w win) (o′ : Unrefused frames w′ win′) (cs cs′ : List Call) where
-  pub same-views : reportedOut frames w win cs ≡ reportedOut frames w′ win′ cs′
-      → viewsOut frames w win cs ≡ viewsOut frames w′ win′ cs′
+module _ {profile profile′ : Profile} {frames : List ℕ} {w w′ : ℕ} {win win′ : List ℤ}
+    (o : Unrefused profile frames w win) (o′ : Unrefused profile′ frames w′ win′) (cs cs′ : List Call) where
+  pub same-views : reportedOut profile frames w win cs ≡ reportedOut profile′ frames w′ win′ cs′
+      → viewsOut profile frames w win cs ≡ viewsOut profile′ frames w′ win′ cs′
   same-views e = views-seen o cs ∙ ap (map seen) e ∙ sym (views-seen o′ cs′)
 
-  same-reported : viewsOut frames w win cs ≡ viewsOut frames w′ win′ cs′
-      → reportedOut frames w win cs ≡ reportedOut frames w′ win′ cs′
+  same-reported : viewsOut profile frames w win cs ≡ viewsOut profile′ frames w′ win′ cs′
+      → reportedOut profile frames w win cs ≡ reportedOut profile′ frames w′ win′ cs′
   same-reported e =
       sym (reported-back (firstFor frames) _)
       ∙ ap (map reported) (sym (views-seen o cs) ∙ e ∙ views-seen o′ cs′)
       ∙ reported-back (firstFor frames) _
 
-  pub views-exactly : (viewsOut frames w win cs ≡ viewsOut frames w′ win′ cs′)
-      ↔ (reportedOut frames w win cs ≡ reportedOut frames w′ win′ cs′)
+  pub views-exactly : (viewsOut profile frames w win cs ≡ viewsOut profile′ frames w′ win′ cs′)
+      ↔ (reportedOut profile frames w win cs ≡ reportedOut profile′ frames w′ win′ cs′)
   views-exactly = (same-reported, same-views)

@@ -7,7 +7,7 @@ use Prim.Native.Nat.{ℕ, suc, _+_, _-_, _*_, _/_, _≤_, min}
 use lib.Dec.{leb, eqb}
 use lib.IntN.{ℤ, pos, negsuc}
 use lib.ListN.{getD, set, take, replicate}
-use Rattle.rule.specs.Limits.{eventLimit, offsetLimit, frameLimit, frameBytes}
+use Rattle.rule.specs.Limits.{eventLimit, offsetLimit, frameBytes}
 use Rattle.rule.specs.Tree.{Reference, LimitsR}
 use Rattle.rule.specs.Frames.{frameCount}
 use Rattle.rule.specs.References.{referenceByte, referenceOf, referencesTo}
@@ -17,6 +17,7 @@ use Rattle.rule.specs.CheckTold as checking
 use Rattle.verdict.specs.Found.{instanceLimit}
 use Rattle.checker.specs.Limits.{lineLimit}
 use Rattle.checker.specs.Base.{startAt, firstFor}
+use Rattle.checker.specs.Profile.{profilePasses}
 use Rattle.checker.specs.Open.{widthFits}
 use Rattle.checker.specs.StateTest.{isAccepted, allTo, totalsPass}
 use Rattle.checker.specs.declared.Totals.{Totals}
@@ -80,9 +81,9 @@ pub record Passable (s : List ℕ) (p : ℕ) : Type 0 where
 abbrev pub countFits : ℕ → ℕ → ℕ → Bool
 countFits w low c = leb c lineLimit && cond (eqb low noBase) (eqb c 0) (leb c (low + w))
 
--- 12 of a state's fields: not "a state whose frames or W opening would refuse"
-abbrev pub ruleFits : List ℕ → ℕ → ℕ → Bool
-ruleFits frames n w = (leb n frameLimit && isAccepted (checkedOf (take (n * frameBytes) frames))) && widthFits w
+-- 12 of a state's fields: not "a state whose frames or W opening would refuse", nor "a board state above them"
+abbrev pub ruleFits : List ℕ → ℕ → ℕ → ℕ → Bool
+ruleFits frames n w number = (profilePasses number w n && isAccepted (checkedOf (take (n * frameBytes) frames))) && widthFits w
 
 -- 12 of the others, by the pass: nor "a count over 1,000,000, p over 1,009,999", and "the new sum"
 unfoldable pub tallyFits : List ℕ → ℕ → List ℕ → ℕ → Totals → Bool

@@ -23,16 +23,17 @@ use Rattle.checker.specs.Open.{openDef}
 use Rattle.checker.specs.Feed.{FeedRead, turned, skipped, taken}
 use Rattle.checker.specs.Calls.{Call, feed, pull, Out, fed, pulled, outs, end, Checker, checker}
 use Rattle.checker.specs.Machine.{Machine, atFirst, tallyOf, machineFeed, machineFor}
+use Rattle.checker.specs.declared.Profile.{Profile}
 use Rattle.checker.specs.declared.Totals.{Totals}
 
 -- "an unrefused opening"; the frames are bytes, as a slice of them is
-pub record Unrefused (frames : List ℕ) (w : ℕ) (win : List ℤ) : Type 0 where
+pub record Unrefused (profile : Profile) (frames : List ℕ) (w : ℕ) (win : List ℤ) : Type 0 where
   pub bytes : Bytes frames
-  pub answer : openDef frames w win .answer ≡ opened
+  pub answer : openDef profile frames w win .answer ≡ opened
 
 -- "A fresh checker is the state and window that an unrefused opening gave back"
-abbrev pub fresh : List ℕ → ℕ → List ℤ → Checker
-fresh frames w win = record { state = openDef frames w win .state; words = openDef frames w win .words }
+abbrev pub fresh : Profile → List ℕ → ℕ → List ℤ → Checker
+fresh profile frames w win = record { state = openDef profile frames w win .state; words = openDef profile frames w win .words }
 
 -- "each answer with its number and place", without the report buffer
 abbrev pub answerOf : Out → Answer
@@ -80,34 +81,35 @@ countIn (x ∷ xs) v = isIt v x + countIn xs v
 abbrev pub totalsOf : List Verdict → Totals
 totalsOf vs = record { held = countIn vs True; failed = countIn vs False; unknown = countIn vs Unknown }
 
--- ---- after a list of calls, from an opening with these frames, this W and this window
+-- ---- after a list of calls, from an opening with this profile, these frames, this W and this window
 -- "After every list": the checker
-abbrev pub checkerAfter : List ℕ → ℕ → List ℤ → List Call → Checker
-checkerAfter frames w win cs = end checker cs (fresh frames w win)
+abbrev pub checkerAfter : Profile → List ℕ → ℕ → List ℤ → List Call → Checker
+checkerAfter profile frames w win cs = end checker cs (fresh profile frames w win)
 
 -- "the machine's lists after the last call", with its p and totals
 abbrev pub machineAfter : List ℕ → ℕ → List Call → Machine
 machineAfter frames w cs = end (machineFor frames w) cs (atFirst frames)
 
 -- "verdicts pulled" from the checker
-abbrev pub handedOut : List ℕ → ℕ → List ℤ → List Call → List Verdict
-handedOut frames w win cs = verdicts (outs checker cs (fresh frames w win))
+abbrev pub handedOut : Profile → List ℕ → ℕ → List ℤ → List Call → List Verdict
+handedOut profile frames w win cs = verdicts (outs checker cs (fresh profile frames w win))
 
 -- ---- "The third demand is a single claim about the whole list and not one for each call"
-pub record ThirdDemand (frames : List ℕ) (w : ℕ) (win : List ℤ) (cs : List Call) : Type 0 where
+pub record ThirdDemand (profile : Profile) (frames : List ℕ) (w : ℕ) (win : List ℤ) (cs : List Call) : Type 0 where
   -- "After every list, each answer with its number and place and each report buffer after its pull are as the machine gave them"
-  pub answers : outs checker cs (fresh frames w win) ≡ outs (machineFor frames w) cs (atFirst frames)
+  pub answers : outs checker cs (fresh profile frames w win) ≡ outs (machineFor frames w) cs (atFirst frames)
   -- "and the counts, p and totals in the state are the machine's"
-  pub state : tallyIn (checkerAfter frames w win cs .state) ≡ tallyOf (machineAfter frames w cs)
+  pub state : tallyIn (checkerAfter profile frames w win cs .state) ≡ tallyOf (machineAfter frames w cs)
   -- "The definition over all lines accepted in the list is the one over the machine's lists after the last call"
-  pub final : map settling.verdict (handedOut frames w win cs)
-      ≡ instancesFrom (firstFor frames) (length (handedOut frames w win cs))
+  pub final : map settling.verdict (handedOut profile frames w win cs)
+      ≡ instancesFrom (firstFor frames) (length (handedOut profile frames w win cs))
       (λ (i : ℕ). judgement (givenIn (machineAfter frames w cs .lists) i) (treeOf frames))
   -- document 02, point 2: "The totals sum to p less that start"
-  pub totals : (checkerAfter frames w win cs .state .next .0 ≡ firstFor frames + length (handedOut frames w win cs))
-      × (checkerAfter frames w win cs .state .totals ≡ totalsOf (handedOut frames w win cs))
+  pub totals : (checkerAfter profile frames w win cs .state .next .0
+      ≡ firstFor frames + length (handedOut profile frames w win cs))
+      × (checkerAfter profile frames w win cs .state .totals ≡ totalsOf (handedOut profile frames w win cs))
   -- "So 12 and 13 never come in such a list"
-  pub never-12-13 : (x : Out) → List·Memᴰ x (outs checker cs (fresh frames w win)) → (place : ℕ)
+  pub never-12-13 : (x : Out) → List·Memᴰ x (outs checker cs (fresh profile frames w win)) → (place : ℕ)
       → (answerOf x ≢ refused 12 place) × (answerOf x ≢ refused 13 place)
 
 -- ---- accepted lines
@@ -154,8 +156,8 @@ reports (fed a ∷ os) = reports os
 reports (pulled a report ∷ os) = reporting a report (reports os)
 
 -- those of the checker
-abbrev pub reportsOut : List ℕ → ℕ → List ℤ → List Call → List (List ℕ)
-reportsOut frames w win cs = reports (outs checker cs (fresh frames w win))
+abbrev pub reportsOut : Profile → List ℕ → ℕ → List ℤ → List Call → List (List ℕ)
+reportsOut profile frames w win cs = reports (outs checker cs (fresh profile frames w win))
 
 -- what each reference of instance i is by the lines that a list accepts
 abbrev pub foundAfter : List ℕ → ℕ → List Call → ℕ → Reference → Found

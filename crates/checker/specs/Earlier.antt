@@ -16,6 +16,7 @@ use Rattle.checker.specs.Feed.{FeedRead, feedRead, feedAnswer}
 use Rattle.checker.specs.Calls.{Call, feed, pull, Out, fed, pulled, Step, outs, end, checker}
 use Rattle.checker.specs.Machine.{Machine, atFirst, tallyOf, afterFeed, machine}
 use Rattle.checker.specs.Demand.{fresh, verdicts, checkerAfter, handedOut}
+use Rattle.checker.specs.declared.Profile.{Profile}
 
 -- ---- the plain machine over old lines
 module _ (rule : Cond) (w : ℕ) where
@@ -60,13 +61,13 @@ outRaised (pulled a report) = pulled a report
 
 -- "every verdict over an old log is the one over its raised log": a list of calls whose lines are old ones, on the plain machine,
 -- and the list with each line raised, on a fresh checker
-pub record RaisedLog (frames : List ℕ) (w : ℕ) (win : List ℤ) (other : List ℕ) (cs : List Call) : Type 0 where
+pub record RaisedLog (profile : Profile) (frames : List ℕ) (w : ℕ) (win : List ℤ) (other : List ℕ) (cs : List Call) : Type 0 where
   -- each answer with its number and place and each report buffer
-  pub answers : outs checker (map (raisedCall other) cs) (fresh frames w win)
+  pub answers : outs checker (map (raisedCall other) cs) (fresh profile frames w win)
       ≡ map outRaised (outs (oldMachineFor frames w) cs (atFirst frames))
   -- the verdicts handed out
-  pub verdicts-same : handedOut frames w win (map (raisedCall other) cs)
+  pub verdicts-same : handedOut profile frames w win (map (raisedCall other) cs)
       ≡ verdicts (outs (oldMachineFor frames w) cs (atFirst frames))
   -- the counts, p and totals
-  pub state : tallyIn (checkerAfter frames w win (map (raisedCall other) cs) .state)
+  pub state : tallyIn (checkerAfter profile frames w win (map (raisedCall other) cs) .state)
       ≡ tallyOf (end (oldMachineFor frames w) cs (atFirst frames))

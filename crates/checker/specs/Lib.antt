@@ -1,7 +1,8 @@
--- What a buyer reads: limits and answers, bases, the state and the window, the report, the three calls, the plain machine, the
--- words of the third demand, the view of a report, logs of the earlier edition, and the rework tariff.
+-- What a buyer reads: limits and answers, desk and board, bases, the state and the window, the report, the three calls, the plain
+-- machine, the words of the third demand, the view of a report, logs of the earlier edition, and the rework tariff.
 pub mod Limits
 pub mod Answer
+pub mod Profile
 pub mod Base
 pub mod State
 pub mod Ring

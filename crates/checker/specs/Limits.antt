@@ -1,5 +1,5 @@
--- Limits of the window, the counts and the report, each named once. From document 01, "Feeding, pulling and the window" and
--- "What is turned down". Assumes nothing: definitions.
+-- Limits of the window, the counts, the report and the board, each named once. From document 01, "Feeding, pulling and the window"
+-- and "What is turned down", and document 02, point 9. Assumes nothing: definitions.
 use Prim.Native.Nat.{ℕ, _*_}
 
 -- W, the document's name for the width of the window: "W outside 1 to 256" is refused with 11
@@ -17,3 +17,11 @@ lineLimit = 1000000
 -- 14: "a report buffer under 166 bytes"
 abbrev pub reportLeast : ℕ
 reportLeast = 166
+
+-- the board: "W at most 32"
+abbrev pub boardWidthLimit : ℕ
+boardWidthLimit = 32
+
+-- the board: "at most 16 frames"
+abbrev pub boardFrameLimit : ℕ
+boardFrameLimit = 16

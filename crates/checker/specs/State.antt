@@ -10,6 +10,8 @@ use Rattle.rule.specs.Build.{treeOf}
 use Rattle.verdict.specs.declared.Verdict.{Verdict}
 use Rattle.verdict.specs.declared.Verdict.the-variants.{True, False, Unknown}
 use Rattle.checker.specs.Base.{firstFor}
+use Rattle.checker.specs.Profile.{profileNumber}
+use Rattle.checker.specs.declared.Profile.{Profile}
 use Rattle.checker.specs.declared.Totals.{Totals}
 use Rattle.checker.specs.declared.State.{State}
 
@@ -51,13 +53,14 @@ abbrev pub withVerdict : Tally → Verdict → Tally
 withVerdict t v = record { counts = t .counts; next = t .next + 1; totals = counted (t .totals) v }
 
 -- ---- states; only here their fields are listed
--- "The state carries frames, W (1 to 256), per-event counts, p, and the totals"
-abbrev pub stateWith : List ℕ → ℕ → ℕ → Tally → State
-stateWith frames n w t =
+-- "The state carries frames, W (1 to 256), per-event counts, p, and the totals"; document 02, point 9: "stays in the state"
+abbrev pub stateWith : List ℕ → ℕ → ℕ → ℕ → Tally → State
+stateWith frames n w number t =
     record {
       frames = frames;
       len = n;
       width = w;
+      profile = number;
       counts = t .counts;
       next = record { 0 = t .next };
       totals = t .totals;
@@ -69,17 +72,17 @@ tallyIn s = record { counts = s .counts; next = s .next .0; totals = s .totals }
 
 -- the one change of a state: other "per-event counts, p, and the totals"
 unfoldable pub withTally : State → Tally → State
-withTally s t = stateWith (s .frames) (s .len) (s .width) t
+withTally s t = stateWith (s .frames) (s .len) (s .width) (s .profile) t
 
 -- "the state that is zero throughout, with no frames"
 abbrev pub zeroState : State
-zeroState = stateWith (replicate (frameLimit * frameBytes) 0) 0 0 (tallyFrom 0)
+zeroState = stateWith (replicate (frameLimit * frameBytes) 0) 0 0 0 (tallyFrom 0)
 
 -- "the state .. that an unrefused opening gave back", zero after the last frame; document 02, point 2: "p starts there"
-unfoldable pub freshState : List ℕ → ℕ → State
-freshState frames w =
+unfoldable pub freshState : Profile → List ℕ → ℕ → State
+freshState profile frames w =
     stateWith (frames ++ replicate (frameLimit * frameBytes - length frames) 0) (length frames / frameBytes) w
-    (tallyFrom (firstFor frames))
+    (profileNumber profile) (tallyFrom (firstFor frames))
 
 -- "a state whose frames": those that its rule is
 abbrev pub stateFrames : State → List ℕ
@@ -93,8 +96,9 @@ ruleIn s = treeOf (stateFrames s)
 abbrev pub refsIn : State → List Reference
 refsIn s = references (ruleIn s)
 
--- "the rule and W that opening was given": the same in two states
+-- "the rule and W that opening was given", and the profile: the same in two states
 pub record SameRule (s s′ : State) : Type 0 where
   pub frames : s′ .frames ≡ s .frames
   pub len : s′ .len ≡ s .len
   pub width : s′ .width ≡ s .width
+  pub profile : s′ .profile ≡ s .profile

@@ -1,4 +1,4 @@
--- The states that 12 lets through. From document 01, "What is turned down", 12, and document 02, point 2.
+-- The states that 12 lets through. From document 01, "What is turned down", 12, and document 02, points 2 and 9.
 -- Assumes nothing: definitions.
 use mathlib.Core.Path.{_≡_}
 use mathlib.Core.Bool.{Bool, true, false, _&&_, cond}
@@ -7,7 +7,7 @@ use Prim.Native.Nat.{ℕ, zero, suc, _+_, _-_, _≤_, _<_}
 use lib.Dec.{leb, eqb}
 use lib.IntN.{ℤ}
 use lib.ListN.{length}
-use Rattle.rule.specs.Limits.{eventLimit, frameLimit}
+use Rattle.rule.specs.Limits.{eventLimit}
 use Rattle.rule.specs.Tree.{Reference}
 use Rattle.rule.specs.Check.{checkedOf}
 use Rattle.rule.specs.CheckTold.{CheckAnswer}
@@ -15,9 +15,11 @@ use Rattle.rule.specs.CheckTold as checking
 use Rattle.verdict.specs.Found.{instanceLimit}
 use Rattle.checker.specs.Limits.{windowWords, lineLimit}
 use Rattle.checker.specs.Answer.{opened}
+use Rattle.checker.specs.Profile.{framesMost, profileNumber, profilePasses}
 use Rattle.checker.specs.Base.{referenced, base, Referenced, firstInstance}
 use Rattle.checker.specs.State.{sumOf, Tally, countOf, tallyIn, stateFrames, refsIn}
 use Rattle.checker.specs.Open.{widthFits, openDef}
+use Rattle.checker.specs.declared.Profile.{Profile}
 use Rattle.checker.specs.declared.Totals.{Totals}
 use Rattle.checker.specs.declared.State.{State}
 
@@ -26,9 +28,10 @@ abbrev pub isAccepted : CheckAnswer → Bool
 isAccepted checking.accepted = true
 isAccepted (checking.refused number place) = false
 
--- not "a state whose frames or W opening would refuse"; there is room for 64 frames
+-- not "a state whose frames or W opening would refuse", nor "a board state above them"; there is room for the desk's 64 frames
 unfoldable pub rulePasses : State → Bool
-rulePasses s = (leb (s .len) frameLimit && isAccepted (checkedOf (stateFrames s))) && widthFits (s .width)
+rulePasses s =
+    (profilePasses (s .profile) (s .width) (s .len) && isAccepted (checkedOf (stateFrames s))) && widthFits (s .width)
 
 -- not "a count over 1,000,000", "a nonzero count of an unreferenced event, or a count above base plus W"
 unfoldable pub countPasses : List Reference → ℕ → Tally → ℕ → Bool
@@ -57,11 +60,14 @@ statePasses s = rulePasses s && tallyPasses (refsIn s) (s .width) (tallyIn s)
 -- ---- 12 once more, condition by condition
 -- what 12 lets through: a state of which none of its conditions holds
 pub record Passing (s : State) : Type 0 where
-  -- not "frames .. opening would refuse", by their number: a state has room for 64
-  pub room : s .len ≤ frameLimit
-  -- not "a state whose frames or W opening would refuse": with a window of 32 × W words they are opened
+  -- desk or board: "The limit is chosen at opening, stays in the state"; no opening gives another number
+  pub profile : Profile
+  pub number : s .profile ≡ profileNumber profile
+  -- not "frames .. opening would refuse", by their number: 64 of the desk, 16 of the board
+  pub room : s .len ≤ framesMost profile
+  -- not "a state whose frames or W opening would refuse", nor "a board state above them": with 32 × W words they are opened
   pub opens : (win : List ℤ) → length win ≡ windowWords (s .width)
-      → openDef (stateFrames s) (s .width) win .answer ≡ opened
+      → openDef profile (stateFrames s) (s .width) win .answer ≡ opened
   -- not "a count over 1,000,000"
   pub few-lines : (e : ℕ) → e < eventLimit → countOf (tallyIn s) e ≤ lineLimit
   -- not "p over 1,009,999"

@@ -15,6 +15,7 @@ use Rattle.checker.specs.Base.{firstFor}
 use Rattle.checker.specs.Report.{falseByte}
 use Rattle.checker.specs.Calls.{Call, Out, fed, pulled, outs, checker}
 use Rattle.checker.specs.Demand.{fresh, handedOut}
+use Rattle.checker.specs.declared.Profile.{Profile}
 
 -- ---- the call
 -- "a view of the report's first 5 bytes"
@@ -56,8 +57,8 @@ views (fed a ∷ os) = views os
 views (pulled a report ∷ os) = viewing a report (views os)
 
 -- "give the hands, one view after each report": what a list of calls on a fresh checker gives
-abbrev pub viewsOut : List ℕ → ℕ → List ℤ → List Call → List (List ℕ)
-viewsOut frames w win cs = views (outs checker cs (fresh frames w win))
+abbrev pub viewsOut : Profile → List ℕ → ℕ → List ℤ → List Call → List (List ℕ)
+viewsOut profile frames w win cs = views (outs checker cs (fresh profile frames w win))
 
 -- ---- "their reported instances and verdicts"
 -- one of them
@@ -72,8 +73,8 @@ reportedFrom i (v ∷ vs) =
     cond (fills v) (record { instance = i; verdict = v } ∷ reportedFrom (i + 1) vs) (reportedFrom (i + 1) vs)
 
 -- those of the verdicts that a list of calls on a fresh checker hands out
-abbrev pub reportedOut : List ℕ → ℕ → List ℤ → List Call → List InstanceVerdict
-reportedOut frames w win cs = reportedFrom (firstFor frames) (handedOut frames w win cs)
+abbrev pub reportedOut : Profile → List ℕ → ℕ → List ℤ → List Call → List InstanceVerdict
+reportedOut profile frames w win cs = reportedFrom (firstFor frames) (handedOut profile frames w win cs)
 
 -- "Machine hands get i and the verdict", as document 01 has them in a report: "p before the pull (4 bytes), 00 for false", the only
 -- verdict that fills one

@@ -6,8 +6,9 @@ mod feeding; // feeding.rt: 12, 13, 15, ignored, 16, 17
 mod found; // found.rt: marks and notes of references
 mod state_test; // state_test.rt: 12
 mod limits; // limits.rt: the limits of the window, the counts and the report
-mod opening; // opening.rt: 9, 10, 7, 8, 11; a fresh checker
+mod opening; // opening.rt: 9, 10, 7, 8, 11, 26; a fresh checker
 mod pricing; // pricing.rt: what violations cost by a tariff
+mod profiles; // profiles.rt: the limits of desk and board
 mod pulling; // pulling.rt: 12, 13, 14, the next verdict or waiting
 mod report; // report.rt: the report of a false verdict
 mod parts; // parts.rt: a state taken apart, put together and changed
@@ -41,15 +42,23 @@ pub struct Totals {
 }
 
 // The state, the document's term for what a checker carries from call to call. Its rule is the first `len` frames, of 8 bytes
-// each; the bytes after them are carried and not looked at. `width` is the document's W, `next` its p.
+// each; the bytes after them are carried and not looked at. `width` is the document's W, `next` its p; `profile` is 0 of the desk,
+// 1 of the board.
 #[repr(C)]
 pub struct State {
     pub frames: [u8; 512],
     pub len: u32,
     pub width: u32,
+    pub profile: u32,
     pub counts: [u32; 8],
     pub next: Instance,
     pub totals: Totals,
+}
+
+// Who opens a checker: the desk, with W to 256 and 64 frames, or the board inside a plotter, with W to 32 and 16 frames.
+pub enum Profile {
+    Desk,
+    Board,
 }
 
 // What opening answers: opened, or refused with a number and a place.

@@ -1,4 +1,4 @@
-// The limits of the window, the counts and the report, each named once, as specs/Limits names them.
+// The limits of the window, the counts, the report and the board, each named once, as specs/Limits names them.
 
 // W is 1 to 256.
 pub const WIDTH_LIMIT: u32 = 256;
@@ -17,6 +17,12 @@ pub const FIRST_LIMIT: u32 = rule::limits::OFFSET_NUMBER_LIMIT;
 
 // A report buffer has at least 166 bytes.
 pub const REPORT_LEAST: usize = 166;
+
+// W of the board is 1 to 32.
+pub const BOARD_WIDTH_LIMIT: u32 = 32;
+
+// A rule on the board has at most 16 frames.
+pub const BOARD_FRAME_LIMIT: u32 = 16;
 
 // At most 64 frames, as the state counts them.
 pub const FRAME_LIMIT: u32 = rule::limits::FRAME_LIMIT as u32;

@@ -1,10 +1,12 @@
-// Opening: 9, 10, 7 and 8 by the check of frames, then 11; a fresh state and a cleared window.
+// Opening: 9, 10, 7 and 8 by the check of frames, then 11, then 26; a fresh state and a cleared window.
 use crate::OpenAnswer;
 use crate::Opened;
+use crate::Profile;
 use crate::State;
 use crate::base;
 use crate::limits;
 use crate::parts;
+use crate::profiles;
 use rule::Checked;
 use rule::FRAME_BYTES;
 use rule::Refusal;
@@ -21,7 +23,7 @@ ghost use Rattle.rule.specs.CheckTold as checking;
 ghost use Rattle.rule.specs.declared.Refusal.{Refusal};
 ghost use Rattle.checker.specs.Limits.{windowWords};
 ghost use Rattle.checker.specs.State.{zeroState, freshState};
-ghost use Rattle.checker.specs.Open.{widthFits, openDef, openOutcome};
+ghost use Rattle.checker.specs.Open.{widthFits, afterWindow, openDef, openOutcome};
 
 // Whether W is 1 to 256.
 pub fn width_fits(width: u32) -> bool
@@ -64,14 +66,15 @@ fn copied(frames: &[u8]) -> [u8; 512]
 }
 
 // The state that an unrefused opening gives back.
-fn fresh(frames: &[u8], width: u32) -> State
+fn fresh(profile: Profile, frames: &[u8], width: u32) -> State
     requires { ⌜ checkedOf (now frames) ≡ checking.accepted ⌝ }
-    ensures { λ r. ⌜ r ≡ freshState (now (frames .entry)) width ⌝ }
+    ensures { λ r. ⌜ r ≡ freshState profile (now (frames .entry)) width ⌝ }
 {
     let starts = base::starts_at(frames, Instance(0));
     let n = (frames.len() / FRAME_BYTES) as u32;
+    let number = profiles::number_of(profile);
     let bytes = copied(frames);
-    parts::at_first(bytes, n, width, starts.first)
+    parts::at_first(bytes, n, width, number, starts.first)
 }
 
 // The state that is zero throughout.
@@ -79,7 +82,7 @@ fn zero() -> State
     ensures { λ r. ⌜ r ≡ zeroState ⌝ }
 {
     let bytes = [0u8; 512];
-    parts::at_first(bytes, 0, 0, Instance(0))
+    parts::at_first(bytes, 0, 0, 0, Instance(0))
 }
 
 // A refusal hands back the state that is zero throughout.
@@ -92,20 +95,38 @@ fn refuse(why: Refusal) -> Opened
     }
 }
 
-// Opens a checker, for every slice of frames, every W and every window.
-pub fn open(frames: &[u8], width: u32, window: &mut [i32]) -> Opened
-    ensures { λ r. ⌜ openOutcome r (now (window .exit)) ≡ openDef (now (frames .entry)) width (now (window .entry)) ⌝ }
+// 26; else a fresh state and a cleared window.
+fn open_within(profile: Profile, frames: &[u8], width: u32, window: &mut [i32]) -> Opened
+    requires { ⌜ (checkedOf (now frames) ≡ checking.accepted) × (length (now window) ≡ windowWords width) ⌝ }
+    ensures { λ r. ⌜ openOutcome r (now (window .exit))
+        ≡ afterWindow profile (now (frames .entry)) width (now (window .entry)) ⌝ }
+{
+    let n = (frames.len() / FRAME_BYTES) as u32;
+    if profiles::within(profile, width, n) {
+        clear(window);
+        Opened {
+            answer: OpenAnswer::Opened,
+            state: fresh(profile, frames, width),
+        }
+    } else {
+        refuse(Refusal {
+            number: 26,
+            place: 0,
+        })
+    }
+}
+
+// Opens a checker, for desk and board, every slice of frames, every W and every window.
+pub fn open(profile: Profile, frames: &[u8], width: u32, window: &mut [i32]) -> Opened
+    ensures { λ r. ⌜ openOutcome r (now (window .exit))
+        ≡ openDef profile (now (frames .entry)) width (now (window .entry)) ⌝ }
 {
     let checked = rule::check(frames);
     match checked {
         Checked::Refused(why) => refuse(why),
         Checked::Accepted => {
             if width_fits(width) & window_fits(width, window.len()) {
-                clear(window);
-                Opened {
-                    answer: OpenAnswer::Opened,
-                    state: fresh(frames, width),
-                }
+                open_within(profile, frames, width, window)
             } else {
                 refuse(Refusal {
                     number: 11,

@@ -18,6 +18,7 @@ ghost use Rattle.checker.specs.Offer.{Countable};
 pub struct Fields {
     pub len: u32,
     pub width: u32,
+    pub profile: u32,
     pub counts: [u32; 8],
     pub next: Instance,
     pub totals: Totals,
@@ -33,6 +34,7 @@ pub fn fields_of(s: State) -> Fields
     Fields {
         len: s.len,
         width: s.width,
+        profile: s.profile,
         counts,
         next,
         totals,
@@ -50,6 +52,7 @@ pub fn with_fields(frames: [u8; 512], f: Fields) -> State
         frames,
         len: f.len,
         width: f.width,
+        profile: f.profile,
         counts,
         next,
         totals,
@@ -57,8 +60,8 @@ pub fn with_fields(frames: [u8; 512], f: Fields) -> State
 }
 
 // A state with no line counted and no verdict pulled.
-pub fn at_first(frames: [u8; 512], len: u32, width: u32, next: Instance) -> State
-    ensures { λ r. ⌜ r ≡ stateWith frames len width (tallyFrom (next .0)) ⌝ }
+pub fn at_first(frames: [u8; 512], len: u32, width: u32, profile: u32, next: Instance) -> State
+    ensures { λ r. ⌜ r ≡ stateWith frames len width profile (tallyFrom (next .0)) ⌝ }
 {
     let counts = [0u32; 8];
     let totals = Totals {
@@ -70,6 +73,7 @@ pub fn at_first(frames: [u8; 512], len: u32, width: u32, next: Instance) -> Stat
         frames,
         len,
         width,
+        profile,
         counts,
         next,
         totals,

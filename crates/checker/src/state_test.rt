@@ -4,6 +4,7 @@ use crate::base;
 use crate::limits;
 use crate::opening;
 use crate::parts::Fields;
+use crate::profiles;
 use rule::Checked;
 use rule::FRAME_BYTES;
 use verdict::Instance;
@@ -36,12 +37,12 @@ fn accepted(c: Checked) -> bool
     }
 }
 
-// Whether opening would take the frames and W of a state.
-fn rule_fits(frames: &[u8], len: u32, width: u32) -> bool
+// Whether opening with the state's profile would take its frames and W.
+fn rule_fits(frames: &[u8], len: u32, width: u32, number: u32) -> bool
     requires { ⌜ length (now frames) ≡ frameLimit * frameBytes ⌝ }
-    ensures { λ r. ⌜ r ≡ ruleFits (now (frames .entry)) len width ⌝ }
+    ensures { λ r. ⌜ r ≡ ruleFits (now (frames .entry)) len width number ⌝ }
 {
-    if len <= limits::FRAME_LIMIT {
+    if profiles::passes(number, width, len) {
         let n = len as usize * FRAME_BYTES;
         accepted(rule::check(&frames[..n])) & opening::width_fits(width)
     } else {
@@ -123,7 +124,7 @@ pub fn state_passes(frames: &[u8], s: Fields) -> Tested
     ensures { λ r. ⌜ (r .fits ≡ statePasses (stateOf (now (frames .entry)) s))
         × (r .fits ≡ true → r .bases ≡ basesOf (stateFrames (stateOf (now (frames .entry)) s)) (s .next .0)) ⌝ }
 {
-    if rule_fits(frames, s.len, s.width) {
+    if rule_fits(frames, s.len, s.width, s.profile) {
         tally_fits(frames, s)
     } else {
         unfit()

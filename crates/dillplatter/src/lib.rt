@@ -1,7 +1,8 @@
-// The library for makers of controllers: the four calls of a checker, the view of a report, the converter of lines and the charge
-// for rework, as C has them, answers as numbers. include/dillplatter.h declares them and says what each one does.
+// The library for makers of controllers: the calls of a checker, for desk and board, the view of a report, the converter of lines and
+// the charge for rework, as C has them, answers as numbers. include/dillplatter.h declares them and says what each one does.
 mod told; // told.rt: answers as numbers
 
+use checker::Profile;
 use checker::State;
 use checker::Tariff;
 use told::ChargeResult;
@@ -14,6 +15,7 @@ ghost use Rattle.checker.specs.Feed.{feedDef};
 ghost use Rattle.checker.specs.Pull.{pullDef};
 ghost use Rattle.checker.specs.View.{viewDef};
 ghost use Rattle.checker.specs.Tariff.{chargeDef};
+ghost use Rattle.checker.specs.declared.Profile.the-variants.{Desk, Board};
 ghost use Rattle.dillplatter.specs.Told.{ofReading, answerNumber, numberOf, placeOf, framesOf, callOutcome, openNumbers};
 ghost use Rattle.dillplatter.specs.Told.{feedNumbers, pullNumbers};
 ghost use Rattle.dillplatter.specs.Told.{conversionNumber, conversionPlace, chargeNumber, chargePlace, chargeCents};
@@ -40,13 +42,30 @@ pub extern "C" fn dillplatter_read(text: &[u8], frames: &mut [u8]) -> ReadResult
     told::reading(a)
 }
 
-// Opens a checker, for every slice of frames, every W and every window.
+// Opens a checker for the desk, for every slice of frames, every W and every window.
 #[no_mangle]
 pub extern "C" fn dillplatter_open(frames: &[u8], width: u32, window: &mut [i32]) -> CallResult
     ensures { λ r. ⌜ callOutcome r (now (window .exit))
-        ≡ openNumbers (openDef (now (frames .entry)) width (now (window .entry))) ⌝ }
+        ≡ openNumbers (openDef Desk (now (frames .entry)) width (now (window .entry))) ⌝ }
 {
-    let opened = checker::open(frames, width, window);
+    open_for(Profile::Desk, frames, width, window)
+}
+
+// Opens a checker for the board, for every slice of frames, every W and every window.
+#[no_mangle]
+pub extern "C" fn dillplatter_open_board(frames: &[u8], width: u32, window: &mut [i32]) -> CallResult
+    ensures { λ r. ⌜ callOutcome r (now (window .exit))
+        ≡ openNumbers (openDef Board (now (frames .entry)) width (now (window .entry))) ⌝ }
+{
+    open_for(Profile::Board, frames, width, window)
+}
+
+// Opens a checker for desk or board.
+fn open_for(profile: Profile, frames: &[u8], width: u32, window: &mut [i32]) -> CallResult
+    ensures { λ r. ⌜ callOutcome r (now (window .exit))
+        ≡ openNumbers (openDef profile (now (frames .entry)) width (now (window .entry))) ⌝ }
+{
+    let opened = checker::open(profile, frames, width, window);
     let state = opened.state;
     let a = opened.answer;
     let opening = told::opening(a);

@@ -2,6 +2,7 @@
 use mathlib.Core.Path.{ap}
 use Rattle.rule.proofs.Laws.{bytes-by}
 use Rattle.checker.specs.Answer.{openTold}
+use Rattle.checker.specs.declared.Profile.the-variants.{Desk}
 use Rattle.bench.proofs.RunLaws.{ready-opened}
 use borrow.Author.Needs.{needs}
 use Rattle.bench.proofs.run_in.Statement.{statement}
@@ -18,7 +19,7 @@ run-with-requires c κs =
     let f = at-fields-of .fields-of in
     let b = bytes-by (a .frames .now) (λ i h. at-shared-slice-known .shared-slice-known .given i .fits) in
     let t = ap openTold (at-enum-told .enum-told .given .1) in
-    ready-opened (a .frames .now) (o .result .state .frames) 64 (a .window .now) (o .result) _ (f .result) b t (search needs) (f .ensures) (o .ensures)
+    ready-opened Desk (a .frames .now) (o .result .state .frames) 64 (a .window .now) (o .result) _ (f .result) b t (search needs) (f .ensures) (o .ensures)
 
 pub run-in-spec : {M : Type 1} → statement M
 run-in-spec = tie.close (tie.spec (λ c κs. search needs) (λ c. search needs) (λ c κs. search needs) run-with-requires (λ c. search needs) (λ c κs. search needs) (λ c. search needs) (λ c. search needs) (λ c. search needs) (λ c. search needs))

@@ -19,15 +19,16 @@ cast-n c =
 
 copied-requires : tie.Need-copied-requires
 copied-requires c κs =
-    let entry = c .before .before in
+    let entry = c .before .before .before in
     passed (entry .args .frames .now) (entry .pre) .whole .most
 
 returns : tie.Need-returns
 unfolding freshState
 returns c =
     let at-copied = c .before in
-    let at-starts-at = at-copied .before in
-    rw (sym (at-copied .copied .ensures), sym (at-starts-at .starts-at .ensures .1)) (c .at-first .ensures)
+    let at-number-of = at-copied .before in
+    let at-starts-at = at-number-of .before in
+    rw (sym (at-copied .copied .ensures), sym (at-number-of .number-of .ensures), sym (at-starts-at .starts-at .ensures .1)) (c .at-first .ensures)
 
 pub fresh-spec : {M : Type 1} → statement M
-fresh-spec = tie.close (tie.spec starts-at-requires cast-n copied-requires (λ c κs. search needs) returns)
+fresh-spec = tie.close (tie.spec starts-at-requires cast-n (λ c κs. search needs) copied-requires (λ c κs. search needs) returns)

@@ -17,11 +17,20 @@ use borrow.Author.Needs.{needs}
 use Rattle.checker.proofs.opening.open.Statement.{statement}
 use Rattle.checker.proofs.opening.open.Tie as tie
 
-fresh-requires : tie.Need-fresh-requires
-fresh-requires c κs =
-    let at-enum-told = c .before .before .before .before .before .before in
+open-within-requires : tie.Need-open-within-requires
+open-within-requires c κs =
+    let at-if1 = c .before in
+    let at-window-fits = at-if1 .before in
+    let at-width-fits = at-window-fits .before in
+    let at-enum-told = at-width-fits .before in
     let at-check = at-enum-told .before .before in
-    sym (at-check .check .ensures) ∙ ap checkTold (at-enum-told .enum-told .given .1)
+    let a = at-check .before .before .args in
+    let win = a .window .now in
+    let t : (widthFits (a .width) && eqb (length win) (windowWords (a .width))) ≡ true = rw (at-width-fits .width-fits .ensures, at-window-fits .window-fits .ensures) at (at-if1 .if1 .taken) in
+    (
+      sym (at-check .check .ensures) ∙ ap checkTold (at-enum-told .enum-told .given .1),
+      eqb-true (length win) (windowWords (a .width)) (and-true (widthFits (a .width)) (eqb (length win) (windowWords (a .width))) t .1),
+    )
 
 returns : tie.Need-returns
 unfolding openDef
@@ -36,21 +45,18 @@ returns c =
 returns-2 : tie.Need-returns-2
 unfolding openDef
 returns-2 c =
-    let at-clear = c .before .before in
-    let at-if1 = at-clear .before .before in
+    let at-open-within = c .before in
+    let at-if1 = at-open-within .before .before in
     let at-window-fits = at-if1 .before in
     let at-width-fits = at-window-fits .before in
     let at-enum-told = at-width-fits .before in
     let at-check = at-enum-told .before .before in
-    let entry = at-check .before .before in
-    let a = entry .args in
+    let a = at-check .before .before .args in
     let s = a .frames .now in
     let win = a .window .now in
     let e : checkedOf s ≡ checking.accepted = sym (at-check .check .ensures) ∙ ap checkTold (at-enum-told .enum-told .given .1) in
     let t : (widthFits (a .width) && eqb (length win) (windowWords (a .width))) ≡ true = rw (at-width-fits .width-fits .ensures, at-window-fits .window-fits .ensures) at (at-if1 .if1 .taken) in
-    let l : length win ≡ windowWords (a .width) = eqb-true (length win) (windowWords (a .width)) (and-true (widthFits (a .width)) (eqb (length win) (windowWords (a .width))) t .1) in
-    let w = at-clear .clear .ensures ∙ ap (λ (n : ℕ). replicate n (pos 0)) l in
-    rw (e, t, c .fresh .ensures, w)
+    rw (e, t) (at-open-within .open-within .ensures)
 
 returns-3 : tie.Need-returns-3
 unfolding openDef
@@ -68,4 +74,8 @@ returns-3 c =
     rw (e, t) (ap (λ (x : Opened). openOutcome x win) (c .refuse2 .ensures))
 
 pub open-spec : {M : Type 1} → statement M
-open-spec = tie.close (tie.spec (λ c κs. search needs) (λ c. search needs) (λ c κs. search needs) (λ c. search needs) (λ c κs. search needs) (λ c κs. search needs) (λ c κs. search needs) fresh-requires (λ c κs. search needs) returns (λ c. search needs) returns-2 returns-3)
+open-spec =
+    tie.close
+    (tie.spec
+    (λ c κs. search needs) (λ c. search needs) (λ c κs. search needs) (λ c. search needs) (λ c κs. search needs) (λ c κs. search needs)
+    open-within-requires (λ c κs. search needs) returns (λ c. search needs) returns-2 returns-3)

@@ -18,8 +18,8 @@ tally-fits-requires : tie.Need-tally-fits-requires
 tally-fits-requires c κs =
     let entry = c .before .before .before in
     let s : State = stateOf (entry .args .frames .now) (entry .args .s) in
-    let q : ruleFits (s .frames) (s .len) (s .width) ≡ true = sym (c .before .rule-fits .ensures) ∙ c .if1 .taken in
-    (entry .pre, rule-facts (s .frames) (s .len) (s .width) q)
+    let q : ruleFits (s .frames) (s .len) (s .width) (s .profile) ≡ true = sym (c .before .rule-fits .ensures) ∙ c .if1 .taken in
+    (entry .pre, rule-facts (s .frames) (s .len) (s .width) (s .profile) q)
 
 returns : tie.Need-returns
 returns c =
@@ -27,9 +27,9 @@ returns c =
     let at-shared-slice-known = at-rule-fits .before in
     let entry = at-shared-slice-known .before in
     let s : State = stateOf (entry .args .frames .now) (entry .args .s) in
-    let q : ruleFits (s .frames) (s .len) (s .width) ≡ true = sym (at-rule-fits .rule-fits .ensures) ∙ c .before .if1 .taken in
+    let q : ruleFits (s .frames) (s .len) (s .width) (s .profile) ≡ true = sym (at-rule-fits .rule-fits .ensures) ∙ c .before .if1 .taken in
     let b : Bytes (stateFrames s) = bytes-take (s .len * 8) (s .frames) (λ i. at-shared-slice-known .shared-slice-known .given i .fits) in (
-      good-by s (c .tally-fits .result .fits) q (c .tally-fits .ensures .0 ∙ tally-same b (rule-facts (s .frames) (s .len) (s .width) q .1) (s .width) (s .counts) (s .next .0) (s .totals)),
+      good-by s (c .tally-fits .result .fits) q (c .tally-fits .ensures .0 ∙ tally-same b (rule-facts (s .frames) (s .len) (s .width) (s .profile) q .1) (s .width) (s .counts) (s .next .0) (s .totals)),
       c .tally-fits .ensures .1,
     )
 
@@ -38,7 +38,7 @@ returns-2 c =
     let at-rule-fits = c .before .before in
     let entry = at-rule-fits .before .before in
     let s : State = stateOf (entry .args .frames .now) (entry .args .s) in
-    let q : ruleFits (s .frames) (s .len) (s .width) ≡ false = sym (at-rule-fits .rule-fits .ensures) ∙ c .before .if1 .left in
+    let q : ruleFits (s .frames) (s .len) (s .width) (s .profile) ≡ false = sym (at-rule-fits .rule-fits .ensures) ∙ c .before .if1 .left in
     (c .unfit .ensures ∙ bad-by s q, λ e. absurd (true-false (sym e ∙ c .unfit .ensures)))
 
 pub state-passes-spec : {M : Type 1} → statement M

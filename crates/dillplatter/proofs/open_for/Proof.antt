@@ -1,0 +1,13 @@
+-- `dillplatter::open_for` meets its contract. Assumes nothing.
+use borrow.Author.Needs.{needs}
+use Rattle.dillplatter.proofs.Calls.{open-numbers}
+use Rattle.dillplatter.proofs.open_for.Statement.{statement}
+use Rattle.dillplatter.proofs.open_for.Tie as tie
+
+returns : tie.Need-returns
+returns c =
+    let o = c .before .before .before .«open» in
+    open-numbers (c .opening .result) (o .result) _ _ (c .opening .ensures) (o .ensures)
+
+pub open-for-spec : {M : Type 1} → statement M
+open-for-spec = tie.close (tie.spec (λ c κs. search needs) (λ c κs. search needs) (λ c. search needs) returns)
