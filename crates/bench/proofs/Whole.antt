@@ -4,13 +4,16 @@ use mathlib.Core.Bool.{Bool, true, false, cond}
 use mathlib.Core.List.{List, [], _∷_, _++_, map}
 use Prim.Native.Nat.{ℕ, _+_, _-_, _*_, _/_, _%_, _<_, _≤_}
 use native.Mathlib.Omega.{arith}
-use borrow.Author.Tests.{lt-ltb}
+use borrow.Author.Tests.{le-leb, lt-ltb}
 use lib.Dec.{eqb}
 use lib.IntN.{ℤ}
 use lib.ListN.{length, take, drop, replicate, length-append}
 use lib.Seq.{take-at}
 use Rattle.rule.specs.Limits.{frameLimit, frameBytes, bufferBytes}
+use Rattle.rule.specs.Frames.{frameCount}
 use Rattle.rule.specs.Tree.{postfix, bytesOf}
+use Rattle.rule.specs.Check.{checkedOf}
+use Rattle.rule.specs.CheckTold as checking
 use Rattle.rule.specs.Meaning.{meaning}
 use Rattle.rule.specs.Reading.{readOf}
 use Rattle.rule.specs.ReadTold.{ReadAnswer, readTold}
@@ -18,7 +21,7 @@ use Rattle.rule.specs.declared.Reading.{Reading}
 use Rattle.rule.specs.declared.Reading.the-variants.{Frames}
 use Rattle.rule.specs.ReadTold as reading
 use Rattle.rule.proofs.Main.{read-opens, reads-exactly}
-use Rattle.rule.proofs.Laws.{bytes-length}
+use Rattle.rule.proofs.Laws.{passed, bytes-length}
 use Rattle.log.specs.Digit.{hexDigit}
 use Rattle.log.specs.Pair.{pairOf}
 use Rattle.log.specs.Walk.{onto, linesOf}
@@ -99,7 +102,10 @@ run-whole o log = ap withTotals (log-whole (begun o) log)
 
 pub read-opened : (text b : List ℕ) (n : ℕ) (s : List ℕ) → readOf text b ≡ (reading.frames n, s) → openedFor (take (n * frameBytes) s) .answer ≡ opened
 unfolding openDef
-read-opened text b n s e = rw (read-opens text b n s e)
+read-opened text b n s e =
+    let f : List ℕ = take (n * frameBytes) s in
+    let c : checkedOf f ≡ checking.accepted = read-opens text b n s e in
+    rw (c, le-leb (frameCount f) frameLimit (omega (arith, passed f c .whole .most)))
 
 -- what an unrefused opening gave, put together again from its parts
 pub opened-handed-on : (o : OpenResult) (fields : Fields) → o .answer ≡ opened → stateOf (o .state .frames) fields ≡ o .state
