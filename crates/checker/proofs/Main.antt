@@ -27,7 +27,7 @@ use Rattle.verdict.specs.Later.{MoreLines}
 use Rattle.verdict.specs.declared.Verdict.{Verdict}
 use Rattle.verdict.specs.declared.Verdict.the-variants.{False, Unknown}
 use Rattle.checker.specs.Limits.{widthLimit, windowWords, lineLimit, reportLeast, boardWidthLimit, boardFrameLimit}
-use Rattle.checker.specs.Profile.{widthMost, framesMost}
+use Rattle.checker.specs.Profile.{widthMost, framesMost, profileNumber}
 use Rattle.checker.specs.Answer.{opened, accepted, waiting, verdict, refused, openTold, feedTold, pullTold}
 use Rattle.checker.specs.Base.{referenced, startAt, smallest, base, Referenced, Maximum, SmallestStart, firstFor, SomeNotVoid, FirstInstance}
 use Rattle.checker.specs.BasePass.{firstOf}
@@ -73,7 +73,7 @@ use Rattle.checker.proofs.Bases
 use Rattle.checker.proofs.Passes
 use Rattle.checker.proofs.Told
 
--- ---- a list of calls, whatever its lines and report buffers, from an unrefused opening, whatever W
+-- ---- a list of calls, whatever its lines and report buffers, from an unrefused opening, of desk or board, whatever W
 module _ {profile : Profile} {frames : List ℕ} {w : ℕ} {win : List ℤ} (o : Unrefused profile frames w win) (cs : List Call) where
   -- each answer with its number and place, and each report buffer after its pull, is the plain machine's
   pub third-answers : outs checker cs (fresh profile frames w win) ≡ outs (machineFor frames w) cs (atFirst frames)
@@ -138,6 +138,10 @@ module _ {profile : Profile} {frames : List ℕ} {w : ℕ} {win : List ℤ} (o :
       → getD (checkerAfter profile frames w win cs .words) (wordAt w e k n) (pos 0) ≡ getD (getD (machineAfter frames w cs .lists e) k []) n (pos 0)
   window-holds = Exactly.window-holds o cs
 
+  -- document 02, point 9, "stays in the state": after every list the state has the profile of the opening
+  pub profile-stays : checkerAfter profile frames w win cs .state .profile ≡ profileNumber profile
+  profile-stays = Stays.profile-stays o cs
+
 -- ---- document 02, point 2: where verdicts begin, of every unrefused opening, whatever W
 module _ {profile : Profile} {frames : List ℕ} {w : ℕ} {win : List ℤ} (o : Unrefused profile frames w win) where
   -- "the first i with a reference that isn't void", both ways
@@ -166,7 +170,7 @@ pub text-to-verdict : (text buffer filled : List ℕ) (n : ℕ) → readOf text 
     ≡ verdictOf (value (givenIn (machineAfter (take (n * frameBytes) filled) w cs .lists) (firstFor (take (n * frameBytes) filled) + i)) (meaning text x))
 text-to-verdict = Text.text-to-verdict
 
--- ---- two lists for one rule, with any two windows
+-- ---- two lists for one rule, with any two windows, at the desk or on the board
 module _ {profile profile′ : Profile} {frames : List ℕ} {w w′ : ℕ} {win win′ : List ℤ} (o : Unrefused profile frames w win) (o′ : Unrefused profile′ frames w′ win′) (cs cs′ : List Call) where
   -- where one's accepted lines begin the other's, event by event, verdicts that both hand out are equal
   pub third-agree : MoreLines (machineAfter frames w cs .lists) (machineAfter frames w′ cs′ .lists) → (i : ℕ)
@@ -363,7 +367,7 @@ good-stays-feed = Stays.good-feed
 pub good-stays-pull : (s : State) → statePasses s ≡ true → Bytes (stateFrames s) → (win : List ℤ) (buffer : List ℕ) → statePasses (pullDef s win buffer .state) ≡ true
 good-stays-pull = Stays.good-pull
 
--- the frames and W stay, and the window keeps its length
+-- the frames, W and the profile stay, and the window keeps its length
 pub feed-keeps : (s : State) (win : List ℤ) (line : List ℕ) → SameRule s (feedDef s win line .state)
 feed-keeps = Stays.feed-rule
 

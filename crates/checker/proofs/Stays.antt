@@ -2,7 +2,7 @@
 -- Assumes nothing.
 use mathlib.Core.Path.{_≡_, refl, sym, ap, _∙_, subst}
 use mathlib.Core.Bool.{true}
-use mathlib.Core.List.{List, [], List·Memᴰ}
+use mathlib.Core.List.{List, [], _∷_, List·Memᴰ}
 use mathlib.Core.Logic.{⊎-elim}
 use Prim.Native.Nat.{ℕ, _<_, _≤_}
 use borrow.Author.Tests.{eq-eqb}
@@ -20,16 +20,18 @@ use Rattle.verdict.specs.Settled.{judgement}
 use Rattle.verdict.specs.Settled as settling
 use Rattle.verdict.specs.declared.Verdict.{Verdict}
 use Rattle.checker.specs.Limits.{windowWords}
+use Rattle.checker.specs.Profile.{profileNumber}
 use Rattle.checker.specs.Base.{base}
-use Rattle.checker.specs.State.{Tally, countOf, tallyIn, stateFrames, ruleIn, refsIn, SameRule, withLine, withVerdict, withTally}
+use Rattle.checker.specs.State.{Tally, countOf, tallyIn, stateFrames, ruleIn, refsIn, SameRule, withLine, withVerdict, withTally, freshState}
 use Rattle.checker.specs.Found.{byWindow}
-use Rattle.checker.specs.Open.{openDef}
+use Rattle.checker.specs.Open.{OpenResult, openDef}
 use Rattle.checker.specs.Admission.{Admission, admitted, barred, admission}
 use Rattle.checker.specs.StateTest.{rulePasses, tallyPasses, statePasses}
 use Rattle.checker.specs.Feed.{FeedRead, turned, skipped, taken, fedBy, lineIn, fedIf, feedDef}
 use Rattle.checker.specs.Pull.{PullRead, short, waits, gave, givenHere, foundHere, pulledBy, nextIn, pulledIf, pullDef}
+use Rattle.checker.specs.Calls.{Call, feed, pull, end, Checker, checker}
 use Rattle.checker.specs.Machine.{atFirst}
-use Rattle.checker.specs.Demand.{Unrefused, fresh}
+use Rattle.checker.specs.Demand.{Unrefused, fresh, checkerAfter}
 use Rattle.checker.specs.declared.Profile.{Profile}
 use Rattle.checker.specs.declared.State.{State}
 use Rattle.checker.proofs.Choices.{less-or}
@@ -38,7 +40,7 @@ use Rattle.checker.proofs.Bases.{late-pending}
 use Rattle.checker.proofs.Admissions.{let-in, in-good, in-long}
 use Rattle.checker.proofs.Tallies.{Sound, tally-facts, tally-good, sound-line, sound-verdict}
 use Rattle.checker.proofs.Simulation.{in-step-stays, Took, took, all-pending, verdict-settled, Gave, gave-judged}
-use Rattle.checker.proofs.Fresh.{opened-fine, both-opened, within-member}
+use Rattle.checker.proofs.Fresh.{passed, opened-fine, both-opened, within-member}
 use Rattle.checker.proofs.CodeBase.{within-in}
 use Rattle.checker.proofs.CodeStateTest.{good-facts}
 
@@ -175,3 +177,21 @@ opened-stays {profile} {frames} {w} {win} o = in-step-stays frames w (opened-fin
 
 pub good-open : {profile : Profile} {frames : List ℕ} {w : ℕ} {win : List ℤ} → Unrefused profile frames w win → statePasses (openDef profile frames w win .state) ≡ true
 good-open {profile} {frames} {w} {win} o = in-good (openDef profile frames w win .state) (openDef profile frames w win .words) (opened-stays o)
+
+-- ---- the rule, W and the profile through every list of calls
+rule-then : {s t u : State} → SameRule s t → SameRule t u → SameRule s u
+rule-then a b =
+    record { frames = b .frames ∙ a .frames; len = b .len ∙ a .len; width = b .width ∙ a .width; profile = b .profile ∙ a .profile }
+
+calls-rule : (cs : List Call) (k : Checker) → SameRule (k .state) (end checker cs k .state)
+unfolding end
+calls-rule [] k = rule-same (k .state)
+calls-rule (feed line ∷ cs) k = rule-then (feed-rule (k .state) (k .words) line) (calls-rule cs (checker k (feed line) .next))
+calls-rule (pull buffer ∷ cs) k = rule-then (pull-rule (k .state) (k .words) buffer) (calls-rule cs (checker k (pull buffer) .next))
+
+pub profile-stays : {profile : Profile} {frames : List ℕ} {w : ℕ} {win : List ℤ} → Unrefused profile frames w win → (cs : List Call)
+    → checkerAfter profile frames w win cs .state .profile ≡ profileNumber profile
+unfolding freshState
+profile-stays {profile} {frames} {w} {win} o cs =
+    calls-rule cs (fresh profile frames w win) .profile
+    ∙ ap (λ (x : OpenResult). x .state .profile) (passed profile frames w win (o .answer) .result)
