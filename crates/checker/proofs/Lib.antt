@@ -33,6 +33,7 @@ mod Charges
 mod Marked
 mod CallExamples
 mod StartExamples
+mod BoardExamples
 mod ViewExamples
 mod TariffExamples
 -- What the proofs of functions cite: opening, bases, the window, 12, feeding.

@@ -48,24 +48,7 @@ pub extern "C" fn dillplatter_open(frames: &[u8], width: u32, window: &mut [i32]
     ensures { λ r. ⌜ callOutcome r (now (window .exit))
         ≡ openNumbers (openDef Desk (now (frames .entry)) width (now (window .entry))) ⌝ }
 {
-    open_for(Profile::Desk, frames, width, window)
-}
-
-// Opens a checker for the board, for every slice of frames, every W and every window.
-#[no_mangle]
-pub extern "C" fn dillplatter_open_board(frames: &[u8], width: u32, window: &mut [i32]) -> CallResult
-    ensures { λ r. ⌜ callOutcome r (now (window .exit))
-        ≡ openNumbers (openDef Board (now (frames .entry)) width (now (window .entry))) ⌝ }
-{
-    open_for(Profile::Board, frames, width, window)
-}
-
-// Opens a checker for desk or board.
-fn open_for(profile: Profile, frames: &[u8], width: u32, window: &mut [i32]) -> CallResult
-    ensures { λ r. ⌜ callOutcome r (now (window .exit))
-        ≡ openNumbers (openDef profile (now (frames .entry)) width (now (window .entry))) ⌝ }
-{
-    let opened = checker::open(profile, frames, width, window);
+    let opened = checker::open(Profile::Desk, frames, width, window);
     let state = opened.state;
     let a = opened.answer;
     let opening = told::opening(a);
@@ -74,6 +57,28 @@ fn open_for(profile: Profile, frames: &[u8], width: u32, window: &mut [i32]) -> 
         answer: opening.answer,
         number: opening.number,
         place: opening.place,
+    }
+}
+
+// Opens a checker for the board, for every slice of frames, every W and every window.
+#[no_mangle]
+pub extern "C" fn dillplatter_open_board(
+    frames: &[u8],
+    width: u32,
+    window: &mut [i32],
+) -> CallResult
+    ensures { λ r. ⌜ callOutcome r (now (window .exit))
+        ≡ openNumbers (openDef Board (now (frames .entry)) width (now (window .entry))) ⌝ }
+{
+    let opened = checker::open(Profile::Board, frames, width, window);
+    let state = opened.state;
+    let a = opened.answer;
+    let board_opening = told::opening(a);
+    CallResult {
+        state,
+        answer: board_opening.answer,
+        number: board_opening.number,
+        place: board_opening.place,
     }
 }
 

@@ -26,8 +26,7 @@ open-within-requires c κs =
     let at-check = at-enum-told .before .before in
     let a = at-check .before .before .args in
     let win = a .window .now in
-    let t : (widthFits (a .width) && eqb (length win) (windowWords (a .width))) ≡ true = rw (at-width-fits .width-fits .ensures, at-window-fits .window-fits .ensures) at (at-if1 .if1 .taken) in
-    (
+    let t : (widthFits (a .width) && eqb (length win) (windowWords (a .width))) ≡ true = rw (at-width-fits .width-fits .ensures, at-window-fits .window-fits .ensures) at (at-if1 .if1 .taken) in (
       sym (at-check .check .ensures) ∙ ap checkTold (at-enum-told .enum-told .given .1),
       eqb-true (length win) (windowWords (a .width)) (and-true (widthFits (a .width)) (eqb (length win) (windowWords (a .width))) t .1),
     )
