@@ -1,11 +1,11 @@
 /* Dillplatter: a proved log checker for Logic of Constraints, as a library for controllers.
  *
- * A rule's text is read into frames (dillplatter_read), frames open a checker (dillplatter_open), log lines are fed to it
- * (dillplatter_feed) and verdicts are pulled from it (dillplatter_pull). Of a violation's report an operator panel gets the view
- * (dillplatter_view). Lines of the earlier edition, with 14 digits, are raised to log lines (dillplatter_raise), and log lines are
- * lowered to them where nothing is lost (dillplatter_lower). Rework is charged by the number of violations and the tariff of a
- * service contract (dillplatter_charge). docs/RULES.md teaches rules, docs/MAKERS.md shows how to link, how much memory to lend and
- * what to do on each refusal.
+ * A rule's text is read into frames (dillplatter_read), frames open a checker (dillplatter_open; on the board inside the plotter
+ * dillplatter_open_board), log lines are fed to it (dillplatter_feed) and verdicts are pulled from it (dillplatter_pull). Of a
+ * violation's report an operator panel gets the view (dillplatter_view). Lines of the earlier edition, with 14 digits, are raised to
+ * log lines (dillplatter_raise), and log lines are lowered to them where nothing is lost (dillplatter_lower). Rework is charged by
+ * the number of violations and the tariff of a service contract (dillplatter_charge). docs/RULES.md teaches rules, docs/MAKERS.md
+ * shows how to link, how much memory to lend and what to do on each refusal.
  *
  * For every argument each call ends, and answers as its proved contract says; a refusal changes nothing, but that a refused view
  * is an empty part. The library has no memory of its own and allocates none: what a checker carries from call to call is the state,
@@ -35,7 +35,7 @@ extern "C" {
 /* Bytes of the buffer that dillplatter_read fills: exactly so many. */
 #define DILLPLATTER_FRAME_BUFFER 512
 
-/* Bytes of a frame: dillplatter_open takes the first DILLPLATTER_FRAME_BYTES * reading.frames bytes of that buffer. */
+/* Bytes of a frame: an opening takes the first DILLPLATTER_FRAME_BYTES * reading.frames bytes of that buffer. */
 #define DILLPLATTER_FRAME_BYTES 8
 
 /* A rule's text has 1 to so many bytes. */
@@ -43,6 +43,12 @@ extern "C" {
 
 /* The width W, how many lines of each event the window holds, is 1 to so many. */
 #define DILLPLATTER_WIDTH_MOST 256
+
+/* The same of a checker that dillplatter_open_board opened. */
+#define DILLPLATTER_BOARD_WIDTH_MOST 32
+
+/* The frames of a rule that dillplatter_open_board takes are 1 to so many. */
+#define DILLPLATTER_BOARD_FRAMES_MOST 16
 
 /* 32-bit words of a window of width w: exactly so many. */
 #define DILLPLATTER_WINDOW_WORDS(w) ((size_t)32 * (size_t)(w))
@@ -74,8 +80,8 @@ extern "C" {
 /* ---- stack ----
  *
  * Bytes of stack to count on for each call, its arguments and its result by value included. They are measured, with room to spare,
- * and not part of what is proved: examples/stack.c measures every call and fails above its figure. docs/MAKERS.md has what was
- * measured, and how. */
+ * and not part of what is proved: examples/stack.c measures every call, on rules of the desk and of the board, and fails above its
+ * figure. docs/MAKERS.md has what was measured, and how. DILLPLATTER_STACK_OPEN is for both openings. */
 
 #define DILLPLATTER_STACK_OPEN 4096
 #define DILLPLATTER_STACK_FEED 8192
@@ -94,12 +100,12 @@ extern "C" {
 
 /* ---- answers and refusals ---- */
 
-/* The field `answer` of what read, open, feed and pull give. View, raise, lower and charge have none: they are refused where their
- * number is not 0. */
+/* The field `answer` of what read, open, open_board, feed and pull give. View, raise, lower and charge have none: they are refused
+ * where their number is not 0. */
 enum dillplatter_answer {
     DILLPLATTER_REFUSED = 0,  /* any of them: `number` and `place` say why and where; lent memory is unchanged */
     DILLPLATTER_READ = 1,     /* read: the buffer holds the frames */
-    DILLPLATTER_OPENED = 2,   /* open: the state is that of a fresh checker, the window is cleared */
+    DILLPLATTER_OPENED = 2,   /* open, open_board: the state is that of a fresh checker, the window is cleared */
     DILLPLATTER_ACCEPTED = 3, /* feed: the line is counted */
     DILLPLATTER_IGNORED = 4,  /* feed: the rule does not reference the line's event; nothing has changed */
     DILLPLATTER_WAITING = 5,  /* pull: the next instance is not settled yet; nothing has changed */
@@ -122,17 +128,19 @@ enum dillplatter_refusal {
                                       role; place: the first such name */
     DILLPLATTER_NUMBER = 5,        /* read: a number beyond its limit; place: the first such number */
     DILLPLATTER_DEPTH = 6,         /* read: depth over 16 or over 64 frames */
-    DILLPLATTER_NO_REFERENCE = 7,  /* read, open: the rule has no reference */
-    DILLPLATTER_MAGNITUDE = 8,     /* read, open: a sum whose magnitude is over 2^62. A magnitude is a bound on the sum's value */
-    DILLPLATTER_FRAMES_SIZE = 9,   /* open: the frames' length isn't 8 to 512 in steps of 8 */
-    DILLPLATTER_FRAMES_ORDER = 10, /* open: not a rule in postfix order with fields within the limits; place: the first frame that
-                                      with those before it begins no such rule of any length, their count if only the end is
-                                      wrong */
-    DILLPLATTER_WINDOW_WIDTH = 11, /* open: W outside 1 to 256, or a window not 32 * W words */
-    DILLPLATTER_BAD_STATE = 12,    /* feed, pull, charge: a state whose frames or W opening would refuse, a count over 1,000,000, p
-                                      over 1,009,999 or below the start, totals not summing to p less the start, a count other
-                                      than 0 of an event that the rule doesn't reference, or a count above base plus W. p is the
-                                      field `next`, the start what it was in the opened state */
+    DILLPLATTER_NO_REFERENCE = 7,  /* read, open, open_board: the rule has no reference */
+    DILLPLATTER_MAGNITUDE = 8,     /* read, open, open_board: a sum whose magnitude is over 2^62. A magnitude is a bound on the sum's
+                                      value */
+    DILLPLATTER_FRAMES_SIZE = 9,   /* open, open_board: the frames' length isn't 8 to 512 in steps of 8 */
+    DILLPLATTER_FRAMES_ORDER = 10, /* open, open_board: not a rule in postfix order with fields within the limits; place: the first
+                                      frame that with those before it begins no such rule of any length, their count if only the
+                                      end is wrong */
+    DILLPLATTER_WINDOW_WIDTH = 11, /* open, open_board: W outside 1 to 256, or a window not 32 * W words */
+    DILLPLATTER_BAD_STATE = 12,    /* feed, pull, charge: a state whose profile is neither 0 nor 1, whose frames or W an opening with
+                                      that profile would refuse, a count over 1,000,000, p over 1,009,999 or below the start,
+                                      totals not summing to p less the start, a count other than 0 of an event that the rule
+                                      doesn't reference, or a count above base plus W. p is the field `next`, the start what it
+                                      was in the opened state */
     DILLPLATTER_WINDOW_SIZE = 13,  /* feed, pull: a window not 32 * W words, with the W of the state */
     DILLPLATTER_REPORT_SIZE = 14,  /* pull, view: a report buffer under 166 bytes */
     DILLPLATTER_BAD_LINE = 15,     /* feed, lower: a line that isn't 34 digits 0-9, A-F or a-f; place: the lower of the first byte
@@ -146,6 +154,7 @@ enum dillplatter_refusal {
     DILLPLATTER_FOURTH_NOTE = 24,  /* lower: a fourth note other than 0 */
     DILLPLATTER_WIDE_NOTE = 25,    /* lower: one of the first three notes that 16 bits can't hold; place: the first such note's
                                       first digit. So one below -32,768 or above 32,767; the place is 2, 10 or 18 */
+    DILLPLATTER_BOARD_LIMITS = 26, /* open_board: W over 32 or over 16 frames, at a board opening */
     DILLPLATTER_TARIFF_BANDS = 28, /* charge: more than four bands, or last numbers that don't rise strictly from above 0 or exceed
                                       1,010,000 */
     DILLPLATTER_TARIFF_PRICES = 29 /* charge: a price over 10,000 cents or a surcharge over 100 percent */
@@ -189,6 +198,12 @@ enum dillplatter_kind {
 
 /* ---- what calls take and give ---- */
 
+/* A profile: to which limits of W and frames a checker keeps. It is chosen at opening and stays in the state. */
+enum dillplatter_profile {
+    DILLPLATTER_DESK = 0, /* from dillplatter_open: W at most 256, at most 64 frames */
+    DILLPLATTER_BOARD = 1 /* from dillplatter_open_board: W at most 32, at most 16 frames */
+};
+
 /* The verdicts pulled so far: how many were true, false, unknown. Their sum is `next` of the state less the rule's start, the
  * instance that `next` was in the opened state. */
 typedef struct dillplatter_totals {
@@ -201,6 +216,7 @@ typedef struct dillplatter_state {
     uint8_t frames[DILLPLATTER_FRAME_BUFFER]; /* the rule, zero after its last frame */
     uint32_t len;                             /* its number of frames, 1 to 64; 0 in the state of a refused opening */
     uint32_t width;                           /* W */
+    uint32_t profile;                         /* enum dillplatter_profile; 0 in the state of a refused opening too */
     uint32_t counts[8];                       /* accepted lines of each event */
     uint32_t next;                            /* the instance that the next pull is about; opening sets it to the start */
     dillplatter_totals totals;
@@ -214,7 +230,7 @@ typedef struct dillplatter_reading {
     uint32_t frames; /* how many frames the rule has, 1 to 64; 0 if refused */
 } dillplatter_reading;
 
-/* What dillplatter_open, dillplatter_feed and dillplatter_pull give. */
+/* What dillplatter_open, dillplatter_open_board, dillplatter_feed and dillplatter_pull give. */
 typedef struct dillplatter_result {
     dillplatter_state state; /* to hand to the next call */
     uint32_t answer;         /* enum dillplatter_answer */
@@ -268,21 +284,35 @@ typedef struct dillplatter_charged {
  * Memory: `text` is only read. Both are the caller's, before and after. They must not overlap.
  * Stack: count on DILLPLATTER_STACK_READ bytes for a text of depth at most 16, and on DILLPLATTER_STACK_READ_ANY, over 1 MB, for any
  * text. Where the stack is small, read rules elsewhere, as on another machine or when the controller is built: keep the frames, and
- * call only dillplatter_open, which checks them again, whatever they are. */
+ * call only dillplatter_open or dillplatter_open_board, which check them again, whatever they are. */
 dillplatter_reading dillplatter_read(const uint8_t *text, size_t text_len, uint8_t *frames, size_t frames_len);
 
-/* Opens a checker for a rule, with window width W.
+/* Opens a checker for a rule, with window width W and the desk's limits: W at most 256, at most 64 frames.
  * `frames` is exactly the rule's frames: of a buffer that dillplatter_read filled, the first 8 * reading.frames bytes. They are
  * copied into the state, and are checked whether or not they come from dillplatter_read.
  * Answers: opened; or refused with 9, 10, 7, 8 or 11, checked in this order.
- * Gives: where opened, the state of a fresh checker: no line, no verdict, and `next` at the rule's start, its first instance with a
- * reference whose line number is not below 0. It is 0 for a rule with a reference whose offset is 0 or more, 2 for t(a[i-2]) > 0, at
- * most 9,999. Where refused, the state that is zero throughout, which feed, pull and charge refuse with 12.
+ * Gives: where opened, the state of a fresh checker: `profile` 0, no line, no verdict, and `next` at the rule's start, its first
+ * instance with a reference whose line number is not below 0. It is 0 for a rule with a reference whose offset is 0 or more, 2 for
+ * t(a[i-2]) > 0, at most 9,999. Where refused, the state that is zero throughout, which feed, pull and charge refuse with 12.
  * Writes: where opened, all words of `window`, to 0. Where refused, none.
  * Memory: `frames` is only read, and not needed after the call. The window stays the caller's; between the calls on this checker
  * nobody may change it. They must not overlap.
  * Stack: count on DILLPLATTER_STACK_OPEN bytes. */
 dillplatter_result dillplatter_open(const uint8_t *frames, size_t frames_len, uint32_t width, int32_t *window, size_t window_len);
+
+/* Opens a checker on the board inside the plotter: as dillplatter_open, with the board's limits, W at most 32 and at most 16 frames.
+ * Answers: opened; or refused with 9, 10, 7, 8, 11 or 26, checked in this order. 11 is the desk's: with W 257, or with W 33 and a
+ * window that is not of 1,056 words, it comes before 26. 26 names no place.
+ * Gives: where opened, the state that dillplatter_open gives for the same frames and W, but that `profile` is 1. Where refused, the
+ * state that is zero throughout, `profile` too, which feed, pull and charge refuse with 12.
+ * Writes: where opened, all words of `window`, to 0. Where refused, none.
+ * Memory: as with dillplatter_open.
+ * Stack: count on DILLPLATTER_STACK_OPEN bytes.
+ *
+ * All other calls are the same for both: a board's checker answers as a desk's with the same frames, W and lines. Every feed and pull
+ * hands `profile` on as it was given, and with charging they refuse a state of the board above its limits with 12. */
+dillplatter_result dillplatter_open_board(const uint8_t *frames, size_t frames_len, uint32_t width, int32_t *window,
+                                          size_t window_len);
 
 /* Feeds one log line: 34 digits 0-9, A-F or a-f, the event (2 digits) and four notes (8 digits each, signed, the most
  * significant first). The case of a letter never counts. The line feed is not part of it.
@@ -384,6 +414,12 @@ static inline dillplatter_told dillplatter_open_at(dillplatter_state *state, con
     return dillplatter_kept(state, &result);
 }
 
+static inline dillplatter_told dillplatter_open_board_at(dillplatter_state *state, const uint8_t *frames, size_t frames_len,
+                                                         uint32_t width, int32_t *window, size_t window_len) {
+    dillplatter_result result = dillplatter_open_board(frames, frames_len, width, window, window_len);
+    return dillplatter_kept(state, &result);
+}
+
 static inline dillplatter_told dillplatter_feed_at(dillplatter_state *state, int32_t *window, size_t window_len, const uint8_t *line,
                                                    size_t line_len) {
     dillplatter_result result = dillplatter_feed(*state, window, window_len, line, line_len);
@@ -447,19 +483,20 @@ static inline int32_t dillplatter_report_value(const uint8_t *report, uint32_t k
 #endif
 
 DILLPLATTER_HOLDS(sizeof(dillplatter_totals) == 12);
-DILLPLATTER_HOLDS(sizeof(dillplatter_state) == 568);
+DILLPLATTER_HOLDS(sizeof(dillplatter_state) == 572);
 DILLPLATTER_HOLDS(offsetof(dillplatter_state, frames) == 0);
 DILLPLATTER_HOLDS(offsetof(dillplatter_state, len) == 512);
 DILLPLATTER_HOLDS(offsetof(dillplatter_state, width) == 516);
-DILLPLATTER_HOLDS(offsetof(dillplatter_state, counts) == 520);
-DILLPLATTER_HOLDS(offsetof(dillplatter_state, next) == 552);
-DILLPLATTER_HOLDS(offsetof(dillplatter_state, totals) == 556);
+DILLPLATTER_HOLDS(offsetof(dillplatter_state, profile) == 520);
+DILLPLATTER_HOLDS(offsetof(dillplatter_state, counts) == 524);
+DILLPLATTER_HOLDS(offsetof(dillplatter_state, next) == 556);
+DILLPLATTER_HOLDS(offsetof(dillplatter_state, totals) == 560);
 DILLPLATTER_HOLDS(sizeof(dillplatter_reading) == 16);
 DILLPLATTER_HOLDS(offsetof(dillplatter_reading, frames) == 12);
-DILLPLATTER_HOLDS(sizeof(dillplatter_result) == 580);
-DILLPLATTER_HOLDS(offsetof(dillplatter_result, answer) == 568);
-DILLPLATTER_HOLDS(offsetof(dillplatter_result, number) == 572);
-DILLPLATTER_HOLDS(offsetof(dillplatter_result, place) == 576);
+DILLPLATTER_HOLDS(sizeof(dillplatter_result) == 584);
+DILLPLATTER_HOLDS(offsetof(dillplatter_result, answer) == 572);
+DILLPLATTER_HOLDS(offsetof(dillplatter_result, number) == 576);
+DILLPLATTER_HOLDS(offsetof(dillplatter_result, place) == 580);
 DILLPLATTER_HOLDS(sizeof(dillplatter_part) == 16);
 DILLPLATTER_HOLDS(offsetof(dillplatter_part, bytes) == 0);
 DILLPLATTER_HOLDS(offsetof(dillplatter_part, len) == 8);
