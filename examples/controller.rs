@@ -1,6 +1,7 @@
 //! The library from Rust, with nothing but rustc: reads a rule, opens a checker, feeds four lines and pulls after each; the
 //! operator panel sees the view of each report. The last two lines come from a table of the earlier edition, and are raised. At
-//! the end rework is charged. host/ has a wrapper with types of its own; this shows the calls themselves.
+//! the end rework is charged, and the rule is opened with the limits of the board inside the plotter. host/ has a wrapper with types
+//! of its own; this shows the calls themselves.
 
 const WIDTH: usize = 64;
 
@@ -18,6 +19,7 @@ struct State {
     frames: [u8; 512],
     len: u32,
     width: u32,
+    profile: u32,
     counts: [u32; 8],
     next: u32,
     totals: Totals,
@@ -79,6 +81,7 @@ struct Charged {
 extern "C" {
     fn dillplatter_read(text: *const u8, text_len: usize, frames: *mut u8, frames_len: usize) -> Reading;
     fn dillplatter_open(frames: *const u8, frames_len: usize, width: u32, window: *mut i32, window_len: usize) -> Outcome;
+    fn dillplatter_open_board(frames: *const u8, frames_len: usize, width: u32, window: *mut i32, window_len: usize) -> Outcome;
     fn dillplatter_feed(state: State, window: *mut i32, window_len: usize, line: *const u8, line_len: usize) -> Outcome;
     fn dillplatter_pull(state: State, window: *const i32, window_len: usize, report: *mut u8, report_len: usize) -> Outcome;
     fn dillplatter_view(part: *mut Part) -> u32;
@@ -94,6 +97,10 @@ fn read(text: &[u8], frames: &mut [u8]) -> Reading {
 
 fn open(frames: &[u8], width: u32, window: &mut [i32]) -> Outcome {
     unsafe { dillplatter_open(frames.as_ptr(), frames.len(), width, window.as_mut_ptr(), window.len()) }
+}
+
+fn open_board(frames: &[u8], width: u32, window: &mut [i32]) -> Outcome {
+    unsafe { dillplatter_open_board(frames.as_ptr(), frames.len(), width, window.as_mut_ptr(), window.len()) }
 }
 
 fn feed(state: State, window: &mut [i32], line: &[u8]) -> Outcome {
@@ -164,8 +171,16 @@ fn pull_all(mut state: State, window: &[i32], report: &mut [u8]) -> State {
     }
 }
 
+// The same frames on the board inside the plotter, where W is at most 32. Its checkers are fed and pulled by the same calls.
+fn say_board(frames: &[u8], window: &mut [i32]) {
+    for width in [WIDTH, 32] {
+        let opened = open_board(frames, width as u32, &mut window[..32 * width]);
+        println!("on the board, W {width}: answer {}, number {}, profile {}", opened.answer, opened.number, opened.state.profile);
+    }
+}
+
 fn main() {
-    assert_eq!((std::mem::size_of::<State>(), std::mem::size_of::<Outcome>(), std::mem::size_of::<Part>()), (568, 580, 16));
+    assert_eq!((std::mem::size_of::<State>(), std::mem::size_of::<Outcome>(), std::mem::size_of::<Part>()), (572, 584, 16));
     assert_eq!((std::mem::size_of::<Raised>(), std::mem::size_of::<Lowered>()), (44, 24));
     assert_eq!((std::mem::size_of::<Tariff>(), std::mem::size_of::<Charged>()), (44, 16));
     let (mut frames, mut window, mut report) = ([0u8; 512], [0i32; 32 * WIDTH], [0u8; 166]);
@@ -174,7 +189,8 @@ fn main() {
         println!("rule refused with {} at {}", reading.number, reading.place);
         return;
     }
-    let opened = open(&frames[..8 * reading.frames as usize], WIDTH as u32, &mut window);
+    let frames = &frames[..8 * reading.frames as usize];
+    let opened = open(frames, WIDTH as u32, &mut window);
     if opened.answer != 2 {
         println!("opening refused with {} at {}", opened.number, opened.place);
         return;
@@ -190,4 +206,5 @@ fn main() {
     }
     println!("true {}, false {}, unknown {}", state.totals.held, state.totals.failed, state.totals.unknown);
     say_charge(state);
+    say_board(frames, &mut window);
 }

@@ -21,6 +21,9 @@ void *__wrap_memcpy(void *to, const void *from, size_t len);
 static size_t copied, most_copied;
 static int seen[9];
 
+/* An opening, the desk's or the board's. */
+typedef dillplatter_result opener(const uint8_t *, size_t, uint32_t, int32_t *, size_t);
+
 void *__wrap_memcpy(void *to, const void *from, size_t len) {
     copied += len;
     return memcpy(to, from, len);
@@ -54,11 +57,11 @@ static void pull(size_t room) {
 }
 
 /* A checker of a rule. */
-static int opened(const char *text) {
+static int opened(opener *open, const char *text) {
     uint8_t frames[DILLPLATTER_FRAME_BUFFER];
     dillplatter_reading reading = dillplatter_read((const uint8_t *)text, strlen(text), frames, sizeof frames);
     copied = 0;
-    result = dillplatter_open(frames, DILLPLATTER_FRAME_BYTES * (size_t)reading.frames, WIDTH, window, WORDS);
+    result = open(frames, DILLPLATTER_FRAME_BYTES * (size_t)reading.frames, WIDTH, window, WORDS);
     note();
     return result.answer == DILLPLATTER_OPENED;
 }
@@ -116,13 +119,23 @@ static void run(void) {
     }
 }
 
-int main(void) {
-    int good = opened("events a b; notes t; t(a[i])+t(b[i]) <= 1");
+/* Opening, feeding and pulling, with every answer: whether one is missing, or a call copies more than it may. */
+static int runs_copy(const char *name, opener *open) {
+    int good;
+    most_copied = 0;
+    memset(seen, 0, sizeof seen);
+    good = opened(open, "events a; notes t; t(a[i])+1+1+1+1+1+1+1 > 0") == (open == dillplatter_open); /* 17 frames: the board's 26 */
+    good &= opened(open, "events a b; notes t; t(a[i])+t(b[i]) <= 1");
     run();
-    good &= opened("events a b; notes t; t(a[i])+t(b[i-1]) <= 1");
+    good &= opened(open, "events a b; notes t; t(a[i])+t(b[i-1]) <= 1");
     run();
     for (int answer = DILLPLATTER_REFUSED; answer <= DILLPLATTER_UNKNOWN; answer++)
         good &= answer == DILLPLATTER_READ || seen[answer];
-    printf("open, feed, pull: %zu bytes copied, at most %d\n", most_copied, MOST);
-    return !(good && most_copied <= MOST) || views_copy() || conversions_copy() || charges_copy();
+    printf("%s, feed, pull: %zu bytes copied, at most %d\n", name, most_copied, MOST);
+    return !(good && most_copied <= MOST);
+}
+
+int main(void) {
+    return runs_copy("open", dillplatter_open) || runs_copy("open_board", dillplatter_open_board) || views_copy() ||
+           conversions_copy() || charges_copy();
 }

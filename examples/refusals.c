@@ -1,6 +1,6 @@
-/* Every refusal of the library once, by its name in the header: what provokes it, its number and its place; and each call with NULL
- * and length 0. Fails where a refused call wrote to lent memory or handed back another state, line or price than it should. Then what
- * some violations cost. */
+/* Every refusal of the library once, by its name in the header: what provokes it, its number and its place; the limits of the board
+ * from both sides; and each call with NULL and length 0. Fails where a refused call wrote to lent memory or handed back another
+ * state, line or price than it should. Then what some violations cost. */
 #include <inttypes.h>
 #include <stdio.h>
 #include <string.h>
@@ -12,13 +12,25 @@
 
 static const char good_rule[] = "events a b; notes t; t(a[i]) > t(b[i])";
 static const char one_event[] = "events a; notes t; t(a[i]) > 0";
+static const char sixteen_frames[] = "events a; notes t; abs(t(a[i])+1+1+1+1+1+1) > 0";
+static const char seventeen_frames[] = "events a; notes t; t(a[i])+1+1+1+1+1+1+1 > 0";
 
 /* 45 cents to 10, 30 to 100, 12 beyond and 7 percent. */
 static const dillplatter_tariff good_tariff = {2, {10, 100, 0, 0}, {45, 30, 0, 0}, 12, 7};
 
-/* Lent memory: at the start of each call it is filled with 7, or is what the call before left. */
+/* An opening, by a state and by a pointer to it. */
+typedef struct opener {
+    dillplatter_result (*open)(const uint8_t *, size_t, uint32_t, int32_t *, size_t);
+    dillplatter_told (*open_at)(dillplatter_state *, const uint8_t *, size_t, uint32_t, int32_t *, size_t);
+} opener;
+
+static const opener desk = {dillplatter_open, dillplatter_open_at}, board = {dillplatter_open_board, dillplatter_open_board_at};
+
+/* Lent memory: at the start of each call it is filled with 7, or is what the call before left. The window has room for W 257, and a
+ * call gets the words that it needs. */
+#define WIDEST (DILLPLATTER_WIDTH_MOST + 1)
 static uint8_t frames[DILLPLATTER_FRAME_BUFFER], report[DILLPLATTER_REPORT_BYTES], text[DILLPLATTER_TEXT_MOST + 1];
-static int32_t window[DILLPLATTER_WINDOW_WORDS(WIDTH)], before[DILLPLATTER_WINDOW_WORDS(WIDTH)];
+static int32_t window[DILLPLATTER_WINDOW_WORDS(WIDEST)], before[DILLPLATTER_WINDOW_WORDS(WIDEST)];
 static dillplatter_state state, zero;
 static size_t frames_len;
 static int wrong;
@@ -74,16 +86,16 @@ static void refuse_text(const char *what, uint32_t want, const char *rule) {
 }
 
 /* Frames that are refused, or a window; by a pointer to the state too. */
-static void refuse_open(const char *what, uint32_t want, size_t len, uint32_t width, size_t words) {
+static void refuse_open(opener by, const char *what, uint32_t want, size_t len, uint32_t width, size_t words) {
     const uint8_t *from = bytes_or_null(frames, len);
     int32_t *to = words_or_null(window, words);
     dillplatter_state kept;
     memset(&kept, 7, sizeof kept);
     memset(window, 7, sizeof window);
     memcpy(before, window, sizeof window);
-    dillplatter_result r = dillplatter_open(from, len, width, to, words);
+    dillplatter_result r = by.open(from, len, width, to, words);
     say(what, want, r.answer, r.number, r.place);
-    expect_same(dillplatter_open_at(&kept, from, len, width, to, words), r);
+    expect_same(by.open_at(&kept, from, len, width, to, words), r);
     expect(memcmp(window, before, sizeof window) == 0, "a refused opening leaves the window");
     expect(memcmp(&r.state, &zero, sizeof zero) == 0, "a refused opening gives the zero state");
     expect(memcmp(&kept, &zero, sizeof zero) == 0, "by a pointer too");
@@ -176,10 +188,13 @@ static void read_good(const char *rule) {
     frames_len = DILLPLATTER_FRAME_BYTES * (size_t)r.frames;
 }
 
-static void open_good(const char *rule) {
+static void open_by(opener by, const char *rule, uint32_t width) {
+    const size_t words = DILLPLATTER_WINDOW_WORDS(width);
     read_good(rule);
-    expect(dillplatter_open_at(&state, frames, frames_len, WIDTH, window, WORDS).answer == DILLPLATTER_OPENED, "opened");
+    expect(by.open_at(&state, frames, frames_len, width, window, words).answer == DILLPLATTER_OPENED, "opened");
 }
+
+static void open_good(const char *rule) { open_by(desk, rule, WIDTH); }
 
 /* Lines of event 0 with this note, and a pull after each. */
 static void feed_many(int n, int32_t note) {
@@ -207,10 +222,60 @@ static void reading(void) {
 
 static void opening(void) {
     read_good(good_rule);
-    refuse_open("12 bytes of frames", DILLPLATTER_FRAMES_SIZE, 12, WIDTH, WORDS);
-    refuse_open("two of three frames", DILLPLATTER_FRAMES_ORDER, 16, WIDTH, WORDS);
-    refuse_open("W 257", DILLPLATTER_WINDOW_WIDTH, frames_len, 257, WORDS);
-    refuse_open("a window one word short", DILLPLATTER_WINDOW_WIDTH, frames_len, WIDTH, WORDS - 1);
+    refuse_open(desk, "12 bytes of frames", DILLPLATTER_FRAMES_SIZE, 12, WIDTH, WORDS);
+    refuse_open(desk, "two of three frames", DILLPLATTER_FRAMES_ORDER, 16, WIDTH, WORDS);
+    refuse_open(desk, "W 257", DILLPLATTER_WINDOW_WIDTH, frames_len, 257, DILLPLATTER_WINDOW_WORDS(257));
+    refuse_open(desk, "a window one word short", DILLPLATTER_WINDOW_WIDTH, frames_len, WIDTH, WORDS - 1);
+}
+
+/* The board's opening has the desk's refusals first, 11 too, and then 26. */
+static void opening_board(void) {
+    enum { most = DILLPLATTER_BOARD_WIDTH_MOST };
+    const size_t words = DILLPLATTER_WINDOW_WORDS(most), more = DILLPLATTER_WINDOW_WORDS(most + 1);
+    read_good(sixteen_frames);
+    refuse_open(board, "W 33 on the board", DILLPLATTER_BOARD_LIMITS, frames_len, most + 1, more);
+    refuse_open(board, "W 33 and a window one word short", DILLPLATTER_WINDOW_WIDTH, frames_len, most + 1, more - 1);
+    refuse_open(board, "W 257 on the board", DILLPLATTER_WINDOW_WIDTH, frames_len, 257, DILLPLATTER_WINDOW_WORDS(257));
+    read_good(seventeen_frames);
+    refuse_open(board, "17 frames on the board", DILLPLATTER_BOARD_LIMITS, frames_len, most, words);
+    refuse_open(board, "17 frames and a window one word short", DILLPLATTER_WINDOW_WIDTH, frames_len, most, words - 1);
+    refuse_open(board, "16 of 17 frames, and W 33", DILLPLATTER_FRAMES_ORDER, frames_len - 8, most + 1, more);
+    refuse_open(board, "four bytes less, and W 33", DILLPLATTER_FRAMES_SIZE, frames_len - 4, most + 1, more);
+}
+
+/* A rule and a W that the board takes: its state is the desk's but for the profile, and is fed, pulled and charged. */
+static void taken_on_board(const char *rule, uint32_t width) {
+    const size_t words = DILLPLATTER_WINDOW_WORDS(width);
+    const uint8_t *line = (const uint8_t *)"0000000001000000000000000000000000";
+    open_by(desk, rule, width);
+    dillplatter_state other = state;
+    other.profile = DILLPLATTER_BOARD;
+    open_by(board, rule, width);
+    printf("opened on the board: W %" PRIu32 ", %" PRIu32 " frames\n", state.width, state.len);
+    expect(memcmp(&state, &other, sizeof state) == 0, "the board's state is the desk's but for the profile");
+    expect(dillplatter_feed_at(&state, window, words, line, 34).answer == DILLPLATTER_ACCEPTED, "the board's checker is fed");
+    expect(dillplatter_pull_at(&state, window, words, report, sizeof report).answer == DILLPLATTER_TRUE, "and pulled");
+    expect(dillplatter_charge(state, good_tariff).number == DILLPLATTER_NO_REFUSAL, "and charged");
+    expect(state.profile == DILLPLATTER_BOARD, "its profile stays");
+}
+
+/* A state of the desk with another profile. */
+static void refuse_profile(const char *what, const char *rule, uint32_t width, uint32_t profile) {
+    const size_t words = DILLPLATTER_WINDOW_WORDS(width);
+    open_by(desk, rule, width);
+    state.profile = profile;
+    refuse_feed(what, DILLPLATTER_BAD_STATE, state, words, "0000000001000000000000000000000000");
+    refuse_pull(what, DILLPLATTER_BAD_STATE, state, words, sizeof report);
+    refuse_charge(what, DILLPLATTER_BAD_STATE, state, good_tariff);
+}
+
+/* Profiles in the state: the limits of the board, and a number that is none. */
+static void profiles(void) {
+    enum { most = DILLPLATTER_BOARD_WIDTH_MOST };
+    taken_on_board(sixteen_frames, most);
+    refuse_profile("a board state with W 33", sixteen_frames, most + 1, DILLPLATTER_BOARD);
+    refuse_profile("a board state with 17 frames", seventeen_frames, most, DILLPLATTER_BOARD);
+    refuse_profile("a state with profile 2", sixteen_frames, most, 2);
 }
 
 static void running(void) {
@@ -250,10 +315,13 @@ static void nothing_lent(void) {
     refuse_read("no buffer", DILLPLATTER_BUFFER_SIZE, good_rule, len, 0);
     refuse_read("neither text nor buffer", DILLPLATTER_BUFFER_SIZE, NULL, 0, 0);
     read_good(good_rule);
-    refuse_open("no frames", DILLPLATTER_FRAMES_SIZE, 0, WIDTH, WORDS);
-    refuse_open("no window", DILLPLATTER_WINDOW_WIDTH, frames_len, WIDTH, 0);
-    refuse_open("no window and W 0", DILLPLATTER_WINDOW_WIDTH, frames_len, 0, 0);
-    refuse_open("neither frames nor window", DILLPLATTER_FRAMES_SIZE, 0, WIDTH, 0);
+    for (size_t k = 0; k < 2; k++) {
+        const opener by = k == 0 ? desk : board;
+        refuse_open(by, "no frames", DILLPLATTER_FRAMES_SIZE, 0, WIDTH, WORDS);
+        refuse_open(by, "no window", DILLPLATTER_WINDOW_WIDTH, frames_len, WIDTH, 0);
+        refuse_open(by, "no window and W 0", DILLPLATTER_WINDOW_WIDTH, frames_len, 0, 0);
+        refuse_open(by, "neither frames nor window", DILLPLATTER_FRAMES_SIZE, 0, WIDTH, 0);
+    }
     open_good(good_rule);
     feed_many(1, 1);
     refuse_feed("no window, fed", DILLPLATTER_WINDOW_SIZE, state, 0, line);
@@ -334,6 +402,8 @@ static void costing(void) {
 int main(void) {
     reading();
     opening();
+    opening_board();
+    profiles();
     running();
     converting();
     nothing_lent();

@@ -1,6 +1,6 @@
-/* Measures how much stack each call of the library takes, over texts, frames, lines, states and tariffs that take the most: each
- * call runs on a stack of its own that was painted before, and the lowest byte that lost its paint is looked up after. Fails where
- * a call takes more than the header says to count on. */
+/* Measures how much stack each call of the library takes, over texts, frames, lines, states and tariffs that take the most, with the
+ * limits of the desk and with those of the board: each call runs on a stack of its own that was painted before, and the lowest byte
+ * that lost its paint is looked up after. Fails where a call takes more than the header says to count on. */
 #define _XOPEN_SOURCE 700
 #include <stdio.h>
 #include <string.h>
@@ -10,8 +10,23 @@
 
 #define ROOM (2 << 20)
 #define PAINT 0xA5
-#define WIDTH 256
+#define WIDTH profile->width
 #define WORDS DILLPLATTER_WINDOW_WORDS(WIDTH)
+
+/* The desk and the board: the opening, the largest W, and a rule of the most references, so many times `+t(a[3*i+9])` in its sum. */
+static const struct {
+    const char *name;
+    dillplatter_result (*open)(const uint8_t *, size_t, uint32_t, int32_t *, size_t);
+    dillplatter_told (*open_at)(dillplatter_state *, const uint8_t *, size_t, uint32_t, int32_t *, size_t);
+    uint32_t width;
+    const char *begin;
+    size_t times;
+    uint32_t frames;
+} profiles[] = {
+    {"desk", dillplatter_open, dillplatter_open_at, DILLPLATTER_WIDTH_MOST, "events a; notes t; t(a[i])", 30, 63},
+    {"board", dillplatter_open_board, dillplatter_open_board_at, DILLPLATTER_BOARD_WIDTH_MOST, "events a; notes t; !t(a[i])", 6,
+     DILLPLATTER_BOARD_FRAMES_MOST},
+}, *profile = profiles;
 
 static uint8_t stack[ROOM];
 static ucontext_t here, there;
@@ -21,7 +36,7 @@ static uint8_t text[DILLPLATTER_TEXT_MOST], frames[DILLPLATTER_FRAME_BUFFER], re
 static uint8_t line[DILLPLATTER_LINE_BYTES];
 static const uint8_t *given;
 static size_t text_len, frames_len, given_len;
-static int32_t window[DILLPLATTER_WINDOW_WORDS(WIDTH)];
+static int32_t window[DILLPLATTER_WINDOW_WORDS(DILLPLATTER_WIDTH_MOST)];
 static dillplatter_reading reading;
 static dillplatter_result result;
 static dillplatter_told told;
@@ -33,10 +48,10 @@ static dillplatter_charged charged;
 
 static void nothing(void) {}
 static void do_read(void) { reading = dillplatter_read(text, text_len, frames, sizeof frames); }
-static void do_open(void) { result = dillplatter_open(frames, frames_len, WIDTH, window, WORDS); }
+static void do_open(void) { result = profile->open(frames, frames_len, WIDTH, window, WORDS); }
 static void do_feed(void) { result = dillplatter_feed(result.state, window, WORDS, line, sizeof line); }
 static void do_pull(void) { result = dillplatter_pull(result.state, window, WORDS, report, sizeof report); }
-static void do_open_at(void) { told = dillplatter_open_at(&result.state, frames, frames_len, WIDTH, window, WORDS); }
+static void do_open_at(void) { told = profile->open_at(&result.state, frames, frames_len, WIDTH, window, WORDS); }
 static void do_feed_at(void) { told = dillplatter_feed_at(&result.state, window, WORDS, line, sizeof line); }
 static void do_pull_at(void) { told = dillplatter_pull_at(&result.state, window, WORDS, report, sizeof report); }
 static void do_view(void) { dillplatter_view(&part); }
@@ -117,15 +132,15 @@ static size_t reading_most(size_t depth) {
     return most;
 }
 
-/* A rule of 63 frames with 32 references. */
+/* The rule with the most references: 32 in 63 frames, on the board 8 in 16. */
 static int widest(void) {
     text_len = 0;
-    put("events a; notes t; t(a[i])", 1);
-    put("+t(a[9*i+9])", 30);
+    put(profile->begin, 1);
+    put("+t(a[3*i+9])", profile->times);
     put(">t(a[i])", 1);
     do_read();
     frames_len = DILLPLATTER_FRAME_BYTES * (size_t)reading.frames;
-    return reading.answer == DILLPLATTER_READ && reading.frames == 63;
+    return reading.answer == DILLPLATTER_READ && reading.frames == profile->frames;
 }
 
 /* Feeding and pulling, with verdicts both true and false; by a state, and by a pointer to it. */
@@ -186,7 +201,7 @@ static int charging_most(size_t *charging) {
 }
 
 static int within(const char *name, size_t bytes, size_t limit) {
-    printf("%s: %zu bytes, at most %zu\n", name, bytes, limit);
+    printf("%s, %s: %zu bytes, at most %zu\n", profile->name, name, bytes, limit);
     return bytes <= limit;
 }
 
@@ -199,33 +214,36 @@ static int readings(void) {
 /* Opening, feeding and pulling. */
 static int runs(void) {
     size_t feeding[2] = {0, 0}, pulling[2] = {0, 0};
-    int good = within("open, by a pointer", cost(do_open_at), DILLPLATTER_STACK_OPEN);
+    int good = widest();
+    good &= within("open, by a pointer", cost(do_open_at), DILLPLATTER_STACK_OPEN);
     good &= within("open", cost(do_open), DILLPLATTER_STACK_OPEN);
     running_most(feeding, pulling);
     good &= within("feed", feeding[0], DILLPLATTER_STACK_FEED);
     good &= within("feed, by a pointer", feeding[1], DILLPLATTER_STACK_FEED);
     good &= within("pull", pulling[0], DILLPLATTER_STACK_PULL);
     good &= within("pull, by a pointer", pulling[1], DILLPLATTER_STACK_PULL);
+    good &= result.state.profile == (uint32_t)(profile - profiles);
     return good & (told.number == 0) & (result.state.totals.held > 0) & (result.state.totals.failed > 0);
 }
 
-/* Viewing, raising and lowering. */
+/* Viewing, raising, lowering and charging. */
 static int others(void) {
-    size_t raising = 0, lowering = 0;
+    size_t raising = 0, lowering = 0, charging = 0;
     int good = within("view", viewing(sizeof report), DILLPLATTER_STACK_VIEW);
     good &= within("view, refused", viewing(0), DILLPLATTER_STACK_VIEW);
     converting_most(&raising, &lowering);
     good &= within("raise", raising, DILLPLATTER_STACK_RAISE);
-    return good & within("lower", lowering, DILLPLATTER_STACK_LOWER);
+    good &= within("lower", lowering, DILLPLATTER_STACK_LOWER);
+    good &= charging_most(&charging);
+    return good & within("charge", charging, DILLPLATTER_STACK_CHARGE);
 }
 
 int main(void) {
-    size_t charging = 0;
+    const size_t count = sizeof profiles / sizeof *profiles;
     int good = readings();
-    good &= widest();
-    good &= runs();
-    good &= others();
-    good &= charging_most(&charging);
-    good &= within("charge", charging, DILLPLATTER_STACK_CHARGE);
+    for (profile = profiles; profile < profiles + count; profile++) {
+        good &= runs();
+        good &= others();
+    }
     return !good;
 }
