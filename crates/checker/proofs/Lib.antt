@@ -41,6 +41,7 @@ mod CodeCopy
 mod CodeBase
 mod CodeRing
 mod CodeStateTest
+mod CodeOpen
 mod CodeFeed
 -- What the proofs of functions cite: marks and notes, the report, pulling.
 mod PullBits

@@ -22,10 +22,7 @@ pub const REPORT_LEAST: usize = 166;
 pub const BOARD_WIDTH_LIMIT: u32 = 32;
 
 // A rule on the board has at most 16 frames.
-pub const BOARD_FRAME_LIMIT: u32 = 16;
-
-// At most 64 frames, as the state counts them.
-pub const FRAME_LIMIT: u32 = rule::limits::FRAME_LIMIT as u32;
+pub const BOARD_FRAME_LIMIT: usize = 16;
 
 // At most 8 events, as places of the counts.
 pub const COUNT_PLACES: usize = rule::limits::EVENT_LIMIT as usize;

@@ -12,6 +12,7 @@ use rule::FRAME_BYTES;
 use rule::Refusal;
 use verdict::Instance;
 ghost use mathlib.Core.Path.{_≡_};
+ghost use mathlib.Core.Bool.{_&&_, cond};
 ghost use mathlib.Core.List.{_++_};
 ghost use Prim.Native.Nat.{_-_, _*_, _≤_};
 ghost use lib.Dec.{eqb};
@@ -22,8 +23,9 @@ ghost use Rattle.rule.specs.Check.{checkedOf};
 ghost use Rattle.rule.specs.CheckTold as checking;
 ghost use Rattle.rule.specs.declared.Refusal.{Refusal};
 ghost use Rattle.checker.specs.Limits.{windowWords};
+ghost use Rattle.checker.specs.Profile.{withinMost};
 ghost use Rattle.checker.specs.State.{zeroState, freshState};
-ghost use Rattle.checker.specs.Open.{widthFits, afterWindow, openDef, openOutcome};
+ghost use Rattle.checker.specs.Open.{widthFits, openDef, openOutcome};
 
 // Whether W is 1 to 256.
 pub fn width_fits(width: u32) -> bool
@@ -95,24 +97,18 @@ fn refuse(why: Refusal) -> Opened
     }
 }
 
-// 26; else a fresh state and a cleared window.
-fn open_within(profile: Profile, frames: &[u8], width: u32, window: &mut [i32]) -> Opened
-    requires { ⌜ (checkedOf (now frames) ≡ checking.accepted) × (length (now window) ≡ windowWords width) ⌝ }
-    ensures { λ r. ⌜ openOutcome r (now (window .exit))
-        ≡ afterWindow profile (now (frames .entry)) width (now (window .entry)) ⌝ }
+// 11, then 26: the number of the first that holds, 0 where neither does. There are n frames, and so many words in the window.
+fn refusal_of(profile: Profile, n: usize, width: u32, words: usize) -> u8
+    ensures { λ r. ⌜ r ≡ cond (widthFits width && eqb words (windowWords width)) (cond (withinMost profile width n) 0 26) 11 ⌝ }
 {
-    let n = (frames.len() / FRAME_BYTES) as u32;
-    if profiles::within(profile, width, n) {
-        clear(window);
-        Opened {
-            answer: OpenAnswer::Opened,
-            state: fresh(profile, frames, width),
+    if width_fits(width) & window_fits(width, words) {
+        if profiles::within(profile, width, n) {
+            0
+        } else {
+            26
         }
     } else {
-        refuse(Refusal {
-            number: 26,
-            place: 0,
-        })
+        11
     }
 }
 
@@ -125,13 +121,15 @@ pub fn open(profile: Profile, frames: &[u8], width: u32, window: &mut [i32]) -> 
     match checked {
         Checked::Refused(why) => refuse(why),
         Checked::Accepted => {
-            if width_fits(width) & window_fits(width, window.len()) {
-                open_within(profile, frames, width, window)
+            let number = refusal_of(profile, frames.len() / FRAME_BYTES, width, window.len());
+            if number == 0 {
+                clear(window);
+                Opened {
+                    answer: OpenAnswer::Opened,
+                    state: fresh(profile, frames, width),
+                }
             } else {
-                refuse(Refusal {
-                    number: 11,
-                    place: 0,
-                })
+                refuse(Refusal { number, place: 0 })
             }
         }
     }

@@ -1,6 +1,7 @@
 // Desk and board: the limits of each, and the profile's number in a state.
 use crate::Profile;
 use crate::limits;
+use rule::limits::FRAME_LIMIT;
 ghost use mathlib.Core.Path.{_≡_};
 ghost use Rattle.checker.specs.Profile.{withinMost, profileNumber, profilePasses};
 
@@ -20,22 +21,22 @@ pub fn number_of(profile: Profile) -> u32
 }
 
 // Whether W and a number of frames are within a profile's limits.
-pub fn within(profile: Profile, width: u32, len: u32) -> bool
-    ensures { λ r. ⌜ r ≡ withinMost profile width len ⌝ }
+pub fn within(profile: Profile, width: u32, n: usize) -> bool
+    ensures { λ r. ⌜ r ≡ withinMost profile width n ⌝ }
 {
     match profile {
-        Profile::Desk => (width <= limits::WIDTH_LIMIT) & (len <= limits::FRAME_LIMIT),
-        Profile::Board => (width <= limits::BOARD_WIDTH_LIMIT) & (len <= limits::BOARD_FRAME_LIMIT),
+        Profile::Desk => (width <= limits::WIDTH_LIMIT) & (n <= FRAME_LIMIT),
+        Profile::Board => (width <= limits::BOARD_WIDTH_LIMIT) & (n <= limits::BOARD_FRAME_LIMIT),
     }
 }
 
 // Whether a number is that of a profile, and W and a number of frames are within its limits.
-pub fn passes(number: u32, width: u32, len: u32) -> bool
-    ensures { λ r. ⌜ r ≡ profilePasses number width len ⌝ }
+pub fn passes(number: u32, width: u32, n: usize) -> bool
+    ensures { λ r. ⌜ r ≡ profilePasses number width n ⌝ }
 {
     if number == DESK {
-        within(Profile::Desk, width, len)
+        within(Profile::Desk, width, n)
     } else {
-        (number == BOARD) & within(Profile::Board, width, len)
+        (number == BOARD) & within(Profile::Board, width, n)
     }
 }

@@ -42,9 +42,9 @@ fn rule_fits(frames: &[u8], len: u32, width: u32, number: u32) -> bool
     requires { ⌜ length (now frames) ≡ frameLimit * frameBytes ⌝ }
     ensures { λ r. ⌜ r ≡ ruleFits (now (frames .entry)) len width number ⌝ }
 {
-    if profiles::passes(number, width, len) {
-        let n = len as usize * FRAME_BYTES;
-        accepted(rule::check(&frames[..n])) & opening::width_fits(width)
+    let n = len as usize;
+    if profiles::passes(number, width, n) {
+        accepted(rule::check(&frames[..n * FRAME_BYTES])) & opening::width_fits(width)
     } else {
         false
     }

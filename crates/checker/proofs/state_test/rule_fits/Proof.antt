@@ -9,8 +9,12 @@ use native.Mathlib.Omega.{arith}
 use Rattle.checker.proofs.state_test.rule_fits.Statement.{statement}
 use Rattle.checker.proofs.state_test.rule_fits.Tie as tie
 
-mul-n : tie.Need-mul-n
-mul-n c = omega arith
+mul-check : tie.Need-mul-check
+mul-check c =
+    let at-passes = c .before in
+    let a = at-passes .before .before .args in
+    let t : profilePasses (a .number) (a .width) (a .len) ≡ true = sym (at-passes .passes .ensures) ∙ c .if1 .taken in
+    omega (arith, passes-room (a .number) (a .width) (a .len) t)
 
 slice-aggregate-check : tie.Need-slice-aggregate-check
 slice-aggregate-check c =
@@ -40,4 +44,4 @@ returns-2 c =
     rw t
 
 pub rule-fits-spec : {M : Type 1} → statement M
-rule-fits-spec = tie.close (tie.spec (λ c κs. search needs) mul-n slice-aggregate-check (λ c κs. search needs) (λ c κs. search needs) (λ c κs. search needs) returns returns-2)
+rule-fits-spec = tie.close (tie.spec (λ c κs. search needs) mul-check slice-aggregate-check (λ c κs. search needs) (λ c κs. search needs) (λ c κs. search needs) returns returns-2)
