@@ -2,10 +2,10 @@
 use crate::OpenAnswer;
 use crate::Opened;
 use crate::Profile;
-use crate::State;
 use crate::base;
 use crate::limits;
 use crate::parts;
+use crate::parts::Fields;
 use crate::profiles;
 use rule::Checked;
 use rule::FRAME_BYTES;
@@ -13,19 +13,28 @@ use rule::Refusal;
 use verdict::Instance;
 ghost use mathlib.Core.Path.{_≡_};
 ghost use mathlib.Core.Bool.{_&&_, cond};
-ghost use mathlib.Core.List.{_++_};
-ghost use Prim.Native.Nat.{_-_, _*_, _≤_};
+ghost use mathlib.Core.List.{List};
+ghost use Prim.Native.Nat.{ℕ, _*_, _≤_};
 ghost use lib.Dec.{eqb};
 ghost use lib.IntN.{pos};
 ghost use lib.ListN.{length, replicate};
 ghost use Rattle.rule.specs.Limits.{frameLimit, frameBytes};
+ghost use Rattle.rule.specs.Frames.{frameCount};
 ghost use Rattle.rule.specs.Check.{checkedOf};
 ghost use Rattle.rule.specs.CheckTold as checking;
 ghost use Rattle.rule.specs.declared.Refusal.{Refusal};
 ghost use Rattle.checker.specs.Limits.{windowWords};
-ghost use Rattle.checker.specs.Profile.{withinMost};
-ghost use Rattle.checker.specs.State.{zeroState, freshState};
+ghost use Rattle.checker.specs.Base.{firstFor};
+ghost use Rattle.checker.specs.Profile.{withinMost, profileNumber};
+ghost use Rattle.checker.specs.State.{tallyFrom, stateWith};
 ghost use Rattle.checker.specs.Open.{widthFits, openDef, openOutcome};
+ghost use Rattle.checker.specs.Parts.{stateOf, framesIn, openedOf};
+
+// What opening by parts gives: its answer, and the fields of the state beside its frames.
+pub struct OpenedFields {
+    pub answer: OpenAnswer,
+    pub fields: Fields,
+}
 
 // Whether W is 1 to 256.
 pub fn width_fits(width: u32) -> bool
@@ -53,47 +62,41 @@ fn clear(window: &mut [i32])
     }
 }
 
-// The frames, and zero after the last.
-fn copied(frames: &[u8]) -> [u8; 512]
-    requires { ⌜ length (now frames) ≤ frameLimit * frameBytes ⌝ }
-    ensures { λ r. ⌜ r ≡ now (frames .entry) ++ replicate (frameLimit * frameBytes - length (now (frames .entry))) 0 ⌝ }
+// The first n frames of a slice, and zero after the last.
+pub fn opened_frames(frames: &[u8], n: u32) -> [u8; 512]
+    requires { ⌜ (n * frameBytes ≤ length (now frames)) × (n ≤ frameLimit) ⌝ }
+    ensures { λ r. ⌜ r ≡ framesIn (now (frames .entry)) n ⌝ }
 {
+    let end = n as usize * FRAME_BYTES;
     let mut out = [0u8; 512];
     let mut k = 0;
-    while k < frames.len() {
+    while k < end {
         out[k] = frames[k];
         k += 1;
     }
     out
 }
 
-// The state that an unrefused opening gives back.
-fn fresh(profile: Profile, frames: &[u8], width: u32) -> State
+// The fields of the state that an unrefused opening gives back.
+fn fresh(profile: Profile, frames: &[u8], width: u32) -> Fields
     requires { ⌜ checkedOf (now frames) ≡ checking.accepted ⌝ }
-    ensures { λ r. ⌜ r ≡ freshState profile (now (frames .entry)) width ⌝ }
+    ensures { λ r. ⌜ ((fs : List ℕ) → stateOf fs r ≡ stateWith fs (frameCount (now (frames .entry))) width (profileNumber profile)
+        (tallyFrom (firstFor (now (frames .entry))))) ⌝ }
 {
     let starts = base::starts_at(frames, Instance(0));
     let n = (frames.len() / FRAME_BYTES) as u32;
     let number = profiles::number_of(profile);
-    let bytes = copied(frames);
-    parts::at_first(bytes, n, width, number, starts.first)
-}
-
-// The state that is zero throughout.
-fn zero() -> State
-    ensures { λ r. ⌜ r ≡ zeroState ⌝ }
-{
-    let bytes = [0u8; 512];
-    parts::at_first(bytes, 0, 0, 0, Instance(0))
+    parts::first_fields(n, width, number, starts.first)
 }
 
 // A refusal hands back the state that is zero throughout.
-fn refuse(why: Refusal) -> Opened
-    ensures { λ r. ⌜ r ≡ record { answer = OpenAnswer.Refused why; state = zeroState } ⌝ }
+fn refuse(why: Refusal) -> OpenedFields
+    ensures { λ r. ⌜ (r .answer ≡ OpenAnswer.Refused why)
+        × ((fs : List ℕ) → stateOf fs (r .fields) ≡ stateWith fs 0 0 0 (tallyFrom 0)) ⌝ }
 {
-    Opened {
+    OpenedFields {
         answer: OpenAnswer::Refused(why),
-        state: zero(),
+        fields: parts::first_fields(0, 0, 0, Instance(0)),
     }
 }
 
@@ -112,10 +115,11 @@ fn refusal_of(profile: Profile, n: usize, width: u32, words: usize) -> u8
     }
 }
 
-// Opens a checker, for desk and board, every slice of frames, every W and every window.
-pub fn open(profile: Profile, frames: &[u8], width: u32, window: &mut [i32]) -> Opened
-    ensures { λ r. ⌜ openOutcome r (now (window .exit))
-        ≡ openDef profile (now (frames .entry)) width (now (window .entry)) ⌝ }
+// Opens a checker by parts, for desk and board, every slice of frames, every W and every window.
+pub fn open_parts(profile: Profile, frames: &[u8], width: u32, window: &mut [i32]) -> OpenedFields
+    ensures { λ r. ⌜ (openOutcome (openedOf (framesIn (now (frames .entry)) (r .fields .len)) r) (now (window .exit))
+        ≡ openDef profile (now (frames .entry)) width (now (window .entry)))
+        × ((r .fields .len * frameBytes ≤ length (now (frames .entry))) × (r .fields .len ≤ frameLimit)) ⌝ }
 {
     let checked = rule::check(frames);
     match checked {
@@ -124,13 +128,28 @@ pub fn open(profile: Profile, frames: &[u8], width: u32, window: &mut [i32]) -> 
             let number = refusal_of(profile, frames.len() / FRAME_BYTES, width, window.len());
             if number == 0 {
                 clear(window);
-                Opened {
+                OpenedFields {
                     answer: OpenAnswer::Opened,
-                    state: fresh(profile, frames, width),
+                    fields: fresh(profile, frames, width),
                 }
             } else {
                 refuse(Refusal { number, place: 0 })
             }
         }
+    }
+}
+
+// Opens a checker, for desk and board, every slice of frames, every W and every window.
+pub fn open(profile: Profile, frames: &[u8], width: u32, window: &mut [i32]) -> Opened
+    ensures { λ r. ⌜ openOutcome r (now (window .exit))
+        ≡ openDef profile (now (frames .entry)) width (now (window .entry)) ⌝ }
+{
+    let opened = open_parts(profile, frames, width, window);
+    let answer = opened.answer;
+    let fields = opened.fields;
+    let bytes = opened_frames(frames, fields.len);
+    Opened {
+        answer,
+        state: parts::with_fields(bytes, fields),
     }
 }

@@ -48,12 +48,13 @@ pub extern "C" fn dillplatter_open(frames: &[u8], width: u32, window: &mut [i32]
     ensures { λ r. ⌜ callOutcome r (now (window .exit))
         ≡ openNumbers (openDef Desk (now (frames .entry)) width (now (window .entry))) ⌝ }
 {
-    let opened = checker::open(Profile::Desk, frames, width, window);
-    let state = opened.state;
+    let opened = checker::open_parts(Profile::Desk, frames, width, window);
     let a = opened.answer;
     let opening = told::opening(a);
+    let fields = opened.fields;
+    let bytes = checker::opened_frames(frames, fields.len);
     CallResult {
-        state,
+        state: checker::with_fields(bytes, fields),
         answer: opening.answer,
         number: opening.number,
         place: opening.place,
@@ -70,12 +71,13 @@ pub extern "C" fn dillplatter_open_board(
     ensures { λ r. ⌜ callOutcome r (now (window .exit))
         ≡ openNumbers (openDef Board (now (frames .entry)) width (now (window .entry))) ⌝ }
 {
-    let opened = checker::open(Profile::Board, frames, width, window);
-    let state = opened.state;
+    let opened = checker::open_parts(Profile::Board, frames, width, window);
     let a = opened.answer;
     let board_opening = told::opening(a);
+    let fields = opened.fields;
+    let bytes = checker::opened_frames(frames, fields.len);
     CallResult {
-        state,
+        state: checker::with_fields(bytes, fields),
         answer: board_opening.answer,
         number: board_opening.number,
         place: board_opening.place,
