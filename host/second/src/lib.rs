@@ -3,9 +3,9 @@
 //!
 //! A rule flows `text` -> `grammar` -> `names`, `numbers` -> `postfix` -> `frames`; a log flows `line` ->
 //! `machine`, which asks `verdict`. `state` answers calls on a state and a window that a caller hands in, forged ones
-//! too; `view` has what machine hands see of a report; `earlier` reads log lines of the earlier edition, which `machine`
-//! takes too, and converts them to log lines and back; `tariff` has what violations cost; `bench` has the output of the
-//! bench program.
+//! too; `profile` has the limits of a desk and of a board, for opening and for 12; `view` has what machine hands see of a
+//! report; `earlier` reads log lines of the earlier edition, which `machine` takes too, and converts them to log lines and
+//! back; `tariff` has what violations cost; `bench` has the output of the bench program.
 //!
 //! It is written from the documents alone, and shares no code or table with the proved part. A test drives it call by
 //! call:
@@ -34,6 +34,7 @@ pub mod machine;
 pub mod names;
 pub mod numbers;
 pub mod postfix;
+pub mod profile;
 pub mod reading;
 pub mod state;
 pub mod tariff;
@@ -43,7 +44,8 @@ pub mod view;
 
 pub use bench::{bench, bench_old, bench_with};
 pub use earlier::{lower, raise, read_old, Line, OldLine};
-pub use machine::{open, Fed, Machine, Pulled, Totals};
+pub use machine::{open, open_as, Fed, Machine, Pulled, Totals};
+pub use profile::Profile;
 pub use reading::{read, read_into};
 pub use state::State;
 pub use tariff::{Band, Tariff};

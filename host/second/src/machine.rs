@@ -3,6 +3,7 @@
 use super::earlier::read_old;
 use super::frames::{check, Reference, Rule};
 use super::line::{read_line, Notes};
+use super::profile::Profile;
 use super::state::State;
 use super::tariff::Tariff;
 use super::verdict::{verdict, Status, Truth};
@@ -59,23 +60,39 @@ pub struct Machine {
     frames: Vec<u8>,
     rule: Rule,
     w: u32,
+    /// For the state that it hands out; no call looks at it.
+    profile: Profile,
     lists: [Vec<Notes>; EVENTS],
     p: u32,
     totals: Totals,
     reported: Vec<Reported>,
 }
 
-/// A fresh machine, unless 9, 10, 7, 8 or 11 refuses, in this order.
+/// A fresh machine at a desk, unless 9, 10, 7, 8 or 11 refuses, in this order.
 pub fn open(frames: &[u8], w: u32, window_len: usize) -> Result<Machine, Refusal> {
+    open_as(Profile::Desk, frames, w, window_len)
+}
+
+/// The same with a profile; after 11 comes 26.
+pub fn open_as(
+    profile: Profile,
+    frames: &[u8],
+    w: u32,
+    window_len: usize,
+) -> Result<Machine, Refusal> {
     let rule = check(frames)?;
     if !width_fits(w) || !window_fits(w, window_len) {
         return Err(Refusal::of(11));
+    }
+    if !profile.takes(w, frames.len() / 8) {
+        return Err(Refusal::of(26));
     }
     Ok(Machine {
         frames: frames.to_vec(),
         p: rule.start(),
         rule,
         w,
+        profile,
         lists: Default::default(),
         totals: Totals::default(),
         reported: Vec::new(),
@@ -201,6 +218,7 @@ impl Machine {
         let mut state = State {
             len: self.frames.len() as u32 / 8,
             w: self.w,
+            profile: self.profile.number(),
             counts: self.counts(),
             p: self.p,
             totals: self.totals,

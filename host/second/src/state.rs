@@ -2,8 +2,9 @@
 
 use super::frames::{check, Reference, Rule};
 use super::line::read_line;
-use super::machine::{open, width_fits, window_fits, Fed, Pulled, Totals};
+use super::machine::{open_as, width_fits, window_fits, Fed, Pulled, Totals};
 use super::machine::{EVENTS, MOST_LINES, REPORT};
+use super::profile::Profile;
 use super::tariff::Tariff;
 use super::verdict::{verdict, Status, Truth};
 use super::Refusal;
@@ -18,6 +19,8 @@ pub struct State {
     /// How many frames there are.
     pub len: u32,
     pub w: u32,
+    /// The number of its profile.
+    pub profile: u32,
     pub counts: [u32; EVENTS],
     pub p: u32,
     pub totals: Totals,
@@ -30,15 +33,26 @@ impl State {
             frames: [0; 512],
             len: 0,
             w: 0,
+            profile: 0,
             counts: [0; EVENTS],
             p: 0,
             totals: Totals::default(),
         }
     }
 
-    /// Opening: sets all words of the window to 0, unless it is refused.
+    /// Opening at a desk: sets all words of the window to 0, unless it is refused.
     pub fn open(frames: &[u8], w: u32, window: &mut [i32]) -> Result<State, Refusal> {
-        let machine = open(frames, w, window.len())?;
+        State::open_as(Profile::Desk, frames, w, window)
+    }
+
+    /// The same with a profile.
+    pub fn open_as(
+        profile: Profile,
+        frames: &[u8],
+        w: u32,
+        window: &mut [i32],
+    ) -> Result<State, Refusal> {
+        let machine = open_as(profile, frames, w, window.len())?;
         window.fill(0);
         Ok(machine.state())
     }
@@ -130,6 +144,7 @@ impl State {
         if self.len > MOST_FRAMES {
             return None;
         }
+        let profile = Profile::of(self.profile)?;
         let rule = check(&self.frames[..8 * self.len as usize]).ok()?;
         let totals = [self.totals.held, self.totals.failed, self.totals.unknown];
         let sum: u64 = totals.into_iter().map(u64::from).sum();
@@ -144,6 +159,7 @@ impl State {
             count as usize <= MOST_LINES && i64::from(count) <= limit
         };
         let fits = width_fits(self.w)
+            && profile.takes(self.w, self.len as usize)
             && self.p <= MOST_P
             && pulled == Some(sum)
             && (0..EVENTS).all(count_fits);

@@ -1,6 +1,7 @@
 //! The C interface: its structs, its functions, and the numbers of its answers. All that is unsafe stands here.
 
 use super::{Charged, Lowered, Raised, Refusal, State, Tariff, Viewed};
+use std::mem::offset_of;
 
 /// What reading gives back.
 #[repr(C)]
@@ -27,7 +28,8 @@ struct Part {
     len: usize,
 }
 
-const _: () = assert!(size_of::<Reading>() == 16 && size_of::<Result>() == 580);
+const _: () = assert!(size_of::<Reading>() == 16 && size_of::<Result>() == 584);
+const _: () = assert!(offset_of!(Result, answer) == 572 && offset_of!(Result, place) == 580);
 const _: () = assert!(size_of::<Part>() == 16);
 const _: () = assert!(size_of::<Raised>() == 44 && size_of::<Lowered>() == 24);
 const _: () = assert!(size_of::<Tariff>() == 44 && size_of::<Charged>() == 16);
@@ -40,6 +42,13 @@ unsafe extern "C" {
         frames_len: usize,
     ) -> Reading;
     fn dillplatter_open(
+        frames: *const u8,
+        frames_len: usize,
+        width: u32,
+        window: *mut i32,
+        window_len: usize,
+    ) -> Result;
+    fn dillplatter_open_board(
         frames: *const u8,
         frames_len: usize,
         width: u32,
@@ -116,11 +125,23 @@ pub fn read(text: &[u8], frames: &mut [u8]) -> (Told, u32) {
     (answer, reading.frames)
 }
 
-/// Opens.
+/// Opens at a desk.
 pub fn open(frames: &[u8], width: u32, window: &mut [i32]) -> Result {
+    opened_by(dillplatter_open, frames, width, window)
+}
+
+/// Opens on a board.
+pub fn open_board(frames: &[u8], width: u32, window: &mut [i32]) -> Result {
+    opened_by(dillplatter_open_board, frames, width, window)
+}
+
+/// One of the two openings.
+type Opening = unsafe extern "C" fn(*const u8, usize, u32, *mut i32, usize) -> Result;
+
+fn opened_by(opening: Opening, frames: &[u8], width: u32, window: &mut [i32]) -> Result {
     // SAFETY: as in `read`.
     unsafe {
-        dillplatter_open(
+        opening(
             frames.as_ptr(),
             frames.len(),
             width,

@@ -1,10 +1,10 @@
 //! The proved part, called through its C interface, behind safe functions.
 //!
-//! [`read`], [`State::open`], [`State::feed`], [`State::pull`], [`view`], [`raise`], [`lower`] and [`charge`] are the eight
-//! calls, one for one, on memory that the caller lends. [`Checker`] has a window of its own:
+//! [`read`], [`State::open`], [`State::open_board`], [`State::feed`], [`State::pull`], [`view`], [`raise`], [`lower`] and
+//! [`charge`] are the nine calls, one for one, on memory that the caller lends. [`Checker`] has a window of its own:
 //!
 //! ```
-//! use dillplatter_host::part::{lower, raise, read_rule, view, Checker, Fed, Pulled, Tariff};
+//! use dillplatter_host::part::{lower, raise, read_rule, view, Checker, Fed, Pulled, Tariff, BOARD, DESK};
 //!
 //! let frames = read_rule(b"events in out; notes t; t(out[i]) - t(in[i]) <= 25").unwrap();
 //! let mut checker = Checker::open(&frames, 64).unwrap();
@@ -29,11 +29,16 @@
 //! assert_eq!(line, *b"010000004BFFFFFFF60000000000000000");
 //! assert_eq!(checker.feed(&line), Fed::Accepted);
 //! assert_eq!(lower(&line).unwrap(), *b"01004BFFF60000");
+//!
+//! let board = Checker::open_board(&frames, 32).unwrap();
+//! assert_eq!((checker.state().profile, board.state().profile), (DESK, BOARD));
+//! assert_eq!(Checker::open_board(&frames, 33).unwrap_err().number, 26);
 //! ```
 
 mod calls;
 
 use calls::{told, Told};
+use std::mem::offset_of;
 
 /// Bytes of the buffer that a rule's frames are read into.
 pub const FRAME_BUFFER: usize = 512;
@@ -51,6 +56,10 @@ pub const LINE_DIGITS: usize = 34;
 pub const OLD_LINE_DIGITS: usize = 14;
 /// The most bands of a tariff.
 pub const TARIFF_BANDS: usize = 4;
+/// The profile of a desk: W up to 256 and up to 64 frames.
+pub const DESK: u32 = 0;
+/// The profile of the board inside the plotter: W up to 32 and up to 16 frames.
+pub const BOARD: u32 = 1;
 
 /// How many verdicts of each value were pulled.
 #[repr(C)]
@@ -70,6 +79,8 @@ pub struct State {
     pub len: u32,
     /// W.
     pub width: u32,
+    /// [`DESK`] or [`BOARD`].
+    pub profile: u32,
     /// Lines accepted of each event.
     pub counts: [u32; 8],
     /// p, the number of the next instance.
@@ -77,7 +88,9 @@ pub struct State {
     pub totals: Totals,
 }
 
-const _: () = assert!(size_of::<Totals>() == 12 && size_of::<State>() == 568);
+const _: () = assert!(size_of::<Totals>() == 12 && size_of::<State>() == 572);
+const _: () = assert!(offset_of!(State, width) == 516 && offset_of!(State, profile) == 520);
+const _: () = assert!(offset_of!(State, counts) == 524 && offset_of!(State, next) == 556);
 
 /// A refusal: its number in the documents, and its place (0 if none is named).
 #[derive(Clone, Copy, Debug, PartialEq, Eq)]
@@ -278,7 +291,20 @@ impl State {
     /// Opens a checker for frames and W, with a window of 32 x W words that is set to 0. The state is zero throughout
     /// where there is a refusal (9, 10, 7, 8, 11), which leaves the window as it was.
     pub fn open(frames: &[u8], width: u32, window: &mut [i32]) -> (State, Result<(), Refusal>) {
-        let result = calls::open(frames, width, window);
+        State::opened(calls::open(frames, width, window))
+    }
+
+    /// Opens one on a board: the same, with one refusal more (9, 10, 7, 8, 11, 26).
+    pub fn open_board(
+        frames: &[u8],
+        width: u32,
+        window: &mut [i32],
+    ) -> (State, Result<(), Refusal>) {
+        State::opened(calls::open_board(frames, width, window))
+    }
+
+    /// The state and the answer of an opening.
+    fn opened(result: calls::Result) -> (State, Result<(), Refusal>) {
         match told(&result) {
             Told::Opened => (result.state, Ok(())),
             Told::Refused(refusal) => (result.state, Err(refusal)),
@@ -313,6 +339,9 @@ impl State {
     }
 }
 
+/// [`State::open`] or [`State::open_board`].
+type Opening = fn(&[u8], u32, &mut [i32]) -> (State, Result<(), Refusal>);
+
 /// A state with its window.
 #[derive(Clone, Debug)]
 pub struct Checker {
@@ -323,9 +352,18 @@ pub struct Checker {
 impl Checker {
     /// A fresh checker for frames and W.
     pub fn open(frames: &[u8], width: u32) -> Result<Checker, Refusal> {
+        Checker::opened_by(State::open, frames, width)
+    }
+
+    /// A fresh checker on a board.
+    pub fn open_board(frames: &[u8], width: u32) -> Result<Checker, Refusal> {
+        Checker::opened_by(State::open_board, frames, width)
+    }
+
+    fn opened_by(opening: Opening, frames: &[u8], width: u32) -> Result<Checker, Refusal> {
         // Opening takes W up to 256, so a window for a larger one is not made.
         let mut window = vec![0; WINDOW_WORDS * width.min(257) as usize];
-        let (state, opened) = State::open(frames, width, &mut window);
+        let (state, opened) = opening(frames, width, &mut window);
         opened.map(|()| Checker { state, window })
     }
 

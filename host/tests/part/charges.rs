@@ -58,9 +58,11 @@ fn changed(change: impl Fn(&mut State)) -> Result<u64, Refusal> {
 
 #[test]
 fn states_that_12_lets_pass() {
-    let passes: [fn(&mut State); 7] = [
+    let passes: [fn(&mut State); 9] = [
         |_| {},
         |state| state.w = 256,
+        |state| state.profile = 1,
+        |state| (state.profile, state.w) = (1, 32),
         |state| state.counts[0] = 63,
         |state| (state.counts[0], state.w) = (62 + 256, 256),
         |state| state.frames[24..].fill(0xFF),
@@ -85,6 +87,14 @@ fn states_that_12_refuses() {
     }
     for w in [0, 257, 1 << 31, u32::MAX] {
         assert_eq!(changed(|state| state.w = w), refused(12), "W {w}");
+    }
+    for profile in [2, 3, 255, 256, u32::MAX] {
+        let wrong = changed(|state| state.profile = profile);
+        assert_eq!(wrong, refused(12), "profile {profile}");
+    }
+    for w in [33, 64, 256] {
+        let wrong = changed(|state| (state.profile, state.w) = (1, w));
+        assert_eq!(wrong, refused(12), "board, W {w}");
     }
     for (event, count) in [(0, 64), (1, 1), (2, 1), (7, 1), (0, u32::MAX)] {
         let wrong = changed(|state| state.counts[event] = count);
@@ -228,7 +238,7 @@ fn charges_between_feeds_and_pulls() {
 fn charges_of_forged_states() {
     let quota = Quota::begin("charges of forged states");
     let mut seen = Seen::default();
-    for seed in 0..20_000 {
+    for seed in 0..20_200 {
         let random = &mut Random::new(seed + 290_000_000);
         let (mut state, events) = forged::honest(random);
         if random.once_in(8) {

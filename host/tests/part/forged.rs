@@ -1,15 +1,15 @@
 //! States and windows that no opening gave: each field changed, random bytes, random words.
 
-use crate::damage::damage_frames;
 use crate::pair::Pair;
 use crate::quota::Quota;
+use crate::shared::damage::damage_frames;
 use crate::shared::driven::Driven;
+use crate::shared::forged::number;
 use crate::shared::log::{events, random_line};
-use crate::shared::random::{frames, late_frames, Random};
+use crate::shared::random::{board_frames, frames, late_frames, Random};
 use crate::shared::seen::Seen;
 use crate::shared::start::start_of;
-use crate::shared::tariff::example;
-use dillplatter_second::{Fed, Pulled, State, Totals};
+use dillplatter_second::{Profile, State, Totals};
 
 fn word(random: &mut Random) -> u32 {
     let any = (random.below(1 << 32)) as u32;
@@ -17,6 +17,10 @@ fn word(random: &mut Random) -> u32 {
         0,
         1,
         2,
+        16,
+        17,
+        32,
+        33,
         63,
         64,
         65,
@@ -46,13 +50,17 @@ fn near(random: &mut Random, value: u32) -> u32 {
 
 /// A state that calls on a fresh checker gave.
 pub fn honest(random: &mut Random) -> (State, Vec<usize>) {
-    let frames = if random.once_in(2) {
-        late_frames(random)
-    } else {
-        frames(random)
+    let profile = random.pick(&[Profile::Desk, Profile::Desk, Profile::Board]);
+    let frames = match profile {
+        Profile::Board => board_frames(random),
+        Profile::Desk if random.once_in(2) => late_frames(random),
+        Profile::Desk => frames(random),
     };
-    let w = random.pick(&[1, 2, 3, 5, 16, 64]);
-    let mut pair = Pair::open(&frames, w, &vec![0; 32 * w as usize]).unwrap();
+    let w = match profile {
+        Profile::Board => random.pick(&[1, 2, 3, 16, 31, 32]),
+        Profile::Desk => random.pick(&[1, 2, 3, 5, 16, 64]),
+    };
+    let mut pair = Pair::of_frames(profile, &frames, w);
     let events = events(pair.machine());
     for _ in 0..random.below(30) {
         if random.once_in(3) {
@@ -87,9 +95,15 @@ pub fn move_on(random: &mut Random, state: &mut State, events: &[usize]) {
     }
 }
 
+/// A number of a profile, or one of none.
+fn profile(random: &mut Random) -> u32 {
+    let any = word(random);
+    random.pick(&[0, 1, 1, 1, 2, 3, 255, any])
+}
+
 /// Changes one field, or two that go together.
 pub fn change(random: &mut Random, state: &mut State) {
-    match random.below(10) {
+    match random.below(12) {
         0 => state.frames[random.below(512)] = random.below(256) as u8,
         1 => {
             let mut frames = state.frames[..8 * state.len.min(64) as usize].to_vec();
@@ -107,6 +121,8 @@ pub fn change(random: &mut Random, state: &mut State) {
         6 => state.totals.held = near(random, state.totals.held),
         7 => state.totals.failed = near(random, state.totals.failed),
         8 => state.totals.unknown = near(random, state.totals.unknown),
+        9 => state.profile = profile(random),
+        10 => (state.profile, state.w) = (1, random.pick(&[31, 32, 33, 33, 34])),
         _ => {
             // p and a total together, so that the sum may stay right.
             let less = random.pick(&[1, 2, 3, 9, 300, 9_999]);
@@ -124,6 +140,7 @@ pub fn noise(random: &mut Random) -> State {
     }
     state.len = word(random);
     state.w = word(random);
+    state.profile = profile(random);
     state.counts = [0; 8].map(|_: u32| word(random));
     state.p = word(random);
     state.totals = Totals {
@@ -161,10 +178,22 @@ fn calls(random: &mut Random, state: State, events: &[usize], seen: &mut Seen) {
     }
 }
 
+/// Whether 12 refuses a state, and would not if a desk had opened it.
+fn refused_by_profile(state: &State) -> bool {
+    let at_a_desk = State {
+        profile: 0,
+        ..state.clone()
+    };
+    let words = 32 * state.w as usize;
+    state.refusal(words).is_some() && at_a_desk.refusal(words).is_none()
+}
+
 #[test]
 fn forged_states_and_windows() {
     let quota = Quota::begin("forged states");
     let mut seen = Seen::default();
+    // States that 12 refuses for their profile alone: those above a board's limits, and those of no profile.
+    let (mut above, mut none) = (0, 0);
     for seed in 0..15_000 {
         let random = &mut Random::new(seed + 70_000_000);
         let (mut state, events) = honest(random);
@@ -180,10 +209,15 @@ fn forged_states_and_windows() {
             2 if random.once_in(4) => state = noise(random),
             _ => change(random, &mut state),
         }
+        if refused_by_profile(&state) {
+            above += usize::from(state.profile == 1);
+            none += usize::from(state.profile > 1);
+        }
         calls(random, state, &events, &mut seen);
     }
     // Accepted, ignored, 12, 13, 15, 16, 17; three verdicts, waiting, 12, 13, 14.
     seen.more_than(14, 100);
+    assert!(above > 100 && none > 100, "{above} {none}");
     quota.end();
 }
 
@@ -198,24 +232,6 @@ fn state(p: u32, counts: [u32; 3]) -> State {
     state
 }
 
-/// The refusal of feeding and pulling before they look at their own arguments; 0 if there is none. Charging gets no
-/// window, so of 12 and 13 it has only 12.
-fn number(state: &State, words: usize) -> u8 {
-    let mut pair = Pair::forged(state.clone(), vec![1; words]);
-    let (fed, pulled) = (pair.feed(b""), pair.pull(&mut []));
-    let number = match (fed, pulled) {
-        (Fed::Refused(one), Pulled::Refused(other)) if one == other => one.number,
-        (Fed::Refused(one), Pulled::Refused(other)) => {
-            assert_eq!((one.number, other.number), (15, 14));
-            0
-        }
-        other => panic!("{other:?}"),
-    };
-    let charged = pair.charge(&example()).map_err(|refusal| refusal.number);
-    assert_eq!(charged, if number == 12 { Err(12) } else { Ok(0) });
-    number
-}
-
 /// A state at p 7, where the bases are a 15 and c 4.
 fn good() -> State {
     state(7, [19, 0, 8])
@@ -226,12 +242,12 @@ fn good() -> State {
 fn refused(change: impl Fn(&mut State)) {
     let mut state = good();
     change(&mut state);
-    assert_eq!(number(&state, 128), 12);
+    assert_eq!(number::<Pair>(&state, 128), 12);
 }
 
 #[test]
 fn counts_p_and_totals() {
-    assert_eq!(number(&good(), 128), 0);
+    assert_eq!(number::<Pair>(&good(), 128), 0);
     refused(|state| state.counts[0] = 20);
     refused(|state| state.counts[2] = 9);
     for event in [1, 3, 4, 5, 6, 7] {
@@ -266,11 +282,11 @@ fn frames_width_and_window() {
     for byte in 56..512 {
         let mut state = good();
         state.frames[byte] = 0xFF;
-        assert_eq!(number(&state, 128), 0, "byte {byte}");
+        assert_eq!(number::<Pair>(&state, 128), 0, "byte {byte}");
     }
     for words in (0..=300).filter(|words| *words != 128) {
-        assert_eq!(number(&good(), words), 13, "{words} words");
+        assert_eq!(number::<Pair>(&good(), words), 13, "{words} words");
     }
-    assert_eq!(number(&State::zero(), 0), 12);
-    assert_eq!(number(&State::zero(), 128), 12);
+    assert_eq!(number::<Pair>(&State::zero(), 0), 12);
+    assert_eq!(number::<Pair>(&State::zero(), 128), 12);
 }

@@ -4,10 +4,10 @@ use crate::pair::Pair;
 use crate::quota::Quota;
 use crate::shared::driven::Driven;
 use crate::shared::log::{events, random_line};
-use crate::shared::random::{frames, late_frames, Random};
+use crate::shared::random::{board_frames, frames, late_frames, width, Random};
 use crate::shared::seen::Seen;
 use crate::shared::start::start_of;
-use dillplatter_second::{Fed, Pulled, Truth};
+use dillplatter_second::{Fed, Profile, Pulled, Truth};
 use std::ops::Range;
 
 /// A window of another length, with whatever in it.
@@ -37,20 +37,24 @@ fn call(random: &mut Random, pair: &mut Pair, events: &[usize], seen: &mut Seen)
     }
 }
 
+/// Makes a random rule.
+type Maker = fn(&mut Random) -> Vec<u8>;
+
 /// Some lists of calls with random rules; each answer is counted. The answer is how many rules start after 0 and get a verdict.
-fn lists(seeds: Range<u64>, rule: fn(&mut Random) -> Vec<u8>, seen: &mut Seen) -> usize {
+fn lists(seeds: Range<u64>, profile: Profile, rule: Maker, seen: &mut Seen) -> usize {
     let mut late = 0;
     for seed in seeds {
         let random = &mut Random::new(seed);
         let frames = rule(random);
-        let w = random.pick(&[1, 1, 2, 3, 5, 16, 64, 256]);
-        let mut pair = Pair::open(&frames, w, &vec![-1; 32 * w as usize]).unwrap();
+        let w = width(random, profile);
+        let mut pair = Pair::of_frames(profile, &frames, w);
         let start = start_of(pair.state());
         assert_eq!(pair.state().p, start, "seed {seed}");
         assert_eq!(pair.pull(&mut [0; 166]), Pulled::Waiting, "seed {seed}");
         let events = events(pair.machine());
         for _ in 0..220 {
             call(random, &mut pair, &events, seen);
+            assert_eq!(pair.state().profile, profile.number(), "seed {seed}");
         }
         stays_settled(&pair, start);
         late += usize::from(0 < start && start < pair.state().p);
@@ -62,7 +66,7 @@ fn lists(seeds: Range<u64>, rule: fn(&mut Random) -> Vec<u8>, seen: &mut Seen) -
 fn random_lists_of_calls() {
     let quota = Quota::begin("random lists of calls");
     let mut seen = Seen::default();
-    lists(50_000_000..50_001_000, frames, &mut seen);
+    lists(50_000_000..50_001_000, Profile::Desk, frames, &mut seen);
     // Accepted, ignored, 13, 15, 17; three verdicts, waiting, 13, 14.
     seen.more_than(11, 500);
     quota.end();
@@ -72,10 +76,23 @@ fn random_lists_of_calls() {
 fn random_lists_of_calls_for_rules_that_start_late() {
     let quota = Quota::begin("lists of late rules");
     let mut seen = Seen::default();
-    let late = lists(370_000_000..370_001_000, late_frames, &mut seen);
+    let seeds = 370_000_000..370_001_000;
+    let late = lists(seeds, Profile::Desk, late_frames, &mut seen);
     // The same answers.
     seen.more_than(11, 500);
     assert!(late > 850, "{late}");
+    quota.end();
+}
+
+#[test]
+fn random_lists_of_calls_on_a_board() {
+    let quota = Quota::begin("lists on a board");
+    let mut seen = Seen::default();
+    let seeds = 420_000_000..420_001_000;
+    let late = lists(seeds, Profile::Board, board_frames, &mut seen);
+    // The same answers.
+    seen.more_than(11, 500);
+    assert!(late > 200, "{late}");
     quota.end();
 }
 

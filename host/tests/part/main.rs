@@ -4,6 +4,7 @@
 mod shared;
 
 mod assumed;
+mod board;
 mod charges;
 mod damage;
 mod earlier;

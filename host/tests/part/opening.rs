@@ -1,10 +1,9 @@
 //! Opening: random and damaged frames, widths, windows.
 
-use crate::damage::damage_frames;
 use crate::pair::Pair;
 use crate::quota::Quota;
 use crate::shared::driven::Driven;
-use crate::shared::random::{rule, Random};
+use crate::shared::opening;
 use std::collections::BTreeMap;
 
 const REFERENCE: [u8; 8] = [3, 0, 0, 1, 0, 0, 0, 0];
@@ -114,26 +113,7 @@ fn magnitudes_at_opening() {
 #[test]
 fn damaged_frames() {
     let quota = Quota::begin("damaged frames");
-    let mut seen: BTreeMap<u8, usize> = BTreeMap::new();
-    for seed in 0..20_000 {
-        let random = &mut Random::new(seed + 40_000_000);
-        let size = random.pick(&[1, 4, 10, 30, 60]);
-        let mut frames = rule(random, size).frames.concat();
-        for _ in 0..random.pick(&[0, 1, 1, 1, 2, 4]) {
-            damage_frames(random, &mut frames);
-        }
-        let w = random.pick(&[0, 1, 1, 2, 3, 64, 64, 255, 256, 257, 300, 1 << 27, u32::MAX]);
-        let right = 32 * w.min(300) as i32;
-        let words = right + random.pick(&[0, 0, 0, 0, 0, 0, -32, -1, 1, 32]);
-        let window = vec![seed as i32; words.max(0) as usize];
-        let answer = Pair::open(&frames, w, &window);
-        let number = answer.err().map_or(0, |refusal| refusal.number);
-        *seen.entry(number).or_default() += 1;
-    }
-    for number in [0, 7, 8, 9, 10, 11] {
-        let times = seen.get(&number).copied().unwrap_or_default();
-        assert!(times >= 100, "{number} came {times} times: {seen:?}");
-    }
+    opening::damaged_frames::<Pair>();
     quota.end();
 }
 

@@ -6,7 +6,7 @@ use crate::quota::count;
 use crate::shared::driven::{Driven, Twin};
 use dillplatter_host::part::{self, Charged, Converted, Lowered, Raised, Viewed};
 use dillplatter_second::{Fed, Line, Machine, OldLine, Pulled, Refusal, State, Totals};
-use dillplatter_second::{Tariff, Truth, View};
+use dillplatter_second::{Profile, Tariff, Truth, View};
 use std::fmt::Debug;
 use std::ops::Range;
 
@@ -105,6 +105,7 @@ fn model_of(state: &part::State) -> State {
         frames: state.frames,
         len: state.len,
         w: state.width,
+        profile: state.profile,
         counts: state.counts,
         p: state.next,
         totals: Totals {
@@ -121,6 +122,7 @@ pub fn state_of(model: &State) -> part::State {
         frames: model.frames,
         len: model.len,
         width: model.w,
+        profile: model.profile,
         counts: model.counts,
         next: model.p,
         totals: part::Totals {
@@ -168,12 +170,16 @@ impl Driven for Pair {
     }
 
     #[track_caller]
-    fn open(frames: &[u8], w: u32, window: &[i32]) -> Result<Pair, Refusal> {
+    fn open_as(profile: Profile, frames: &[u8], w: u32, window: &[i32]) -> Result<Pair, Refusal> {
         count();
         let mut lent = edged(window, 77);
         let room = inside(&lent);
-        let (state, answer) = part::State::open(frames, w, &mut lent[room]);
-        match Twin::open(frames, w, window) {
+        let opening = match profile {
+            Profile::Desk => part::State::open,
+            Profile::Board => part::State::open_board,
+        };
+        let (state, answer) = opening(frames, w, &mut lent[room]);
+        match Twin::open_as(profile, frames, w, window) {
             Ok(twin) => {
                 assert_eq!(answer, Ok(()));
                 let pair = Pair {
@@ -260,6 +266,10 @@ impl Driven for Pair {
         self.twin.state()
     }
 
+    fn window(&self) -> &[i32] {
+        &self.window[inside(&self.window)]
+    }
+
     fn machine(&self) -> &Machine {
         self.twin.machine()
     }
@@ -310,11 +320,6 @@ impl Pair {
         let answer = answer.map(|view| view.try_into().expect("a view has 5 bytes"));
         assert_eq!(answer, expected);
         answer
-    }
-
-    /// The part's window.
-    pub fn window(&self) -> &[i32] {
-        &self.window[inside(&self.window)]
     }
 
     /// A copy that has another window, as a caller may hand it in.

@@ -6,21 +6,26 @@ use std::cell::Cell;
 const LEAST: usize = 200_000;
 
 /// The fewest calls of each test that makes many.
-const OF_TESTS: [(&str, usize); 34] = [
-    ("vectors", 10_600),
+const OF_TESTS: [(&str, usize); 39] = [
+    ("vectors", 10_900),
     ("random texts", 9_000),
     ("damaged texts", 20_000),
     ("bytes of a text", 12_000),
     ("bytes of frames", 60_000),
     ("short lists of frames", 37_000),
-    ("damaged frames", 20_000),
+    ("damaged frames", 40_000),
     ("bytes of a line", 8_700),
     ("random lists of calls", 200_000),
     ("lists of late rules", 220_000),
+    ("lists on a board", 220_000),
     ("several widths", 40_000),
     ("several widths of late rules", 180_000),
+    ("several widths of boards", 210_000),
     ("places of every width", 12_000),
     ("forged states", 60_000),
+    ("limits of a board", 6_600),
+    ("states of either profile", 40_000),
+    ("desk and board", 150_000),
     ("states around the start", 13_000),
     ("factors and offsets", 15_000),
     ("views of buffers", 2_400),

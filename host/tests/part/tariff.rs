@@ -262,11 +262,13 @@ const WRONG_PRICES: [fn(&mut Tariff); 5] = [
     |tariff| tariff.surcharge = u32::MAX,
 ];
 /// Changes of a state that 12 refuses.
-pub const WRONG_STATES: [fn(&mut State); 8] = [
+pub const WRONG_STATES: [fn(&mut State); 10] = [
     |state| *state = State::zero(),
     |state| state.len = 65,
     |state| state.frames[0] = 0,
     |state| state.w = 257,
+    |state| state.profile = 2,
+    |state| (state.profile, state.w) = (1, 33),
     |state| state.p = 1_010_000,
     |state| state.totals.held += 1,
     |state| state.counts[0] = 1_000_001,

@@ -2,13 +2,14 @@
 
 use crate::pair::Pair;
 use crate::quota::Quota;
-use crate::shared::vectors::{calls, charging, converting, opening, reading};
+use crate::shared::vectors::{board, calls, charging, converting, opening, reading};
 
 #[test]
 fn stored_answers() {
     let quota = Quota::begin("vectors");
     reading::<Pair>();
     opening::<Pair>();
+    board::<Pair>();
     calls::<Pair>();
     converting::<Pair>();
     charging::<Pair>();

@@ -1,11 +1,13 @@
-//! One rule and one log for several W, in several orders between events: where two give a verdict, it is the same.
+//! One rule and one log for several W, in several orders between events, at a desk and on a board: where two give a verdict, it
+//! is the same.
 //! Where an occurrence lies in the window, for every W.
 
 use crate::pair::Pair;
 use crate::quota::Quota;
 use crate::shared::driven::Driven;
 use crate::shared::log::{events, line, note};
-use crate::shared::random::{frames, late_frames, Random};
+use crate::shared::random::{board_frames, frames, late_frames, Random};
+use dillplatter_second::Profile::{self, Board, Desk};
 use dillplatter_second::{Fed, Pulled, State, Truth};
 use std::ops::Range;
 
@@ -21,9 +23,8 @@ fn random_log(random: &mut Random) -> Log {
     (0..8).map(&mut lines).collect()
 }
 
-/// Feeds the lines of a log in some order, with pulls in between, until nothing moves; the verdicts in order.
-fn run(random: &mut Random, frames: &[u8], w: u32, log: &Log) -> Vec<Truth> {
-    let mut pair = Pair::open(frames, w, &vec![5; 32 * w as usize]).unwrap();
+/// Feeds the lines of a log to a fresh checker in some order, with pulls in between, until nothing moves; the verdicts in order.
+fn run(random: &mut Random, mut pair: Pair, log: &Log) -> Vec<Truth> {
     let events = events(pair.machine());
     let mut next = [0; 8];
     let mut verdicts = Vec::new();
@@ -49,16 +50,45 @@ fn run(random: &mut Random, frames: &[u8], w: u32, log: &Log) -> Vec<Truth> {
     verdicts
 }
 
-/// Random rules, each for several W. The answer is the most verdicts of one, and how many runs had a verdict with one before.
-fn widths(seeds: Range<u64>, rule: fn(&mut Random) -> Vec<u8>) -> (usize, usize) {
+/// A desk of several W.
+const DESKS: [(Profile, u32); 7] = [
+    (Desk, 1),
+    (Desk, 2),
+    (Desk, 3),
+    (Desk, 7),
+    (Desk, 16),
+    (Desk, 64),
+    (Desk, 256),
+];
+
+/// A board of several W, and a desk.
+const BOARDS: [(Profile, u32); 9] = [
+    (Board, 1),
+    (Desk, 1),
+    (Board, 2),
+    (Board, 7),
+    (Desk, 16),
+    (Board, 16),
+    (Board, 32),
+    (Desk, 64),
+    (Desk, 256),
+];
+
+/// Random rules, each for several profiles and W. The answer is the most verdicts of one, and how many runs had a verdict with one
+/// before.
+fn widths(
+    seeds: Range<u64>,
+    opened: &[(Profile, u32)],
+    rule: fn(&mut Random) -> Vec<u8>,
+) -> (usize, usize) {
     let (mut longest, mut several) = (0, 0);
     for seed in seeds {
         let random = &mut Random::new(seed);
         let frames = rule(random);
         let log = random_log(random);
         let mut most: Vec<Truth> = Vec::new();
-        for w in [1, 2, 3, 7, 16, 64, 256] {
-            let verdicts = run(random, &frames, w, &log);
+        for (profile, w) in opened.iter().copied() {
+            let verdicts = run(random, Pair::of_frames(profile, &frames, w), &log);
             let both = verdicts.len().min(most.len());
             assert_eq!(verdicts[..both], most[..both], "seed {seed}, W {w}");
             several += usize::from(both > 0);
@@ -74,7 +104,7 @@ fn widths(seeds: Range<u64>, rule: fn(&mut Random) -> Vec<u8>) -> (usize, usize)
 #[test]
 fn widths_and_orders_agree() {
     let quota = Quota::begin("several widths");
-    let (longest, several) = widths(60_000_000..60_000_120, frames);
+    let (longest, several) = widths(60_000_000..60_000_120, &DESKS, frames);
     assert!(longest >= 30 && several >= 300, "{longest} {several}");
     quota.end();
 }
@@ -82,7 +112,15 @@ fn widths_and_orders_agree() {
 #[test]
 fn widths_and_orders_agree_for_rules_that_start_late() {
     let quota = Quota::begin("several widths of late rules");
-    let (longest, several) = widths(380_000_000..380_000_120, late_frames);
+    let (longest, several) = widths(380_000_000..380_000_120, &DESKS, late_frames);
+    assert!(longest >= 30 && several >= 600, "{longest} {several}");
+    quota.end();
+}
+
+#[test]
+fn widths_and_orders_agree_at_a_desk_and_on_a_board() {
+    let quota = Quota::begin("several widths of boards");
+    let (longest, several) = widths(430_000_000..430_000_120, &BOARDS, board_frames);
     assert!(longest >= 30 && several >= 600, "{longest} {several}");
     quota.end();
 }

@@ -2,11 +2,11 @@
 
 use crate::shared::driven::{Driven, Twin};
 use crate::shared::log::{events, line, random_line};
-use crate::shared::random::{frames, late_frames, Random};
+use crate::shared::random::{board_frames, frames, late_frames, width, Random};
 use crate::shared::seen::Seen;
 use crate::shared::start::start_of;
 use dillplatter_second::line::read_line;
-use dillplatter_second::{open, Fed, Machine, Pulled, Truth};
+use dillplatter_second::{open, Fed, Machine, Profile, Pulled, Truth};
 use std::ops::Range;
 
 /// Each accepted occurrence from base on is in its words.
@@ -44,14 +44,17 @@ fn call(random: &mut Random, twin: &mut Twin, seen: &mut Seen, verdicts: &mut Ve
     }
 }
 
+/// Makes a random rule.
+type Maker = fn(&mut Random) -> Vec<u8>;
+
 /// Some lists of calls with random rules; each answer is counted. The answer is how many rules start after 0 and get a verdict.
-fn lists(seeds: Range<u64>, rule: fn(&mut Random) -> Vec<u8>, seen: &mut Seen) -> usize {
+fn lists(seeds: Range<u64>, profile: Profile, rule: Maker, seen: &mut Seen) -> usize {
     let mut late = 0;
     for seed in seeds {
         let random = &mut Random::new(seed);
         let frames = rule(random);
-        let w = random.pick(&[1, 1, 2, 3, 5, 16, 64, 256]);
-        let mut twin = Twin::open(&frames, w, &vec![-1; 32 * w as usize]).unwrap();
+        let w = width(random, profile);
+        let mut twin = Twin::of_frames(profile, &frames, w);
         let start = start_of(twin.state());
         assert_eq!(twin.state().p, start, "{seed}");
         assert_eq!(twin.pull(&mut [0; 166]), Pulled::Waiting, "{seed}");
@@ -60,6 +63,7 @@ fn lists(seeds: Range<u64>, rule: fn(&mut Random) -> Vec<u8>, seen: &mut Seen) -
             call(random, &mut twin, seen, &mut verdicts);
             let refusal = twin.state().refusal(twin.window().len());
             assert_eq!(refusal, None, "{seed} {turn}");
+            assert_eq!(twin.state().profile, profile.number(), "{seed} {turn}");
         }
         let machine = twin.machine();
         window_holds_the_lists(machine, twin.window());
@@ -78,7 +82,7 @@ fn lists(seeds: Range<u64>, rule: fn(&mut Random) -> Vec<u8>, seen: &mut Seen) -
 #[test]
 fn whole_lists_and_window_agree() {
     let mut seen = Seen::default();
-    lists(2_000_000..2_001_250, frames, &mut seen);
+    lists(2_000_000..2_001_250, Profile::Desk, frames, &mut seen);
     // Accepted, ignored, 15, 17; three verdicts, waiting, 14.
     seen.more_than(9, 500);
 }
@@ -86,13 +90,24 @@ fn whole_lists_and_window_agree() {
 #[test]
 fn whole_lists_and_window_agree_for_rules_that_start_late() {
     let mut seen = Seen::default();
-    let late = lists(360_000_000..360_001_000, late_frames, &mut seen);
+    let seeds = 360_000_000..360_001_000;
+    let late = lists(seeds, Profile::Desk, late_frames, &mut seen);
     // The same answers.
     seen.more_than(9, 500);
     assert!(late > 850, "{late}");
 }
 
-/// The same lines in another order between events, with other pulls and a wider window, give the same verdicts
+#[test]
+fn whole_lists_and_window_agree_on_a_board() {
+    let mut seen = Seen::default();
+    let seeds = 450_000_000..450_001_000;
+    let late = lists(seeds, Profile::Board, board_frames, &mut seen);
+    // The same answers.
+    seen.more_than(9, 500);
+    assert!(late > 200, "{late}");
+}
+
+/// The same lines in another order between events, with other pulls and a wider window, at a desk, give the same verdicts
 /// wherever both give one.
 fn other_orders_agree(random: &mut Random, frames: &[u8], first: &Machine, verdicts: &[Truth]) {
     let mut machine = open(frames, 256, 32 * 256).unwrap();

@@ -1,9 +1,12 @@
-//! What the header says of stack and of frames is what docs/MAKERS.md and docs/RULES.md say.
+//! What the header says of stack and of frames is what docs/MAKERS.md and docs/RULES.md say, and what it says of profiles is what a
+//! checker keeps to.
 
 use crate::documents::{between, comment_of, differences, flowing};
+use crate::shared::board::{long_sum, short_sum};
 use crate::shared::documents::{document, rows};
-use crate::shared::driven::Twin;
+use crate::shared::driven::{Driven, Twin};
 use crate::shared::frames;
+use dillplatter_second::{Profile, Refusal};
 
 const HEADER: &str = "include/dillplatter.h";
 const RULES: &str = "docs/RULES.md";
@@ -25,12 +28,36 @@ fn plain(number: &str) -> String {
     number.replace(',', "")
 }
 
+/// A number of a table.
+fn number(cell: &str) -> u32 {
+    plain(cell).parse().expect("it is a number")
+}
+
+/// The calls that a cell names.
+fn calls(cell: &str) -> Vec<&str> {
+    let named = cell.split("`dillplatter_").skip(1);
+    named.map(|rest| rest.split('`').next().unwrap()).collect()
+}
+
+/// The constants that the header defines.
+fn constants(header: &str) -> Vec<(&str, &str)> {
+    header
+        .lines()
+        .filter_map(|line| line.strip_prefix("#define ")?.split_once(' '))
+        .collect()
+}
+
+/// The number of one of them.
+fn constant(header: &str, name: &str) -> u32 {
+    let mut all = constants(header).into_iter();
+    let (_, value) = all.find(|(one, _)| *one == name).expect("it is defined");
+    value.parse().expect("it is a number")
+}
+
 /// The stack that the header defines, call by call.
 fn defined(header: &str) -> Vec<Named> {
-    let constants = header
-        .lines()
-        .filter_map(|line| line.strip_prefix("#define ")?.split_once(' '));
-    constants
+    constants(header)
+        .into_iter()
         .filter(|(name, _)| name.starts_with("DILLPLATTER_STACK_"))
         .map(|(name, value)| [name.into(), value.into()])
         .collect()
@@ -90,8 +117,21 @@ fn the_header_has_the_stack_to_count_on() {
     let found = stacks(&document(HEADER), &document(MAKERS));
     assert!(found.is_empty(), "{}", found.join("\n"));
     for [call, measured, count_on, _] in rows(&document(MAKERS), STACK) {
-        let [measured, count_on] = [measured, count_on].map(|n| plain(&n).parse::<u32>().unwrap());
-        assert!(measured <= count_on, "{call}");
+        assert!(number(&measured) <= number(&count_on), "{call}");
+    }
+}
+
+#[test]
+fn a_call_on_the_board_takes_no_more_than_the_stack_to_count_on() {
+    let makers = document(MAKERS);
+    let on_board = rows(&makers, ["Call on the board", "Measured"]);
+    // All but the desk's opening and reading.
+    assert_eq!(on_board.len(), 7);
+    for [row, measured] in on_board {
+        let call = calls(&row)[0];
+        let mut all = rows(&makers, STACK).into_iter();
+        let [_, _, count_on, _] = all.find(|[row, ..]| calls(row).contains(&call)).unwrap();
+        assert!(number(&measured) <= number(&count_on), "{call}");
     }
 }
 
@@ -99,12 +139,17 @@ fn the_header_has_the_stack_to_count_on() {
 fn each_call_names_its_stack_and_is_held_to_it() {
     let header = flowing(&document(HEADER));
     let measuring = document("examples/stack.c");
-    for [call, _, _, name] in rows(&document(MAKERS), STACK) {
-        let call = between(&call, "`dillplatter_", "`");
+    let mut named = 0;
+    for [row, _, _, name] in rows(&document(MAKERS), STACK) {
         let name = bare(&name);
-        assert!(has(comment_of(&header, call), &name), "{call}: {name}");
+        for call in calls(&row) {
+            assert!(has(comment_of(&header, call), &name), "{call}: {name}");
+            named += 1;
+        }
         assert!(has(&measuring, &name), "{name}");
     }
+    // Nine calls, of which reading has two rows.
+    assert_eq!(named, 10);
     // No limit there is a number of its own.
     for limit in measuring.split("within(\"").skip(1) {
         let limit = limit.split(';').next().unwrap();
@@ -116,6 +161,49 @@ fn each_call_names_its_stack_and_is_held_to_it() {
 fn the_header_names_the_bytes_and_kinds_of_frames() {
     let found = frame_names(&document(HEADER), &document(RULES));
     assert!(found.is_empty(), "{}", found.join("\n"));
+}
+
+/// Whether an opening takes W and rules of so many frames, or the number that it refuses them with.
+fn opening(profile: Profile, w: u32, frames: u32) -> Result<(), Refusal> {
+    let window = vec![0; 32 * w as usize];
+    let [one, other] = [short_sum, long_sum]
+        .map(|rule| Twin::open_as(profile, &rule(frames as usize), w, &window).map(|_| ()));
+    assert_eq!(one, other);
+    one
+}
+
+#[test]
+fn the_header_has_the_limits_of_each_profile() {
+    let header = document(HEADER);
+    let w = constant(&header, "DILLPLATTER_BOARD_WIDTH_MOST");
+    let frames = constant(&header, "DILLPLATTER_BOARD_FRAMES_MOST");
+    let above = Err(Refusal::of(26));
+    assert_eq!(opening(Profile::Board, w, frames), Ok(()));
+    assert_eq!(opening(Profile::Board, w + 1, frames), above);
+    assert_eq!(opening(Profile::Board, w, frames + 1), above);
+    let w = constant(&header, "DILLPLATTER_WIDTH_MOST");
+    let frames = constant(&header, "DILLPLATTER_FRAME_BUFFER")
+        / constant(&header, "DILLPLATTER_FRAME_BYTES");
+    assert_eq!(opening(Profile::Desk, w, frames), Ok(()));
+    assert_eq!(opening(Profile::Desk, w + 1, frames), Err(Refusal::of(11)));
+    assert_eq!(opening(Profile::Desk, w, frames + 1), Err(Refusal::of(9)));
+}
+
+#[test]
+fn the_header_has_the_numbers_of_the_profiles() {
+    let opened = [
+        ("DILLPLATTER_DESK", Profile::Desk),
+        ("DILLPLATTER_BOARD", Profile::Board),
+    ];
+    let expected: Vec<Named> = opened
+        .into_iter()
+        .map(|(name, profile)| {
+            let state = Twin::of_frames(profile, &short_sum(3), 1).state().clone();
+            [name.into(), state.profile.to_string()]
+        })
+        .collect();
+    let said = enumerated(&document(HEADER), "dillplatter_profile");
+    assert_eq!(said, expected);
 }
 
 #[test]

@@ -4,6 +4,7 @@
 mod shared;
 
 mod bench;
+mod board;
 mod calls;
 mod common;
 mod documents;

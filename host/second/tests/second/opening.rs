@@ -1,5 +1,7 @@
-//! Refusals 9, 10 and 11, by exhaustion where it is possible.
+//! Refusals 9, 10 and 11, by exhaustion where it is possible; random openings of both profiles.
 
+use crate::shared::driven::Twin;
+use crate::shared::opening;
 use dillplatter_second::frames::check;
 use dillplatter_second::{open, Refusal};
 use std::collections::HashSet;
@@ -221,4 +223,9 @@ fn widths_and_windows() {
         let words = w.wrapping_mul(32) as usize;
         assert_eq!(open(&rule, w, words).err(), Some(Refusal::of(11)));
     }
+}
+
+#[test]
+fn damaged_frames() {
+    opening::damaged_frames::<Twin>();
 }

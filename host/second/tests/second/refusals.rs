@@ -1,4 +1,4 @@
-//! Every refusal, 1 to 17, 23 to 25, 28 and 29, by the call that has it.
+//! Every refusal, 1 to 17, 23 to 26, 28 and 29, by the call that has it.
 
 use crate::common::{feed, machine, pull, reads};
 use crate::shared::driven::Twin;

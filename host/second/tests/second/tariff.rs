@@ -230,7 +230,9 @@ fn a_state_that_12_refuses_costs_nothing() {
     assert_eq!(most.charge(&tariff), tariff.cents(1_009_999));
     let more = with_totals([0, 1_010_000, 0]);
     assert_eq!(more.charge(&tariff), refused(12));
-    let wrong: [fn(&mut State); 6] = [
+    let wrong: [fn(&mut State); 8] = [
+        |state| state.profile = 2,
+        |state| (state.profile, state.w) = (1, 33),
         |state| state.totals.failed -= 1,
         |state| state.counts[1] = 1,
         |state| state.counts[0] = 8,

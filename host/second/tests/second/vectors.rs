@@ -15,6 +15,11 @@ fn opening() {
 }
 
 #[test]
+fn board() {
+    vectors::board::<Twin>();
+}
+
+#[test]
 fn calls() {
     vectors::calls::<Twin>();
 }

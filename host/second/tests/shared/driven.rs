@@ -1,7 +1,7 @@
 //! A checker as tests drive it, and the second checker in this form.
 
 use dillplatter_second::{self as second, Fed, Machine, Pulled, Refusal, State, Truth, View};
-use dillplatter_second::{Line, OldLine, Tariff};
+use dillplatter_second::{Line, OldLine, Profile, Tariff};
 
 pub const TRUE: Pulled = Pulled::Verdict(Truth::True);
 pub const FALSE: Pulled = Pulled::Verdict(Truth::False);
@@ -17,8 +17,8 @@ pub trait Driven: Sized {
     /// Reads a text into a buffer: the number of frames.
     fn read(text: &[u8], buffer: &mut [u8]) -> Result<usize, Refusal>;
 
-    /// Opens with a window.
-    fn open(frames: &[u8], w: u32, window: &[i32]) -> Result<Self, Refusal>;
+    /// Opens with a profile and a window.
+    fn open_as(profile: Profile, frames: &[u8], w: u32, window: &[i32]) -> Result<Self, Refusal>;
 
     /// A state and a window that a caller hands in.
     fn forged(state: State, window: Vec<i32>) -> Self;
@@ -44,8 +44,17 @@ pub trait Driven: Sized {
     /// The state.
     fn state(&self) -> &State;
 
+    /// The window.
+    fn window(&self) -> &[i32];
+
     /// The plain machine after the same calls, unless the state was handed in.
     fn machine(&self) -> &Machine;
+
+    /// Opens at a desk with a window.
+    #[track_caller]
+    fn open(frames: &[u8], w: u32, window: &[i32]) -> Result<Self, Refusal> {
+        Self::open_as(Profile::Desk, frames, w, window)
+    }
 
     /// The frames of a text, with a buffer that was not empty, or the refusal, which leaves the buffer as it was.
     #[track_caller]
@@ -58,11 +67,18 @@ pub trait Driven: Sized {
         answer.map(|_| buffer[..after].to_vec())
     }
 
-    /// Opens for a text with W.
+    /// Opens for frames that open with a profile and W.
+    #[track_caller]
+    fn of_frames(profile: Profile, frames: &[u8], w: u32) -> Self {
+        let window = vec![-1; 32 * w as usize];
+        Self::open_as(profile, frames, w, &window).expect("the frames open")
+    }
+
+    /// Opens at a desk for a text with W.
     #[track_caller]
     fn of_text(text: &str, w: u32) -> Self {
         let frames = Self::frames_of(text.as_bytes()).expect("the text is read");
-        Self::open(&frames, w, &vec![-1; 32 * w as usize]).expect("the frames open")
+        Self::of_frames(Profile::Desk, &frames, w)
     }
 }
 
@@ -85,10 +101,10 @@ impl Driven for Twin {
     }
 
     #[track_caller]
-    fn open(frames: &[u8], w: u32, window: &[i32]) -> Result<Twin, Refusal> {
+    fn open_as(profile: Profile, frames: &[u8], w: u32, window: &[i32]) -> Result<Twin, Refusal> {
         let mut lent = window.to_vec();
-        let opened = State::open(frames, w, &mut lent);
-        let machine = second::open(frames, w, window.len());
+        let opened = State::open_as(profile, frames, w, &mut lent);
+        let machine = second::open_as(profile, frames, w, window.len());
         assert_eq!(
             machine.as_ref().map(Machine::state),
             opened.as_ref().cloned()
@@ -160,14 +176,11 @@ impl Driven for Twin {
         &self.state
     }
 
+    fn window(&self) -> &[i32] {
+        &self.window
+    }
+
     fn machine(&self) -> &Machine {
         self.machine.as_ref().expect("the state was not handed in")
-    }
-}
-
-impl Twin {
-    /// The window.
-    pub fn window(&self) -> &[i32] {
-        &self.window
     }
 }

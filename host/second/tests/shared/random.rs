@@ -1,6 +1,6 @@
 //! Random rules with fixed seeds. A rule is made as the grammar has it, with its frames made along the way.
 
-use dillplatter_second::open;
+use dillplatter_second::{open, Profile};
 
 /// A generator of numbers (xorshift).
 pub struct Random(u64);
@@ -91,6 +91,36 @@ fn frames_by(random: &mut Random, rule: fn(&mut Random, usize) -> Made) -> Vec<u
         let frames = rule(random, size).frames.concat();
         if open(&frames, 1, 32).is_ok() {
             return frames;
+        }
+    }
+}
+
+/// Frames of a random rule that opens and has at most 16 frames, sometimes with offsets that are mostly negative. Some get to
+/// 16 frames by 'not'.
+pub fn board_frames(random: &mut Random) -> Vec<u8> {
+    loop {
+        let size = random.pick(&[1, 4, 8, 12]);
+        let late = random.once_in(3);
+        let mut frames = make(random, size, late).frames;
+        if frames.len() > 16 {
+            continue;
+        }
+        if random.once_in(5) {
+            frames.resize(16, [0x31, 0, 0, 0, 0, 0, 0, 0]);
+        }
+        if open(&frames.concat(), 1, 32).is_ok() {
+            return frames.concat();
+        }
+    }
+}
+
+/// A random W that a profile takes.
+pub fn width(random: &mut Random, profile: Profile) -> u32 {
+    match profile {
+        Profile::Desk => random.pick(&[1, 1, 2, 3, 5, 16, 64, 256]),
+        Profile::Board => {
+            let any = 1 + random.below(32) as u32;
+            random.pick(&[1, 1, 2, any, any, any, 32, 32])
         }
     }
 }

@@ -3,7 +3,7 @@
 use super::documents::{document, parts, rows};
 use super::driven::Driven;
 use super::log::line;
-use dillplatter_second::{Fed, Pulled, Refusal, State, Tariff};
+use dillplatter_second::{Fed, Profile, Pulled, Refusal, State, Tariff};
 use std::collections::BTreeSet;
 
 const RULE: &str = "events a b; notes t; t(a[i]) > 0";
@@ -39,10 +39,11 @@ pub fn each_number_is_seen<C: Driven>() {
 }
 
 /// The refusals of each call.
-fn of_calls<C: Driven>() -> [(&'static str, Vec<Row>); 8] {
+fn of_calls<C: Driven>() -> [(&'static str, Vec<Row>); 9] {
     [
         ("read", reading::<C>()),
-        ("open", opening::<C>()),
+        ("open", opening::<C>(Profile::Desk)),
+        ("open_board", board_opening::<C>()),
         ("feed", feeding::<C>()),
         ("pull", pulling::<C>()),
         ("view", vec![(14, 0, C::view(&[0; 165]).unwrap_err())]),
@@ -67,9 +68,13 @@ fn reading<C: Driven>() -> Vec<Row> {
     ]
 }
 
-fn opening<C: Driven>() -> Vec<Row> {
+/// The refusals that both openings have.
+fn opening<C: Driven>(profile: Profile) -> Vec<Row> {
     let frames = C::frames_of(RULE.as_bytes()).unwrap();
-    let of = |frames: &[u8], words: usize| C::open(frames, 1, &vec![3; words]).err().unwrap();
+    let of = |frames: &[u8], words: usize| {
+        let opened = C::open_as(profile, frames, 1, &vec![3; words]);
+        opened.err().unwrap()
+    };
     // i > 0, and t(a[i]) * i * i > 0.
     let (reference, end) = frames.split_at(8);
     let (i, times) = ([2, 0, 0, 0, 0, 0, 0, 0], [0x13, 0, 0, 0, 0, 0, 0, 0]);
@@ -82,6 +87,19 @@ fn opening<C: Driven>() -> Vec<Row> {
         (10, 2, of(&frames[..16], 32)),
         (11, 0, of(&frames, 31)),
     ]
+}
+
+fn board_opening<C: Driven>() -> Vec<Row> {
+    let of = |text: &str, w: u32| {
+        let frames = C::frames_of(text.as_bytes()).unwrap();
+        let opened = C::open_as(Profile::Board, &frames, w, &vec![3; 32 * w as usize]);
+        opened.err().unwrap()
+    };
+    // 17 frames.
+    let long = RULE.replace("t(a", "!!!!!!!!!!!!!!t(a");
+    let mut rows = opening::<C>(Profile::Board);
+    rows.extend([(26, 0, of(RULE, 33)), (26, 0, of(&long, 1))]);
+    rows
 }
 
 fn feeding<C: Driven>() -> Vec<Row> {

@@ -1,8 +1,8 @@
 //! Where verdicts begin, by any checker: the first i with a reference that isn't void.
 
 use super::driven::{Driven, FALSE};
+use super::forged::number;
 use super::log::line;
-use super::tariff::example;
 use dillplatter_second::frames::{check, Reference};
 use dillplatter_second::{Fed, Pulled, State, Totals};
 
@@ -153,26 +153,6 @@ fn state<C: Driven>(condition: &str, p: u32, totals: [u32; 3]) -> State {
     }
 }
 
-/// The number of the refusal that feeding, pulling and charging all give of a state; 0 if none of them refuses it.
-#[track_caller]
-fn number<C: Driven>(state: &State) -> u8 {
-    let checker = || C::forged(state.clone(), vec![0; 32]);
-    let (fed, pulled) = (checker().feed(b""), checker().pull(&mut []));
-    let charged = checker().charge(&example());
-    match (fed, pulled, charged) {
-        (Fed::Refused(one), Pulled::Refused(other), Err(third)) => {
-            assert_eq!((one, one), (other, third));
-            assert_eq!(one.place, 0);
-            one.number
-        }
-        (Fed::Refused(one), Pulled::Refused(other), Ok(_)) => {
-            assert_eq!((one.number, other.number), (15, 14));
-            0
-        }
-        other => panic!("{other:?}"),
-    }
-}
-
 /// The three totals that have a sum in one of them, and nothing in the others.
 fn alone(sum: u32) -> [[u32; 3]; 3] {
     [[sum, 0, 0], [0, sum, 0], [0, 0, sum]]
@@ -182,7 +162,7 @@ fn alone(sum: u32) -> [[u32; 3]; 3] {
 /// comes round to.
 pub fn p_below_the_start<C: Driven>() {
     for (condition, start) in STARTS {
-        let number = |p, totals| number::<C>(&state::<C>(condition, p, totals));
+        let number = |p, totals| number::<C>(&state::<C>(condition, p, totals), 32);
         assert_eq!(number(start, [0; 3]), 0, "{condition}");
         for below in [1, 2, start / 2, start] {
             let (Some(p), 1..) = (start.checked_sub(below), below) else {
@@ -199,7 +179,7 @@ pub fn p_below_the_start<C: Driven>() {
 /// 12 refuses totals that do not sum to p less the start.
 pub fn totals_sum_to_p_less_the_start<C: Driven>() {
     for (condition, start) in STARTS {
-        let number = |p, totals| number::<C>(&state::<C>(condition, p, totals));
+        let number = |p, totals| number::<C>(&state::<C>(condition, p, totals), 32);
         assert_eq!(number(start, [0; 3]), 0, "{condition}");
         for p in [start, start + 1, start + 7, 1_009_999] {
             let sum = p - start;

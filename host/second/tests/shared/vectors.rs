@@ -3,7 +3,7 @@
 use super::driven::Driven;
 use super::random::Random;
 use super::tariff::{with_failed, MOST_VERDICTS};
-use dillplatter_second::{Fed, Pulled, Refusal, Tariff, Truth};
+use dillplatter_second::{Fed, Profile, Pulled, Refusal, Tariff, Truth};
 use std::path::{Path, PathBuf};
 
 /// A path below host/vectors.
@@ -61,11 +61,41 @@ pub fn opening<C: Driven>() {
         let frames = unhex(field());
         let w = field().parse().unwrap();
         let words: usize = field().parse().unwrap();
-        let answer = match C::open(&frames, w, &vec![-1; words]) {
-            Ok(_) => "opened".to_string(),
-            Err(refusal) => refusal_words(refusal),
-        };
+        let answer = opened_words(C::open(&frames, w, &vec![-1; words]));
         assert_eq!(answer, field(), "opening.txt line {at}");
+    }
+}
+
+/// points/09/board.txt.
+pub fn board<C: Driven>() {
+    let name = "points/09/board.txt";
+    let lines = vector_lines(name);
+    assert_eq!(lines.len(), 300);
+    let (mut at_desk, mut on_board, mut above) = (0, 0, 0);
+    for (at, line) in lines {
+        let mut fields = line.splitn(5, ' ');
+        let mut field = || fields.next().unwrap();
+        let frames = unhex(field());
+        let w = field().parse().unwrap();
+        let words: usize = field().parse().unwrap();
+        let (profile, opened) = match field() {
+            "desk" => (Profile::Desk, &mut at_desk),
+            "board" => (Profile::Board, &mut on_board),
+            other => panic!("{name} line {at}: {other}"),
+        };
+        let answer = opened_words(C::open_as(profile, &frames, w, &vec![-1; words]));
+        assert_eq!(answer, field(), "{name} line {at}");
+        *opened += usize::from(answer == "opened");
+        above += usize::from(answer == "refused 26 0");
+    }
+    assert_eq!((at_desk, on_board, above), (61, 65, 69));
+}
+
+/// An answer as the files of openings write it.
+fn opened_words<C>(answer: Result<C, Refusal>) -> String {
+    match answer {
+        Ok(_) => "opened".into(),
+        Err(refusal) => refusal_words(refusal),
     }
 }
 
