@@ -229,7 +229,8 @@ fn say_refused(r: Refusal) {
 
 // A checker is opened at the desk, with the document's W.
 fn open_rule(frames: &[u8], window: &mut [i32]) -> Opened
-    ensures { λ r. ⌜ openOutcome r (now (window .exit)) ≡ openDef Desk (now (frames .entry)) benchWidth (now (window .entry)) ⌝ }
+    ensures { λ r. ⌜ openOutcome r (now (window .exit))
+        ≡ openDef Desk (now (frames .entry)) benchWidth (now (window .entry)) ⌝ }
 {
     checker::open(Profile::Desk, frames, WIDTH, window)
 }

@@ -61,7 +61,8 @@ outRaised (pulled a report) = pulled a report
 
 -- "every verdict over an old log is the one over its raised log": a list of calls whose lines are old ones, on the plain machine,
 -- and the list with each line raised, on a fresh checker
-pub record RaisedLog (profile : Profile) (frames : List ℕ) (w : ℕ) (win : List ℤ) (other : List ℕ) (cs : List Call) : Type 0 where
+pub record RaisedLog (profile : Profile) (frames : List ℕ) (w : ℕ) (win : List ℤ) (other : List ℕ) (cs : List Call)
+    : Type 0 where
   -- each answer with its number and place and each report buffer
   pub answers : outs checker (map (raisedCall other) cs) (fresh profile frames w win)
       ≡ map outRaised (outs (oldMachineFor frames w) cs (atFirst frames))

@@ -80,7 +80,8 @@ pub fn opened_frames(frames: &[u8], n: u32) -> [u8; 512]
 // The fields of the state that an unrefused opening gives back.
 fn fresh(profile: Profile, frames: &[u8], width: u32) -> Fields
     requires { ⌜ checkedOf (now frames) ≡ checking.accepted ⌝ }
-    ensures { λ r. ⌜ ((fs : List ℕ) → stateOf fs r ≡ stateWith fs (frameCount (now (frames .entry))) width (profileNumber profile)
+    ensures { λ r. ⌜ ((fs : List ℕ) → stateOf fs r
+        ≡ stateWith fs (frameCount (now (frames .entry))) width (profileNumber profile)
         (tallyFrom (firstFor (now (frames .entry))))) ⌝ }
 {
     let starts = base::starts_at(frames, Instance(0));
@@ -102,7 +103,8 @@ fn refuse(why: Refusal) -> OpenedFields
 
 // 11, then 26: the number of the first that holds, 0 where neither does. There are n frames, and so many words in the window.
 fn refusal_of(profile: Profile, n: usize, width: u32, words: usize) -> u8
-    ensures { λ r. ⌜ r ≡ cond (widthFits width && eqb words (windowWords width)) (cond (withinMost profile width n) 0 26) 11 ⌝ }
+    ensures { λ r. ⌜ r
+        ≡ cond (widthFits width && eqb words (windowWords width)) (cond (withinMost profile width n) 0 26) 11 ⌝ }
 {
     if width_fits(width) & window_fits(width, words) {
         if profiles::within(profile, width, n) {

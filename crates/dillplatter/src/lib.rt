@@ -1,5 +1,5 @@
-// The library for makers of controllers: the calls of a checker, for desk and board, the view of a report, the converter of lines and
-// the charge for rework, as C has them, answers as numbers. include/dillplatter.h declares them and says what each one does.
+// The library for makers of controllers: the calls of a checker, for desk and board, the view of a report, the converter of lines
+// and the charge for rework, as C has them, answers as numbers. include/dillplatter.h declares them and says what each one does.
 mod told; // told.rt: answers as numbers
 
 use checker::Profile;
