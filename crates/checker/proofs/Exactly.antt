@@ -1,26 +1,21 @@
 -- After every list of calls: exactly when a pull waits, that a verdict has a present reference, exactly when a line is accepted or
 -- finds the window full, and what the window holds; exactly when opening is not refused. Assumes nothing.
 use mathlib.Core.Path.{_≡_, refl, sym, _∙_, ap, subst}
-use mathlib.Core.Bool.{Bool, true, false, _&&_, cond}
+use mathlib.Core.Bool.{Bool, true, false, cond}
 use mathlib.Core.List.{List, [], _∷_}
 use mathlib.Core.Logic.{_↔_, _≢_}
 use Prim.Native.Nat.{ℕ, _+_, _<_, _≤_}
 use native.Mathlib.Omega.{arith}
-use borrow.Author.Tests.{eq-eqb, eqb-true, le-leb, lt-leb, leb-true, leb-false, le-ltb, ltb-false}
+use borrow.Author.Tests.{le-leb, lt-leb, leb-true, leb-false, le-ltb, ltb-false}
 use lib.Dec.{ltb, leb}
 use lib.IntN.{ℤ, pos}
 use lib.ListN.{length, getD}
-use Rattle.rule.specs.Frames.{Bytes}
 use Rattle.rule.specs.Tree.{Reference, references}
 use Rattle.rule.specs.Build.{treeOf}
 use Rattle.rule.specs.Check.{checkedOf}
-use Rattle.rule.specs.Opening.{Proper}
-use Rattle.rule.specs.CheckTold.{CheckAnswer}
-use Rattle.rule.specs.CheckTold as checking
-use Rattle.rule.proofs.Main.{frames-exactly}
 use Rattle.log.specs.Line.{lineOf}
 use Rattle.log.specs.Line as log
-use Rattle.numbers.proofs.Bools.{true-false, and-true, true-and}
+use Rattle.numbers.proofs.Bools.{true-false}
 use Rattle.verdict.specs.Found.{meant, present, pending, Lookup, foundBy, resolve, byLists, givenIn, isPresent, isPending, someOf}
 use Rattle.verdict.specs.Value.{value}
 use Rattle.verdict.specs.Settled.{settledBy, settled}
@@ -32,12 +27,11 @@ use Rattle.verdict.specs.declared.Verdict.{Verdict}
 use Rattle.verdict.specs.declared.Verdict.the-variants.{True, False, Unknown}
 use Rattle.verdict.specs.declared.Judgement.the-variants.{Unsettled}
 use Rattle.verdict.proofs.Laws.{none-so}
-use Rattle.checker.specs.Limits.{widthLimit, windowWords, lineLimit, reportLeast}
+use Rattle.checker.specs.Limits.{lineLimit, reportLeast}
 use Rattle.checker.specs.Answer.{Answer, opened, accepted, ignored, waiting, verdict, refused}
 use Rattle.checker.specs.Base.{referenced, base, SomeNotVoid}
 use Rattle.checker.specs.State.{countOf, zeroState}
 use Rattle.checker.specs.Ring.{wordAt}
-use Rattle.checker.specs.Open.{widthFits, windowFits, openedAs, notOpened, afterFrames, openDef}
 use Rattle.checker.specs.StateTest.{rulePasses, statePasses}
 use Rattle.checker.specs.Admission.{admission}
 use Rattle.checker.specs.Feed.{turned, skipped, taken, feedEvent, feedRead, feedAnswer, feedDef}

@@ -5,7 +5,6 @@ use mathlib.Core.List.{List, map}
 use mathlib.Core.Logic.{_↔_}
 use Prim.Native.Nat.{ℕ, _*_, _-_, _/_, _≤_}
 use native.Mathlib.Omega.{arith}
-use borrow.Author.Tests.{le-leb}
 use lib.IntN.{ℤ, pos}
 use lib.ListN.{length, replicate, length-replicate}
 use lib.Seq.{take-at}
@@ -22,7 +21,7 @@ use Rattle.rule.proofs.Laws.{proper-rule, rule-length, references-within}
 use Rattle.numbers.proofs.Bools.{true-false, and-true}
 use Rattle.checker.specs.Limits.{windowWords}
 use Rattle.checker.specs.Answer.{Answer, opened, accepted, ignored, waiting, verdict, refused}
-use Rattle.checker.specs.Profile.{withinMost, profileNumber, profilePasses}
+use Rattle.checker.specs.Profile.{withinMost}
 use Rattle.checker.specs.Base.{smallest, firstFor, SomeNotVoid, FirstInstance}
 use Rattle.checker.specs.BasePass.{firstOf}
 use Rattle.checker.specs.State.{countOf, freshState}

@@ -1,11 +1,11 @@
 -- Desk and board: what the number in a state says of W and of the frames. Assumes nothing.
-use mathlib.Core.Path.{_≡_, refl, sym, _∙_, ap}
+use mathlib.Core.Path.{_≡_, refl}
 use mathlib.Core.Bool.{Bool, true, false, _&&_, cond}
 use Prim.Native.Nat.{ℕ, _≤_}
 use native.Mathlib.Omega.{arith}
 use borrow.Author.Tests.{leb-true, le-leb, eqb-true}
 use lib.Dec.{leb, eqb}
-use Rattle.numbers.proofs.Bools.{true-false, and-true, true-and}
+use Rattle.numbers.proofs.Bools.{and-true, true-and}
 use Rattle.rule.specs.Limits.{frameLimit}
 use Rattle.checker.specs.Limits.{widthLimit}
 use Rattle.checker.specs.Profile.{widthMost, framesMost, withinMost, profileNumber, profilePasses}

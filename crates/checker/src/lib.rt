@@ -45,8 +45,8 @@ pub struct Totals {
 }
 
 // The state, the document's term for what a checker carries from call to call. Its rule is the first `len` frames, of 8 bytes
-// each; the bytes after them are carried and not looked at. `width` is the document's W, `next` its p; `profile` is 0 of the desk,
-// 1 of the board.
+// each; the bytes after them are carried and not looked at. `width` is the document's W, `next` its p; `profile` is 0 for the desk,
+// 1 for the board.
 #[repr(C)]
 pub struct State {
     pub frames: [u8; 512],
