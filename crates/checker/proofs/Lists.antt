@@ -1,5 +1,5 @@
 -- Every list of calls: the checker gives what the plain machine gives. Assumes nothing.
-use mathlib.Core.Path.{_≡_, refl, ap₂}
+use mathlib.Core.Path.{_≡_, refl, sym, _∙_, ap₂}
 use mathlib.Core.List.{List, [], _∷_}
 use Prim.Native.Nat.{ℕ}
 use lib.IntN.{ℤ}
@@ -32,3 +32,8 @@ module _ {profile : Profile} {frames : List ℕ} {w : ℕ} {win : List ℤ} (o :
 
   pub state : tallyIn (end checker cs (fresh profile frames w win) .state) ≡ tallyOf (end (machineFor frames w) cs (atFirst frames))
   state = in-step .sim .tally
+
+-- whoever opened it, at the desk or on the board, and whatever the window held
+pub same-answers : {profile profile′ : Profile} {frames : List ℕ} {w : ℕ} {win win′ : List ℤ} → Unrefused profile frames w win → Unrefused profile′ frames w win′
+    → (cs : List Call) → outs checker cs (fresh profile frames w win) ≡ outs checker cs (fresh profile′ frames w win′)
+same-answers o o′ cs = answers o cs ∙ sym (answers o′ cs)

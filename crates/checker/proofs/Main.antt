@@ -210,6 +210,12 @@ module _ {profile profile′ : Profile} {frames : List ℕ} {w w′ : ℕ} {win 
       → viewsOut profile frames w win cs ≡ viewsOut profile′ frames w′ win′ cs′
   views-equal = Views.same-views o o′ cs cs′
 
+-- ---- one rule, one W and one list of calls: a checker of the board gives the answers and reports of the desk's, and of any other that
+-- was opened so, whatever the window held
+pub board-as-desk : {profile profile′ : Profile} {frames : List ℕ} {w : ℕ} {win win′ : List ℤ} → Unrefused profile frames w win → Unrefused profile′ frames w win′
+    → (cs : List Call) → outs checker cs (fresh profile frames w win) ≡ outs checker cs (fresh profile′ frames w win′)
+board-as-desk = Lists.same-answers
+
 -- ---- within one list: each false verdict handed out comes with the report of its instance at the moment of the pull
 pub third-report : {profile : Profile} {frames : List ℕ} {w : ℕ} {win : List ℤ} → Unrefused profile frames w win → (cs : List Call) (i : ℕ)
     → getD (handedOut profile frames w win cs) i Unknown ≡ False
