@@ -1,33 +1,29 @@
--- Opening as the code goes: one number for 11 and 26, and the state by parts. Assumes nothing.
-use mathlib.Core.Path.{_≡_, refl, sym, _∙_, ap, ap₂}
+-- Opening by one number for 11 and 26, as the code goes. Assumes nothing.
+use mathlib.Core.Path.{_≡_, refl, sym, _∙_, ap, subst}
 use mathlib.Core.Bool.{Bool, true, false, _&&_, cond}
-use mathlib.Core.List.{List, [], _++_}
-use Prim.Native.Nat.{ℕ, _*_, _-_, _≤_}
+use mathlib.Core.List.{List}
+use Prim.Native.Nat.{ℕ, _≤_}
 use native.Mathlib.Omega.{arith}
 use borrow.Author.Tests.{eqb-true}
-use lib.IntN.{ℤ, pos}
-use lib.ListN.{length, replicate}
+use lib.Dec.{eqb}
+use lib.IntN.{ℤ}
+use lib.ListN.{length}
 use Rattle.numbers.proofs.Bools.{and-true}
-use Rattle.rule.specs.Limits.{frameLimit, frameBytes}
 use Rattle.rule.specs.Frames.{frameCount}
-use Rattle.rule.specs.Check.{checkedOf}
+use Rattle.rule.specs.Order.{orderOf}
+use Rattle.rule.specs.Sizes.{sizesFit}
+use Rattle.rule.specs.Check.{wholeFrames, afterOrder, checkedOf}
+use Rattle.rule.specs.CheckTold.{CheckAnswer}
 use Rattle.rule.specs.CheckTold as checking
+use Rattle.rule.specs.declared.order.Ordered.{Ordered}
+use Rattle.rule.specs.declared.order.Ordered.the-variants.{Fine, At}
 use Rattle.rule.specs.declared.Refusal.{Refusal}
-use Rattle.rule.proofs.Laws.{passed}
 use Rattle.checker.specs.Limits.{windowWords}
-use Rattle.checker.specs.Answer.{opened, openTold}
-use Rattle.checker.specs.Base.{firstFor}
-use Rattle.checker.specs.Profile.{withinMost, profileNumber}
-use Rattle.checker.specs.State.{tallyFrom, stateWith, freshState}
-use Rattle.checker.specs.Open.{OpenResult, widthFits, windowFits, openedAs, notOpened, afterWindow, afterFrames, openDef, openOutcome}
-use Rattle.checker.specs.Parts.{stateOf, framesIn, openedOf}
-use Rattle.checker.specs.declared.parts.Fields.{Fields}
-use Rattle.checker.specs.declared.opening.OpenedFields.{OpenedFields}
-use Rattle.checker.specs.declared.OpenAnswer.{OpenAnswer}
-use Rattle.checker.specs.declared.OpenAnswer.the-variants.{Opened, Refused}
+use Rattle.checker.specs.Profile.{withinMost}
+use Rattle.checker.specs.Open.{widthFits, windowFits, openedAs, notOpened, afterWindow, afterFrames, openDef}
+use Rattle.checker.specs.Decided.{Decided}
 use Rattle.checker.specs.declared.Profile.{Profile}
-use Rattle.checker.specs.declared.State.{State}
-use Rattle.checker.proofs.CodeCopy.{part-all}
+use Rattle.checker.proofs.Choices.{cond-case}
 
 -- 11, then 26, 0 where neither holds
 abbrev numberBy : Bool → Bool → ℕ
@@ -41,7 +37,7 @@ module _ (profile : Profile) (frames : List ℕ) (w : ℕ) (win : List ℤ) (e :
   within = withinMost profile w (frameCount frames)
 
   -- past the checks of frames
-  past-frames : (a b : Bool) → fits ≡ a → within ≡ b
+  pub past-frames : (a b : Bool) → fits ≡ a → within ≡ b
       → openDef profile frames w win ≡ cond a (cond b (openedAs profile frames w) (notOpened win 26 0)) (notOpened win 11 0)
   unfolding openDef
   past-frames a b p q =
@@ -69,54 +65,41 @@ module _ (profile : Profile) (frames : List ℕ) (w : ℕ) (win : List ℤ) (e :
       go true false p q z = past-frames true false p q ∙ ap (λ (x : ℕ). notOpened win x 0) (sym z)
       go false b p q z = past-frames false b p q ∙ ap (λ (x : ℕ). notOpened win x 0) (sym z)
 
--- ---- the state by parts
--- the frames of a state are those of the slice
-frames-all : (s : List ℕ) → checkedOf s ≡ checking.accepted → framesIn s (frameCount s) ≡ s ++ replicate (frameLimit * frameBytes - length s) 0
-frames-all s e =
-    let w = passed s e .whole in
-    part-all s (frameLimit * frameBytes) (frameCount s * frameBytes) 0 (omega (arith, w .steps)) (omega (arith, w .steps))
+  -- so the number that the code finds decides
+  pub decided-by : (number : ℕ) → number ≡ numberBy fits within → Decided profile frames w win (record { number = number; place = 0 })
+  decided-by number h =
+      record {
+        accepted = λ _. e;
+        long = λ z. opens-at-0 (sym h ∙ z) .0;
+        opens = λ z. opens-at-0 (sym h ∙ z) .1;
+        refuses = refused-at number h;
+      }
 
--- what is known of the parts of an opening
-pub record Parted (s : List ℕ) (r : OpenedFields) (win : List ℤ) (d : OpenResult) : Type 0 where
-  pub same : openOutcome (openedOf (framesIn s (r .fields .len)) r) win ≡ d
-  pub inside : r .fields .len * frameBytes ≤ length s
-  pub few : r .fields .len ≤ frameLimit
+-- ---- the numbers of the check of frames
+abbrev pub FrameNumber : CheckAnswer → Type 0
+FrameNumber checking.accepted = Unit {0}
+FrameNumber (checking.refused number place) = (7 ≤ number) × (number ≤ 10)
 
-len-of : (f : Fields) (n w number p : ℕ) → ((fs : List ℕ) → stateOf fs f ≡ stateWith fs n w number (tallyFrom p)) → f .len ≡ n
-len-of f n w number p e = ap (λ (x : State). x .len) (e [])
+order-number : (s : List ℕ) (x : Ordered) → FrameNumber (afterOrder s x)
+order-number s (At p) = (omega arith, omega arith)
+order-number s (Fine m) =
+    cond-case FrameNumber (eqb m 0) _ _ (λ _. (omega arith, omega arith))
+    (λ _. cond-case FrameNumber (sizesFit s) _ _ (λ _. tt) (λ _. (omega arith, omega arith)))
 
--- an unrefused opening
-pub parts-opened : (profile : Profile) (s : List ℕ) (w : ℕ) (f : Fields) → checkedOf s ≡ checking.accepted
-    → ((fs : List ℕ) → stateOf fs f ≡ stateWith fs (frameCount s) w (profileNumber profile) (tallyFrom (firstFor s)))
-    → Parted s (record { answer = Opened; fields = f }) (replicate (windowWords w) (pos 0)) (openedAs profile s w)
-unfolding freshState
-parts-opened profile s w f e h =
-    let n = len-of f (frameCount s) w (profileNumber profile) (firstFor s) h in
-    let q = passed s e .whole in
+pub check-number : (s : List ℕ) → FrameNumber (checkedOf s)
+unfolding checkedOf
+check-number s = cond-case FrameNumber (wholeFrames (length s)) _ _ (λ _. order-number s (orderOf s)) (λ _. (omega arith, omega arith))
+
+-- so where it refuses, opening does
+pub decided-frames : (profile : Profile) (frames : List ℕ) (w : ℕ) (win : List ℤ) (why : Refusal) → checkedOf frames ≡ checking.refused (why .number) (why .place)
+    → Decided profile frames w win why
+unfolding openDef
+decided-frames profile frames w win why e =
+    let l = subst FrameNumber e (check-number frames) in
+    let n : why .number ≡ 0 → ⊥ = λ z. omega (arith, z, l .0) in
     record {
-      same =
-          ap (λ (x : State). record { answer = opened; state = x; words = replicate (windowWords w) (pos 0) })
-          (ap (λ (k : ℕ). stateOf (framesIn s k) f) n ∙ ap (λ (fs : List ℕ). stateOf fs f) (frames-all s e)
-          ∙ h (s ++ replicate (frameLimit * frameBytes - length s) 0));
-      inside = omega (arith, n);
-      few = omega (arith, n, q .most);
+      accepted = λ z. absurd (n z);
+      long = λ z. absurd (n z);
+      opens = λ z. absurd (n z);
+      refuses = λ _. ap (afterFrames profile frames w win) e;
     }
-
--- a refused one
-pub parts-refused : (s : List ℕ) (win : List ℤ) (r : OpenedFields) (why : Refusal) → r .answer ≡ Refused why
-    → ((fs : List ℕ) → stateOf fs (r .fields) ≡ stateWith fs 0 0 0 (tallyFrom 0))
-    → Parted s r win (notOpened win (why .number) (why .place))
-parts-refused s win r why e h =
-    let n = len-of (r .fields) 0 0 0 0 h in
-    record {
-      same =
-          ap₂ (λ (a : OpenAnswer) (x : State). record { answer = openTold a; state = x; words = win }) e
-          (ap (λ (k : ℕ). stateOf (framesIn s k) (r .fields)) n ∙ h (replicate (frameLimit * frameBytes) 0));
-      inside = omega (arith, n);
-      few = omega (arith, n);
-    }
-
--- a state put together from what an opening by parts gives
-pub opened-whole : {s : List ℕ} {win : List ℤ} (r : OpenedFields) (t : State) (d : OpenResult) → t ≡ stateOf s (r .fields) → openOutcome (openedOf s r) win ≡ d
-    → openOutcome (record { answer = r .answer; state = t }) win ≡ d
-opened-whole r t d e q = rw e q

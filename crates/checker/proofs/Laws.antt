@@ -7,7 +7,6 @@ pub use Rattle.checker.proofs.Admissions.{let-in, in-good}
 pub use Rattle.checker.proofs.Stays.{opened-stays, fed-stays, pulled-stays, feed-rule, pull-rule}
 -- bytes of a state's frames
 pub use Rattle.checker.proofs.CodeBase.{bytes-take}
--- what an opening, a feed and a pull by parts give, with the state put together
-pub use Rattle.checker.proofs.CodeOpen.{opened-whole}
+-- what a feed and a pull by parts give, with the state put together
 pub use Rattle.checker.proofs.CodeFeed.{fed-whole}
 pub use Rattle.checker.proofs.PullOffer.{pulled-whole}

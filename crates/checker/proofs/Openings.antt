@@ -13,10 +13,10 @@ use Rattle.rule.specs.Limits.{frameLimit}
 use Rattle.rule.specs.Frames.{Bytes, frameCount}
 use Rattle.rule.specs.Tree.{postfix}
 use Rattle.rule.specs.Check.{checkedOf}
-use Rattle.rule.specs.Opening.{Proper, Opening}
+use Rattle.rule.specs.Opening.{Proper}
 use Rattle.rule.specs.CheckTold.{CheckAnswer}
 use Rattle.rule.specs.CheckTold as checking
-use Rattle.rule.proofs.Main.{frames-exactly, opening-iff}
+use Rattle.rule.proofs.Main.{frames-exactly}
 use Rattle.rule.proofs.Laws.{proper-rule, rule-length}
 use Rattle.numbers.proofs.Bools.{true-false, and-true, true-and}
 use Rattle.checker.specs.Limits.{widthLimit, windowWords, boardWidthLimit, boardFrameLimit}
@@ -29,18 +29,7 @@ use Rattle.checker.proofs.Choices.{never-true}
 use Rattle.checker.proofs.ProfileLaws.{within-facts, within-by, most-desk}
 use Rattle.checker.proofs.Fresh.{passed}
 use Rattle.checker.proofs.Never.{numberIn}
-
--- the check of frames has none of the later numbers
-abbrev LowNumber : CheckAnswer → Type 0
-LowNumber checking.accepted = Unit {0}
-LowNumber (checking.refused number place) = number ≤ 10
-
-check-low : {s : List ℕ} (o : CheckAnswer) → Opening s o → LowNumber o
-check-low _ (Opening.refused-9 h) = omega arith
-check-low _ (Opening.refused-10 h p) = omega arith
-check-low _ (Opening.refused-7 h r e) = omega arith
-check-low _ (Opening.refused-8 h r e m) = omega arith
-check-low _ (Opening.accepted h r e m) = tt
+use Rattle.checker.proofs.CodeOpen.{past-frames, FrameNumber, check-number}
 
 -- a rule has at most 64 frames
 proper-count : {frames : List ℕ} → Proper frames → frameCount frames ≤ frameLimit
@@ -63,15 +52,9 @@ module _ (profile : Profile) {frames : List ℕ} (w : ℕ) (win : List ℤ) (b :
       (leb-true 1 w (g .0), leb-true w widthLimit (g .1), eqb-true (length win) (windowWords w) (f .1))
 
   -- past the checks of frames and 11, opening goes by 26
-  past-11 : Proper frames → (widthFits w && windowFits w win) ≡ true → openDef profile frames w win ≡ afterWindow profile frames w win
-  unfolding openDef
-  past-11 p e =
-      ap (afterFrames profile frames w win) (frames-exactly b .1 p)
-      ∙ ap (λ (t : Bool). cond t (afterWindow profile frames w win) (notOpened win 11 0)) e
-
-  -- and by the two figures
-  by-26 : (t : Bool) → withinMost profile w (frameCount frames) ≡ t → afterWindow profile frames w win ≡ cond t (openedAs profile frames w) (notOpened win 26 0)
-  by-26 t e = ap (λ (u : Bool). cond u (openedAs profile frames w) (notOpened win 26 0)) e
+  past-11 : (t : Bool) → Proper frames → (widthFits w && windowFits w win) ≡ true → withinMost profile w (frameCount frames) ≡ t
+      → openDef profile frames w win ≡ cond t (openedAs profile frames w) (notOpened win 26 0)
+  past-11 t p e q = past-frames profile frames w win (frames-exactly b .1 p) true t e q
 
   pub opens-exactly : (openDef profile frames w win .answer ≡ opened)
       ↔ (Proper frames × (1 ≤ w) × (w ≤ widthMost profile) × (frameCount frames ≤ framesMost profile) × (length win ≡ windowWords w))
@@ -81,8 +64,8 @@ module _ (profile : Profile) {frames : List ℕ} (w : ℕ) (win : List ℤ) (b :
         let m = within-facts profile w (frameCount frames) (p .within) in
         (frames-exactly b .0 (p .accepted), f .0, m .0, m .1, f .2)),
     λ h. ap (λ (x : OpenResult). x .answer)
-        (past-11 (h .0) (window-in (h .1) (omega (arith, h .2, most-desk profile .0)) (h .4))
-        ∙ by-26 true (within-by profile w (frameCount frames) (h .2) (h .3))),
+        (past-11 true (h .0) (window-in (h .1) (omega (arith, h .2, most-desk profile .0)) (h .4))
+        (within-by profile w (frameCount frames) (h .2) (h .3))),
   )
 
   -- ---- 26
@@ -95,9 +78,9 @@ module _ (profile : Profile) {frames : List ℕ} (w : ℕ) (win : List ℤ) (b :
   window-by true q = (refl, most-by (withinMost profile w (frameCount frames)) q)
   window-by false q = absurd (let z : 11 ≡ 26 = ap numberIn q in omega (arith, z))
 
-  check-by : (c : CheckAnswer) → LowNumber c → afterFrames profile frames w win c .answer ≡ refused 26 0
+  check-by : (c : CheckAnswer) → FrameNumber c → afterFrames profile frames w win c .answer ≡ refused 26 0
       → (c ≡ checking.accepted) × ((widthFits w && windowFits w win) ≡ true) × (withinMost profile w (frameCount frames) ≡ false)
-  check-by (checking.refused number place) l q = absurd (let z : number ≡ 26 = ap numberIn q in omega (arith, z, l))
+  check-by (checking.refused number place) l q = absurd (let z : number ≡ 26 = ap numberIn q in omega (arith, z, l .1))
   check-by checking.accepted l q =
       let f = window-by (widthFits w && windowFits w win) q in
       (refl, f .0, f .1)
@@ -113,13 +96,13 @@ module _ (profile : Profile) {frames : List ℕ} (w : ℕ) (win : List ℤ) (b :
       × (profile ≡ Board) × ((w ≤ boardWidthLimit) × (frameCount frames ≤ boardFrameLimit) → ⊥))
   unfolding openDef
   open-26-exactly = (
-    λ q. (let c = check-by (checkedOf frames) (check-low (checkedOf frames) (opening-iff b (checkedOf frames) .0 refl)) q in
+    λ q. (let c = check-by (checkedOf frames) (check-number frames) q in
         let p = frames-exactly b .0 (c .0) in
         let f = window-facts (c .1) in
         let o = only-board profile (f .1) (proper-count p) (c .2) in
         (p, f .0, f .1, f .2, o .0, o .1)),
     λ h. ap (λ (x : OpenResult). x .answer)
-        (past-11 (h .0) (window-in (h .1) (h .2) (h .3))
-        ∙ by-26 false (never-true (withinMost profile w (frameCount frames)) (λ q. let m = within-facts profile w (frameCount frames) q in
+        (past-11 false (h .0) (window-in (h .1) (h .2) (h .3))
+        (never-true (withinMost profile w (frameCount frames)) (λ q. let m = within-facts profile w (frameCount frames) q in
         h .5 (omega (arith, m .0, ap widthMost (h .4)), omega (arith, m .1, ap framesMost (h .4)))))),
   )

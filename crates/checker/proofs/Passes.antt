@@ -1,7 +1,7 @@
 -- The states that 12 lets through are those of which none of the document's conditions holds; feeding and pulling refuse the others
 -- with 12. Assumes nothing.
 use mathlib.Core.Path.{_≡_, refl, sym, ap, _∙_}
-use mathlib.Core.Bool.{Bool, true, false, cond}
+use mathlib.Core.Bool.{Bool, true, false}
 use mathlib.Core.List.{List}
 use mathlib.Core.Logic.{_↔_, _≢_}
 use Prim.Native.Nat.{ℕ, _*_, _≤_}
@@ -19,7 +19,7 @@ use Rattle.checker.specs.Answer.{opened, refused}
 use Rattle.checker.specs.Profile.{widthMost, framesMost, profilePasses}
 use Rattle.checker.specs.Base.{referenced}
 use Rattle.checker.specs.State.{tallyIn, stateFrames, refsIn}
-use Rattle.checker.specs.Open.{widthFits, windowFits, openedAs, notOpened, afterWindow, afterFrames, openDef}
+use Rattle.checker.specs.Open.{OpenResult, widthFits, windowFits, openDef}
 use Rattle.checker.specs.StateTest.{isAccepted, rulePasses, statePasses, Passing}
 use Rattle.checker.specs.Admission.{Admission}
 use Rattle.checker.specs.Feed.{FeedRead, turned, skipped, taken, feedAnswer, fedBy, lineIn, fedIf, feedDef}
@@ -32,6 +32,7 @@ use Rattle.checker.proofs.Bases.{referenced-exactly}
 use Rattle.checker.proofs.ProfileLaws.{within-facts, within-by, number-passes}
 use Rattle.checker.proofs.Tallies.{Sound, tally-good}
 use Rattle.checker.proofs.Fresh.{passed}
+use Rattle.checker.proofs.CodeOpen.{past-frames}
 use Rattle.checker.proofs.Stays.{sound-in}
 use Rattle.checker.proofs.CodeStateTest.{good-facts}
 use Rattle.checker.proofs.Never.{numberIn, line-number, pull-number}
@@ -51,13 +52,11 @@ module _ (s : State) (g : statePasses s ≡ true) where
   most = within-facts whose (s .width) (s .len) (good-facts s g .known .within)
 
   passes-opens : (win : List ℤ) → length win ≡ windowWords (s .width) → openDef whose (stateFrames s) (s .width) win .answer ≡ opened
-  unfolding openDef
   passes-opens win l =
-      ap (λ t. afterFrames whose (stateFrames s) (s .width) win t .answer) (good-facts s g .accepted)
-      ∙ ap (λ (t : Bool). cond t (afterWindow whose (stateFrames s) (s .width) win) (notOpened win 11 0) .answer)
+      ap (λ (x : OpenResult). x .answer)
+      (past-frames whose (stateFrames s) (s .width) win (good-facts s g .accepted) true true
       (true-and (widthFits (s .width)) (windowFits (s .width) win) width-fits (eq-eqb (length win) (windowWords (s .width)) l))
-      ∙ ap (λ (t : Bool). cond t (openedAs whose (stateFrames s) (s .width)) (notOpened win 26 0) .answer)
-      (within-by whose (s .width) (frameCount (stateFrames s)) (most .0) (omega (arith, most .1, length-take (s .len * frameBytes) (s .frames))))
+      (within-by whose (s .width) (frameCount (stateFrames s)) (most .0) (omega (arith, most .1, length-take (s .len * frameBytes) (s .frames)))))
 
   passing-by : Passing s
   passing-by =

@@ -22,6 +22,7 @@ pub mod Tariff
 -- What the contracts of inner functions are said by; no contract of open, feed or pull cites it. Crates bench and dillplatter call
 -- by Parts, and bench by Ready too.
 pub mod Parts
+pub mod Decided
 pub mod InWindow
 pub mod BasePass
 pub mod Sights

@@ -1,15 +1,11 @@
 -- A state and results put together from frames and the other fields. No contract of open, feed or pull cites it; crates bench and
 -- dillplatter call by it. Assumes nothing: definitions.
-use mathlib.Core.List.{List, _++_}
-use Prim.Native.Nat.{ℕ, _*_, _-_}
-use lib.ListN.{take, replicate}
-use Rattle.rule.specs.Limits.{frameLimit, frameBytes}
+use mathlib.Core.List.{List}
+use Prim.Native.Nat.{ℕ}
 use Rattle.checker.specs.State.{Tally, stateWith}
 use Rattle.checker.specs.declared.parts.Fields.{Fields}
-use Rattle.checker.specs.declared.opening.OpenedFields.{OpenedFields}
 use Rattle.checker.specs.declared.feeding.FedFields.{FedFields}
 use Rattle.checker.specs.declared.pulling.PulledFields.{PulledFields}
-use Rattle.checker.specs.declared.Opened.{Opened}
 use Rattle.checker.specs.declared.Fed.{Fed}
 use Rattle.checker.specs.declared.Pulled.{Pulled}
 use Rattle.checker.specs.declared.State.{State}
@@ -21,14 +17,6 @@ tallyOfFields f = record { counts = f .counts; next = f .next .0; totals = f .to
 -- "The state carries frames, W (1 to 256), per-event counts, p, and the totals", and the profile: of frames and the other fields
 abbrev pub stateOf : List ℕ → Fields → State
 stateOf frames f = stateWith frames (f .len) (f .width) (f .profile) (tallyOfFields f)
-
--- the first n frames of a slice, zero after the last, as a state has them
-abbrev pub framesIn : List ℕ → ℕ → List ℕ
-framesIn frames n = take (n * frameBytes) frames ++ replicate (frameLimit * frameBytes - n * frameBytes) 0
-
--- what an opening by parts gives, with its state put together
-abbrev pub openedOf : List ℕ → OpenedFields → Opened
-openedOf frames r = record { answer = r .answer; state = stateOf frames (r .fields) }
 
 -- what a feed by parts gives, with its state put together
 abbrev pub fedOf : List ℕ → FedFields → Fed

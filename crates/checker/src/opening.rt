@@ -2,10 +2,10 @@
 use crate::OpenAnswer;
 use crate::Opened;
 use crate::Profile;
+use crate::State;
 use crate::base;
 use crate::limits;
 use crate::parts;
-use crate::parts::Fields;
 use crate::profiles;
 use rule::Checked;
 use rule::FRAME_BYTES;
@@ -13,28 +13,22 @@ use rule::Refusal;
 use verdict::Instance;
 ghost use mathlib.Core.Path.{_≡_};
 ghost use mathlib.Core.Bool.{_&&_, cond};
-ghost use mathlib.Core.List.{List};
-ghost use Prim.Native.Nat.{ℕ, _*_, _≤_};
+ghost use mathlib.Core.List.{List, _++_};
+ghost use Prim.Native.Nat.{_-_, _*_, _≤_};
 ghost use lib.Dec.{eqb};
-ghost use lib.IntN.{pos};
+ghost use lib.IntN.{ℤ, pos};
 ghost use lib.ListN.{length, replicate};
 ghost use Rattle.rule.specs.Limits.{frameLimit, frameBytes};
-ghost use Rattle.rule.specs.Frames.{frameCount};
 ghost use Rattle.rule.specs.Check.{checkedOf};
 ghost use Rattle.rule.specs.CheckTold as checking;
 ghost use Rattle.rule.specs.declared.Refusal.{Refusal};
 ghost use Rattle.checker.specs.Limits.{windowWords};
 ghost use Rattle.checker.specs.Base.{firstFor};
-ghost use Rattle.checker.specs.Profile.{withinMost, profileNumber};
-ghost use Rattle.checker.specs.State.{tallyFrom, stateWith};
+ghost use Rattle.checker.specs.Profile.{withinMost};
+ghost use Rattle.checker.specs.State.{zeroState, freshState};
 ghost use Rattle.checker.specs.Open.{widthFits, openDef, openOutcome};
-ghost use Rattle.checker.specs.Parts.{stateOf, framesIn, openedOf};
-
-// What opening by parts gives: its answer, and the fields of the state beside its frames.
-pub struct OpenedFields {
-    pub answer: OpenAnswer,
-    pub fields: Fields,
-}
+ghost use Rattle.checker.specs.Decided.{Decided};
+ghost use Rattle.checker.specs.declared.Profile.the-variants.{Desk, Board};
 
 // Whether W is 1 to 256.
 pub fn width_fits(width: u32) -> bool
@@ -62,42 +56,49 @@ fn clear(window: &mut [i32])
     }
 }
 
-// The first n frames of a slice, and zero after the last.
-pub fn opened_frames(frames: &[u8], n: u32) -> [u8; 512]
-    requires { ⌜ (n * frameBytes ≤ length (now frames)) × (n ≤ frameLimit) ⌝ }
-    ensures { λ r. ⌜ r ≡ framesIn (now (frames .entry)) n ⌝ }
+// The frames, and zero after the last.
+fn copied(frames: &[u8]) -> [u8; 512]
+    requires { ⌜ length (now frames) ≤ frameLimit * frameBytes ⌝ }
+    ensures { λ r. ⌜ r ≡ now (frames .entry) ++ replicate (frameLimit * frameBytes - length (now (frames .entry))) 0 ⌝ }
 {
-    let end = n as usize * FRAME_BYTES;
     let mut out = [0u8; 512];
     let mut k = 0;
-    while k < end {
+    while k < frames.len() {
         out[k] = frames[k];
         k += 1;
     }
     out
 }
 
-// The fields of the state that an unrefused opening gives back.
-fn fresh(profile: Profile, frames: &[u8], width: u32) -> Fields
-    requires { ⌜ checkedOf (now frames) ≡ checking.accepted ⌝ }
-    ensures { λ r. ⌜ ((fs : List ℕ) → stateOf fs r
-        ≡ stateWith fs (frameCount (now (frames .entry))) width (profileNumber profile)
-        (tallyFrom (firstFor (now (frames .entry))))) ⌝ }
+// What an unrefused opening gives back.
+fn fresh(profile: Profile, frames: &[u8], width: u32, first: Instance) -> Opened
+    requires { ⌜ (checkedOf (now frames) ≡ checking.accepted) × (first .0 ≡ firstFor (now frames)) ⌝ }
+    ensures { λ r. ⌜ r ≡ record { answer = OpenAnswer.Opened; state = freshState profile (now (frames .entry)) width } ⌝ }
 {
-    let starts = base::starts_at(frames, Instance(0));
     let n = (frames.len() / FRAME_BYTES) as u32;
     let number = profiles::number_of(profile);
-    parts::first_fields(n, width, number, starts.first)
+    let bytes = copied(frames);
+    Opened {
+        answer: OpenAnswer::Opened,
+        state: parts::at_first(bytes, n, width, number, first),
+    }
+}
+
+// The state that is zero throughout.
+fn zero() -> State
+    ensures { λ r. ⌜ r ≡ zeroState ⌝ }
+{
+    let bytes = [0u8; 512];
+    parts::at_first(bytes, 0, 0, 0, Instance(0))
 }
 
 // A refusal hands back the state that is zero throughout.
-fn refuse(why: Refusal) -> OpenedFields
-    ensures { λ r. ⌜ (r .answer ≡ OpenAnswer.Refused why)
-        × ((fs : List ℕ) → stateOf fs (r .fields) ≡ stateWith fs 0 0 0 (tallyFrom 0)) ⌝ }
+fn refuse(why: Refusal) -> Opened
+    ensures { λ r. ⌜ r ≡ record { answer = OpenAnswer.Refused why; state = zeroState } ⌝ }
 {
-    OpenedFields {
+    Opened {
         answer: OpenAnswer::Refused(why),
-        fields: parts::first_fields(0, 0, 0, Instance(0)),
+        state: zero(),
     }
 }
 
@@ -117,27 +118,45 @@ fn refusal_of(profile: Profile, n: usize, width: u32, words: usize) -> u8
     }
 }
 
-// Opens a checker by parts, for desk and board, every slice of frames, every W and every window.
-pub fn open_parts(profile: Profile, frames: &[u8], width: u32, window: &mut [i32]) -> OpenedFields
-    ensures { λ r. ⌜ (openOutcome (openedOf (framesIn (now (frames .entry)) (r .fields .len)) r) (now (window .exit))
-        ≡ openDef profile (now (frames .entry)) width (now (window .entry)))
-        × ((r .fields .len * frameBytes ≤ length (now (frames .entry))) × (r .fields .len ≤ frameLimit)) ⌝ }
+// What opening decides before it writes: the first refusal that holds, or the number 0.
+fn decide(profile: Profile, frames: &[u8], width: u32, words: usize) -> Refusal
+    ensures { λ r. ⌜ ((win : List ℤ) → length win ≡ words → Decided profile (now (frames .entry)) width win r) ⌝ }
 {
     let checked = rule::check(frames);
     match checked {
-        Checked::Refused(why) => refuse(why),
+        Checked::Refused(why) => why,
         Checked::Accepted => {
-            let number = refusal_of(profile, frames.len() / FRAME_BYTES, width, window.len());
-            if number == 0 {
-                clear(window);
-                OpenedFields {
-                    answer: OpenAnswer::Opened,
-                    fields: fresh(profile, frames, width),
-                }
-            } else {
-                refuse(Refusal { number, place: 0 })
-            }
+            let number = refusal_of(profile, frames.len() / FRAME_BYTES, width, words);
+            Refusal { number, place: 0 }
         }
+    }
+}
+
+// Opens a checker for the desk, for every slice of frames, every W and every window.
+pub fn open_desk(frames: &[u8], width: u32, window: &mut [i32]) -> Opened
+    ensures { λ r. ⌜ openOutcome r (now (window .exit)) ≡ openDef Desk (now (frames .entry)) width (now (window .entry)) ⌝ }
+{
+    let why = decide(Profile::Desk, frames, width, window.len());
+    if why.number == 0 {
+        let starts = base::starts_at(frames, Instance(0));
+        clear(window);
+        fresh(Profile::Desk, frames, width, starts.first)
+    } else {
+        refuse(why)
+    }
+}
+
+// Opens a checker for the board, in the same way.
+pub fn open_board(frames: &[u8], width: u32, window: &mut [i32]) -> Opened
+    ensures { λ r. ⌜ openOutcome r (now (window .exit)) ≡ openDef Board (now (frames .entry)) width (now (window .entry)) ⌝ }
+{
+    let why = decide(Profile::Board, frames, width, window.len());
+    if why.number == 0 {
+        let starts = base::starts_at(frames, Instance(0));
+        clear(window);
+        fresh(Profile::Board, frames, width, starts.first)
+    } else {
+        refuse(why)
     }
 }
 
@@ -146,12 +165,8 @@ pub fn open(profile: Profile, frames: &[u8], width: u32, window: &mut [i32]) -> 
     ensures { λ r. ⌜ openOutcome r (now (window .exit))
         ≡ openDef profile (now (frames .entry)) width (now (window .entry)) ⌝ }
 {
-    let opened = open_parts(profile, frames, width, window);
-    let answer = opened.answer;
-    let fields = opened.fields;
-    let bytes = opened_frames(frames, fields.len);
-    Opened {
-        answer,
-        state: parts::with_fields(bytes, fields),
+    match profile {
+        Profile::Desk => open_desk(frames, width, window),
+        Profile::Board => open_board(frames, width, window),
     }
 }

@@ -59,9 +59,9 @@ pub fn with_fields(frames: [u8; 512], f: Fields) -> State
     }
 }
 
-// The fields of a state with no line counted and no verdict pulled.
-pub fn first_fields(len: u32, width: u32, profile: u32, next: Instance) -> Fields
-    ensures { λ r. ⌜ ((fs : List ℕ) → stateOf fs r ≡ stateWith fs len width profile (tallyFrom (next .0))) ⌝ }
+// A state with no line counted and no verdict pulled.
+pub fn at_first(frames: [u8; 512], len: u32, width: u32, profile: u32, next: Instance) -> State
+    ensures { λ r. ⌜ r ≡ stateWith frames len width profile (tallyFrom (next .0)) ⌝ }
 {
     let counts = [0u32; 8];
     let totals = Totals {
@@ -69,7 +69,8 @@ pub fn first_fields(len: u32, width: u32, profile: u32, next: Instance) -> Field
         failed: 0,
         unknown: 0,
     };
-    Fields {
+    State {
+        frames,
         len,
         width,
         profile,

@@ -2,7 +2,6 @@
 // and the charge for rework, as C has them, answers as numbers. include/dillplatter.h declares them and says what each one does.
 mod told; // told.rt: answers as numbers
 
-use checker::Profile;
 use checker::State;
 use checker::Tariff;
 use told::ChargeResult;
@@ -48,13 +47,12 @@ pub extern "C" fn dillplatter_open(frames: &[u8], width: u32, window: &mut [i32]
     ensures { λ r. ⌜ callOutcome r (now (window .exit))
         ≡ openNumbers (openDef Desk (now (frames .entry)) width (now (window .entry))) ⌝ }
 {
-    let opened = checker::open_parts(Profile::Desk, frames, width, window);
+    let opened = checker::open_desk(frames, width, window);
+    let state = opened.state;
     let a = opened.answer;
     let opening = told::opening(a);
-    let fields = opened.fields;
-    let bytes = checker::opened_frames(frames, fields.len);
     CallResult {
-        state: checker::with_fields(bytes, fields),
+        state,
         answer: opening.answer,
         number: opening.number,
         place: opening.place,
@@ -71,13 +69,12 @@ pub extern "C" fn dillplatter_open_board(
     ensures { λ r. ⌜ callOutcome r (now (window .exit))
         ≡ openNumbers (openDef Board (now (frames .entry)) width (now (window .entry))) ⌝ }
 {
-    let opened = checker::open_parts(Profile::Board, frames, width, window);
+    let opened = checker::open_board(frames, width, window);
+    let state = opened.state;
     let a = opened.answer;
     let board_opening = told::opening(a);
-    let fields = opened.fields;
-    let bytes = checker::opened_frames(frames, fields.len);
     CallResult {
-        state: checker::with_fields(bytes, fields),
+        state,
         answer: board_opening.answer,
         number: board_opening.number,
         place: board_opening.place,

@@ -1,22 +1,19 @@
 -- `checker::opening::open` meets its contract. Assumes nothing.
-use mathlib.Core.Path.{sym}
 use borrow.Author.Needs.{needs}
-use Rattle.checker.specs.Open.{openDef}
-use Rattle.checker.proofs.CodeOpen.{opened-whole}
 use Rattle.checker.proofs.opening.open.Statement.{statement}
 use Rattle.checker.proofs.opening.open.Tie as tie
 
-opened-frames-requires : tie.Need-opened-frames-requires
-opened-frames-requires c κs = c .before .before .open-parts .ensures .1
-
 returns : tie.Need-returns
 returns c =
-    let at-opened-frames = c .before in
-    let at-open-parts = at-opened-frames .before .before .before in
-    let entry = at-open-parts .before .before .before in
-    let a = entry .args in
-    opened-whole (at-open-parts .open-parts .result) (c .with-fields .result) (openDef (a .profile) (a .frames .now) (a .width) (a .window .now))
-    (rw (sym (at-opened-frames .opened-frames .ensures)) (c .with-fields .ensures)) (at-open-parts .open-parts .ensures .0)
+    let at-open-desk = c .before in
+    let at-enum-told = at-open-desk .before .before in
+    rw (at-enum-told .enum-told .given .1) (at-open-desk .open-desk .ensures)
+
+returns-2 : tie.Need-returns-2
+returns-2 c =
+    let at-open-board = c .before in
+    let at-enum-told2 = at-open-board .before .before in
+    rw (at-enum-told2 .enum-told2 .given .1) (at-open-board .open-board .ensures)
 
 pub open-spec : {M : Type 1} → statement M
-open-spec = tie.close (tie.spec (λ c κs. search needs) opened-frames-requires (λ c κs. search needs) (λ c. search needs) returns)
+open-spec = tie.close (tie.spec (λ c. search needs) (λ c κs. search needs) (λ c. search needs) (λ c κs. search needs) (λ c. search needs) returns (λ c. search needs) returns-2)
