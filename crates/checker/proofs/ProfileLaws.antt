@@ -1,9 +1,9 @@
 -- Desk and board: what the number in a state says of W and of the frames. Assumes nothing.
-use mathlib.Core.Path.{_≡_, refl}
-use mathlib.Core.Bool.{Bool, true, false, _&&_, cond}
+use mathlib.Core.Path.{_≡_, refl, sym, ap}
+use mathlib.Core.Bool.{Bool, true, false, _&&_, _||_}
 use Prim.Native.Nat.{ℕ, _≤_}
 use native.Mathlib.Omega.{arith}
-use borrow.Author.Tests.{leb-true, le-leb, eqb-true}
+use borrow.Author.Tests.{leb-true, le-leb, eqb-true, ne-eqb}
 use lib.Dec.{leb, eqb}
 use Rattle.numbers.proofs.Bools.{and-true, true-and}
 use Rattle.rule.specs.Limits.{frameLimit}
@@ -24,8 +24,19 @@ within-by profile w n a b =
 
 -- so they are by its number
 pub number-passes : (profile : Profile) (w n : ℕ) → withinMost profile w n ≡ true → profilePasses (profileNumber profile) w n ≡ true
-number-passes Desk w n e = e
+number-passes Desk w n e = ap (λ (t : Bool). t || (eqb 0 1 && withinMost Board w n)) e
 number-passes Board w n e = e
+
+-- the two cases by which the code goes
+pub passes-desk : (w n : ℕ) → withinMost Desk w n ≡ profilePasses 0 w n
+passes-desk w n = go (withinMost Desk w n)
+  where
+    go : (t : Bool) → t ≡ (t || (eqb 0 1 && withinMost Board w n))
+    go true = refl
+    go false = refl
+
+pub passes-other : (number w n : ℕ) → (number ≡ 0 → ⊥) → (eqb number 1 && withinMost Board w n) ≡ profilePasses number w n
+passes-other number w n h = ap (λ (t : Bool). (t && withinMost Desk w n) || (eqb number 1 && withinMost Board w n)) (sym (ne-eqb number 0 h))
 
 -- a number that passes is a profile's, with W and frames within its limits
 pub record Known (number w n : ℕ) : Type 0 where
@@ -34,16 +45,15 @@ pub record Known (number w n : ℕ) : Type 0 where
   pub within : withinMost profile w n ≡ true
 
 pub passes-known : (number w n : ℕ) → profilePasses number w n ≡ true → Known number w n
-passes-known number w n e = desk (eqb number 0) refl e
+passes-known number w n e = go (eqb number 0 && withinMost Desk w n) refl e
   where
-    board : (eqb number 1 && withinMost Board w n) ≡ true → Known number w n
-    board q =
-        let f = and-true (eqb number 1) (withinMost Board w n) q in
+    go : (t : Bool) → (eqb number 0 && withinMost Desk w n) ≡ t → (t || (eqb number 1 && withinMost Board w n)) ≡ true → Known number w n
+    go true q h =
+        let f = and-true (eqb number 0) (withinMost Desk w n) q in
+        record { profile = Desk; number-of = eqb-true number 0 (f .0); within = f .1 }
+    go false q h =
+        let f = and-true (eqb number 1) (withinMost Board w n) h in
         record { profile = Board; number-of = eqb-true number 1 (f .0); within = f .1 }
-
-    desk : (t : Bool) → eqb number 0 ≡ t → cond t (withinMost Desk w n) (eqb number 1 && withinMost Board w n) ≡ true → Known number w n
-    desk true q h = record { profile = Desk; number-of = eqb-true number 0 q; within = h }
-    desk false q h = board h
 
 -- the desk's limits hold of every profile
 pub most-desk : (profile : Profile) → (widthMost profile ≤ widthLimit) × (framesMost profile ≤ frameLimit)

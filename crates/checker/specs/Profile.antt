@@ -1,6 +1,6 @@
 -- Desk or board: which limits of W and of frames a checker keeps to. From document 02, point 9, "The board inside the plotter".
 -- Assumes nothing: definitions.
-use mathlib.Core.Bool.{Bool, _&&_, cond}
+use mathlib.Core.Bool.{Bool, _&&_, _||_}
 use Prim.Native.Nat.{ℕ}
 use lib.Dec.{leb, eqb}
 use Rattle.rule.specs.Limits.{frameLimit}
@@ -27,7 +27,7 @@ abbrev pub profileNumber : Profile → ℕ
 profileNumber Desk = 0
 profileNumber Board = 1
 
--- not "a board state above them", by that number, nor a number that no opening gives
+-- by that number a desk's or a board's, and not "a board state above them"
 abbrev pub profilePasses : ℕ → ℕ → ℕ → Bool
 profilePasses number w n =
-    cond (eqb number (profileNumber Desk)) (withinMost Desk w n) (eqb number (profileNumber Board) && withinMost Board w n)
+    (eqb number (profileNumber Desk) && withinMost Desk w n) || (eqb number (profileNumber Board) && withinMost Board w n)

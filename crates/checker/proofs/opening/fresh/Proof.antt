@@ -1,8 +1,11 @@
 -- `checker::opening::fresh` meets its contract. Assumes nothing.
+use mathlib.Core.Path.{sym, ap}
 use native.Mathlib.Omega.{arith}
 use borrow.Author.Needs.{needs}
 use Rattle.rule.proofs.Laws.{passed}
 use Rattle.checker.specs.State.{freshState}
+use Rattle.checker.specs.declared.OpenAnswer.{OpenAnswer}
+use Rattle.checker.specs.declared.State.{State}
 use Rattle.checker.proofs.opening.fresh.Statement.{statement}
 use Rattle.checker.proofs.opening.fresh.Tie as tie
 
@@ -22,7 +25,8 @@ returns c =
     let at-copied = c .before in
     let at-number-of = at-copied .before in
     let entry = at-number-of .before .before in
-    rw (c .at-first .ensures, at-copied .copied .ensures, at-number-of .number-of .ensures, entry .pre .1)
+    rw (sym (at-copied .copied .ensures), sym (at-number-of .number-of .ensures), sym (entry .pre .1))
+    (ap (λ (s : State). record { answer = OpenAnswer.Opened; state = s }) (c .at-first .ensures))
 
 pub fresh-spec : {M : Type 1} → statement M
 fresh-spec = tie.close (tie.spec cast-n (λ c κs. search needs) copied-requires (λ c κs. search needs) returns)

@@ -1,10 +1,11 @@
 -- `checker::opening::open_desk` meets its contract. Assumes nothing.
-use mathlib.Core.Path.{refl, ap, _∙_}
+use mathlib.Core.Path.{_≡_, refl, ap, _∙_}
 use Prim.Native.Nat.{ℕ}
 use native.Mathlib.Omega.{arith}
 use lib.IntN.{pos}
 use lib.ListN.{replicate}
-use Rattle.checker.specs.Open.{openOutcome}
+use Rattle.checker.specs.Open.{openedAs, notOpened, openDef, openOutcome}
+use Rattle.checker.specs.declared.Profile.the-variants.{Desk}
 use Rattle.checker.specs.declared.Opened.{Opened}
 use borrow.Author.Needs.{needs}
 use Rattle.checker.proofs.opening.open_desk.Statement.{statement}
@@ -29,17 +30,21 @@ returns c =
     let at-clear = c .before .before in
     let at-if1 = at-clear .before .before .before in
     let at-decide = at-if1 .before .before in
-    let win = at-decide .before .before .args .window .now in
+    let a = at-decide .before .before .args in
+    let win = a .window .now in
     let d = at-decide .decide .ensures win refl in
+    let o : openDef Desk (a .frames .now) (a .width) win ≡ openedAs Desk (a .frames .now) (a .width) = d .opens (at-if1 .if1 .taken) in
     let w = at-clear .clear .ensures ∙ ap (λ (n : ℕ). replicate n (pos 0)) (d .long (at-if1 .if1 .taken)) in
-    rw (d .opens (at-if1 .if1 .taken), c .fresh .ensures, w)
+    rw (o, c .fresh .ensures, w)
 
 returns-2 : tie.Need-returns-2
 returns-2 c =
     let at-decide = c .before .before .before in
-    let win = at-decide .before .before .args .window .now in
-    let d = at-decide .decide .ensures win refl in
-    rw (d .refuses (c .before .if1 .left)) (ap (λ (x : Opened). openOutcome x win) (c .refuse .ensures))
+    let a = at-decide .before .before .args in
+    let win = a .window .now in
+    let why = at-decide .decide .result in
+    let r : openDef Desk (a .frames .now) (a .width) win ≡ notOpened win (why .number) (why .place) = at-decide .decide .ensures win refl .refuses (c .before .if1 .left) in
+    rw r (ap (λ (x : Opened). openOutcome x win) (c .refuse .ensures))
 
 pub open-desk-spec : {M : Type 1} → statement M
 open-desk-spec = tie.close (tie.spec (λ c κs. search needs) starts-at-requires (λ c κs. search needs) fresh-requires (λ c κs. search needs) (λ c. search needs) returns returns-2)
