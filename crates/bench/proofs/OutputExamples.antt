@@ -29,8 +29,9 @@ use Rattle.log.specs.Digit.{digitValue}
 use Rattle.log.specs.Line.{digitsAtFront, badPlace, lineOf}
 use Rattle.log.specs.Walk.{linesOf}
 use Rattle.checker.specs.Base.{ofEvent, referenced, smallest, base, someNotVoid, firstFrom, firstInstance}
-use Rattle.checker.specs.State.{stateWith, freshState, withTally}
+use Rattle.checker.specs.State.{stateWith, freshState, withTally, withSum}
 use Rattle.checker.specs.Ring.{stored, kept}
+use Rattle.checker.specs.Sum.{addedUp, sumOf}
 use Rattle.checker.specs.Open.{openDef}
 use Rattle.checker.specs.StateTest.{rulePasses, countPasses, allTo, tallyPasses, statePasses}
 use Rattle.checker.specs.Admission.{admission}
@@ -145,7 +146,7 @@ record Feeds : Type 0 where
   fourth : fedLine after3 line4 ≡ fed4
 
 feeds : Feeds
-unfolding kindOf referenceCount orderOf sizesFit treeOf checkedOf digitValue digitsAtFront badPlace lineOf ofEvent referenced smallest base someNotVoid firstFrom firstInstance rulePasses countPasses allTo tallyPasses statePasses admission withTally stored kept feedEvent feedDef reportBytes pullRead pullDef hexOf pulledOnce fedLine
+unfolding kindOf referenceCount orderOf sizesFit treeOf checkedOf digitValue digitsAtFront badPlace lineOf ofEvent referenced smallest base someNotVoid firstFrom firstInstance rulePasses countPasses allTo tallyPasses statePasses admission withTally withSum stored kept addedUp sumOf feedEvent feedDef reportBytes pullRead pullDef hexOf pulledOnce fedLine
 feeds = record { first = refl; second = refl; third = refl; fourth = refl }
 
 record Rests : Type 0 where
@@ -156,7 +157,7 @@ record Rests : Type 0 where
   fourth : Waits after4
 
 rests : Rests
-unfolding kindOf referenceCount orderOf sizesFit treeOf checkedOf digitValue digitsAtFront badPlace lineOf ofEvent referenced smallest base someNotVoid firstFrom firstInstance rulePasses countPasses allTo tallyPasses statePasses admission withTally stored kept feedEvent feedDef reportBytes pullRead pullDef hexOf pulledOnce fedLine
+unfolding kindOf referenceCount orderOf sizesFit treeOf checkedOf digitValue digitsAtFront badPlace lineOf ofEvent referenced smallest base someNotVoid firstFrom firstInstance rulePasses countPasses allTo tallyPasses statePasses admission withTally withSum stored kept addedUp sumOf feedEvent feedDef reportBytes pullRead pullDef hexOf pulledOnce fedLine
 rests =
     record {
       at-first = record { none = refl; same = refl };
@@ -168,11 +169,11 @@ rests =
 
 -- instance 0 is false, with its report; instance 1 is true
 false-0 : Pulls fed2 after2
-unfolding kindOf referenceCount orderOf sizesFit treeOf checkedOf digitValue digitsAtFront badPlace lineOf ofEvent referenced smallest base someNotVoid firstFrom firstInstance rulePasses countPasses allTo tallyPasses statePasses admission withTally stored kept feedEvent feedDef reportBytes pullRead pullDef hexOf pulledOnce fedLine
+unfolding kindOf referenceCount orderOf sizesFit treeOf checkedOf digitValue digitsAtFront badPlace lineOf ofEvent referenced smallest base someNotVoid firstFrom firstInstance rulePasses countPasses allTo tallyPasses statePasses admission withTally withSum stored kept addedUp sumOf feedEvent feedDef reportBytes pullRead pullDef hexOf pulledOnce fedLine
 false-0 = record { some = refl; then = refl }
 
 true-1 : Pulls fed4 after4
-unfolding kindOf referenceCount orderOf sizesFit treeOf checkedOf digitValue digitsAtFront badPlace lineOf ofEvent referenced smallest base someNotVoid firstFrom firstInstance rulePasses countPasses allTo tallyPasses statePasses admission withTally stored kept feedEvent feedDef reportBytes pullRead pullDef hexOf pulledOnce fedLine
+unfolding kindOf referenceCount orderOf sizesFit treeOf checkedOf digitValue digitsAtFront badPlace lineOf ofEvent referenced smallest base someNotVoid firstFrom firstInstance rulePasses countPasses allTo tallyPasses statePasses admission withTally withSum stored kept addedUp sumOf feedEvent feedDef reportBytes pullRead pullDef hexOf pulledOnce fedLine
 true-1 = record { some = refl; then = refl }
 
 -- opening, and the whole run
@@ -247,19 +248,19 @@ unfolding openDef freshState someNotVoid firstFrom firstInstance checkedOf kindO
 opens-3 = refl
 
 none-waits : Waits none3
-unfolding kindOf referenceCount orderOf sizesFit treeOf checkedOf digitValue digitsAtFront badPlace lineOf ofEvent referenced smallest base someNotVoid firstFrom firstInstance rulePasses countPasses allTo tallyPasses statePasses admission withTally stored kept feedEvent feedDef reportBytes pullRead pullDef hexOf pulledOnce fedLine
+unfolding kindOf referenceCount orderOf sizesFit treeOf checkedOf digitValue digitsAtFront badPlace lineOf ofEvent referenced smallest base someNotVoid firstFrom firstInstance rulePasses countPasses allTo tallyPasses statePasses admission withTally withSum stored kept addedUp sumOf feedEvent feedDef reportBytes pullRead pullDef hexOf pulledOnce fedLine
 none-waits = record { none = refl; same = refl }
 
 feeds-3 : fedLine none3 (bytes "00FFFFFFFF000000000000000000000000") ≡ fed3
-unfolding kindOf referenceCount orderOf sizesFit treeOf checkedOf digitValue digitsAtFront badPlace lineOf ofEvent referenced smallest base someNotVoid firstFrom firstInstance rulePasses countPasses allTo tallyPasses statePasses admission withTally stored kept feedEvent feedDef reportBytes pullRead pullDef hexOf pulledOnce fedLine
+unfolding kindOf referenceCount orderOf sizesFit treeOf checkedOf digitValue digitsAtFront badPlace lineOf ofEvent referenced smallest base someNotVoid firstFrom firstInstance rulePasses countPasses allTo tallyPasses statePasses admission withTally withSum stored kept addedUp sumOf feedEvent feedDef reportBytes pullRead pullDef hexOf pulledOnce fedLine
 feeds-3 = refl
 
 false-3 : Pulls fed3 one3
-unfolding kindOf referenceCount orderOf sizesFit treeOf checkedOf digitValue digitsAtFront badPlace lineOf ofEvent referenced smallest base someNotVoid firstFrom firstInstance rulePasses countPasses allTo tallyPasses statePasses admission withTally stored kept feedEvent feedDef reportBytes pullRead pullDef hexOf pulledOnce fedLine
+unfolding kindOf referenceCount orderOf sizesFit treeOf checkedOf digitValue digitsAtFront badPlace lineOf ofEvent referenced smallest base someNotVoid firstFrom firstInstance rulePasses countPasses allTo tallyPasses statePasses admission withTally withSum stored kept addedUp sumOf feedEvent feedDef reportBytes pullRead pullDef hexOf pulledOnce fedLine
 false-3 = record { some = refl; then = refl }
 
 one-waits : Waits one3
-unfolding kindOf referenceCount orderOf sizesFit treeOf checkedOf digitValue digitsAtFront badPlace lineOf ofEvent referenced smallest base someNotVoid firstFrom firstInstance rulePasses countPasses allTo tallyPasses statePasses admission withTally stored kept feedEvent feedDef reportBytes pullRead pullDef hexOf pulledOnce fedLine
+unfolding kindOf referenceCount orderOf sizesFit treeOf checkedOf digitValue digitsAtFront badPlace lineOf ofEvent referenced smallest base someNotVoid firstFrom firstInstance rulePasses countPasses allTo tallyPasses statePasses admission withTally withSum stored kept addedUp sumOf feedEvent feedDef reportBytes pullRead pullDef hexOf pulledOnce fedLine
 one-waits = record { none = refl; same = refl }
 
 begun-3 : begun (openedFor framesOf3) ≡ none3

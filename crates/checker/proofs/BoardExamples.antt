@@ -88,7 +88,7 @@ record Tested : Type 0 where
 abbrev stateOf : Tested → State
 stateOf x =
     stateWith (frames (x .len) ++ replicate (frameLimit * frameBytes - length (frames (x .len))) 0) (x .len) (x .width) (x .number)
-    (tallyFrom 0)
+    (tallyFrom 0) 0
 
 abbrev states : List Tested
 states =

@@ -19,8 +19,9 @@ use Rattle.verdict.specs.declared.Verdict.the-variants.{True, False, Unknown}
 use Rattle.checker.specs.Limits.{windowWords}
 use Rattle.checker.specs.Answer.{opened, accepted, waiting, verdict, refused}
 use Rattle.checker.specs.Base.{ofEvent, referenced, smallest, base, someNotVoid, firstFrom, firstInstance}
-use Rattle.checker.specs.State.{Tally, tallyIn, freshState, withTally}
+use Rattle.checker.specs.State.{Tally, tallyIn, freshState, withTally, withSum}
 use Rattle.checker.specs.Ring.{stored, kept}
+use Rattle.checker.specs.Sum.{addedUp, sumOf}
 use Rattle.checker.specs.Open.{openDef}
 use Rattle.checker.specs.StateTest.{rulePasses, countPasses, allTo, tallyPasses, statePasses}
 use Rattle.checker.specs.Admission.{admission}
@@ -243,6 +244,6 @@ pub record CallsShown (xs : List CallExample) : Type 0 where
   pub words : map (λ x. checkerAfter Desk (framesOf x) (x .width) (windowOf x) (x .calls) .words) xs ≡ map (λ x. x .words) xs
 
 pub calls-shown : CallsShown table
-unfolding kindOf referenceCount orderOf sizesFit treeOf checkedOf digitValue digitsAtFront badPlace lineOf ofEvent referenced smallest base someNotVoid firstFrom firstInstance freshState withTally stored kept openDef rulePasses countPasses allTo tallyPasses statePasses admission feedEvent feedDef reportBytes pullRead pullDef outs end tabulated joined moved
+unfolding kindOf referenceCount orderOf sizesFit treeOf checkedOf digitValue digitsAtFront badPlace lineOf ofEvent referenced smallest base someNotVoid firstFrom firstInstance freshState withTally withSum stored kept addedUp sumOf openDef rulePasses countPasses allTo tallyPasses statePasses admission feedEvent feedDef reportBytes pullRead pullDef outs end tabulated joined moved
 calls-shown =
     record { opening = refl; machine = refl; checker = refl; machine-tally = refl; checker-tally = refl; words = refl }

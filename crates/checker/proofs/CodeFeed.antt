@@ -11,7 +11,8 @@ use Rattle.rule.specs.Frames.{Bytes}
 use Rattle.log.specs.Line.{LineAnswer, lineOf}
 use Rattle.checker.specs.Limits.{lineLimit}
 use Rattle.checker.specs.Base.{referenced, base}
-use Rattle.checker.specs.State.{withLine, tallyIn, withTally, stateFrames, refsIn}
+use Rattle.checker.specs.State.{withLine, tallyIn, withTally, stateFrames, refsIn, withSum}
+use Rattle.checker.specs.Sum.{sumOf}
 use Rattle.checker.specs.Parts.{stateOf, fedOf}
 use Rattle.checker.specs.StateTest.{statePasses}
 use Rattle.checker.specs.Admission.{admitted, admission}
@@ -84,11 +85,12 @@ module _ (frames : List ℕ) (f : Fields) (win : List ℤ) (r : FedFields) (d : 
       → feedOutcome (fedOf frames r) win ≡ fedBy (stateOf frames f) win d
   refused-as number place e k = rw (e, k)
 
-pub taken-as : (frames : List ℕ) (f after : Fields) (win win′ : List ℤ) (d : FeedRead) (e : ℕ) (notes : List ℤ) → d ≡ taken e notes
-    → stateOf frames after ≡ withTally (stateOf frames f) (withLine (tallyIn (stateOf frames f)) e)
+pub taken-as : (frames : List ℕ) (f after : Fields) (sum : ℕ) (win win′ : List ℤ) (d : FeedRead) (e : ℕ) (notes : List ℤ) → d ≡ taken e notes
+    → stateOf frames after ≡ withSum (withTally (stateOf frames f) (withLine (tallyIn (stateOf frames f)) e)) sum
+    → sum ≡ sumOf win′
     → win′ ≡ fedBy (stateOf frames f) win (taken e notes) .words
     → feedOutcome (fedOf frames (record { answer = FeedAnswer.Accepted; fields = after })) win′ ≡ fedBy (stateOf frames f) win d
-taken-as frames f after win win′ d e notes k a b = rw (k, a, b)
+taken-as frames f after sum win win′ d e notes k a m b = rw (k, a, m, b)
 
 -- a state put together from what a feed by parts gives
 pub fed-whole : {frames : List ℕ} {win : List ℤ} (r : FedFields) (s : State) (d : FeedResult) → s ≡ stateOf frames (r .fields) → feedOutcome (fedOf frames r) win ≡ d

@@ -18,7 +18,7 @@ use Rattle.verdict.specs.Found.{instanceLimit}
 use Rattle.checker.specs.Limits.{widthLimit}
 use Rattle.checker.specs.Profile.{profilePasses}
 use Rattle.checker.specs.Base.{firstFor}
-use Rattle.checker.specs.State.{sumOf, tallyIn, stateFrames, refsIn}
+use Rattle.checker.specs.State.{totalsSum, tallyIn, stateFrames, refsIn}
 use Rattle.checker.specs.Open.{widthFits}
 use Rattle.checker.specs.StateTest.{isAccepted, allTo, totalsPass, rulePasses, tallyPasses, statePasses}
 use Rattle.checker.specs.BasePass.{basesOf, countFits, ruleFits, tallyFits}
@@ -84,17 +84,17 @@ unfolding statePasses rulePasses
 bad-by s q = sym (ap (λ (x : Bool). x && tallyPasses (refsIn s) (s .width) (tallyIn s)) q)
 
 -- one equation says both that p is not below the first instance and what the totals sum to
-pub sum-from : (first p : ℕ) (t : Totals) → eqb (first + sumOf t) p ≡ totalsPass first p t
-sum-from first p t = ⊎-elim same other (same-or (first + sumOf t) p)
+pub sum-from : (first p : ℕ) (t : Totals) → eqb (first + totalsSum t) p ≡ totalsPass first p t
+sum-from first p t = ⊎-elim same other (same-or (first + totalsSum t) p)
   where
-    same : first + sumOf t ≡ p → eqb (first + sumOf t) p ≡ totalsPass first p t
+    same : first + totalsSum t ≡ p → eqb (first + totalsSum t) p ≡ totalsPass first p t
     same q =
-        eq-eqb (first + sumOf t) p q
-        ∙ sym (true-and (leb first p) (eqb (sumOf t) (p - first)) (le-leb first p (omega (arith, q))) (eq-eqb (sumOf t) (p - first) (omega (arith, q))))
+        eq-eqb (first + totalsSum t) p q
+        ∙ sym (true-and (leb first p) (eqb (totalsSum t) (p - first)) (le-leb first p (omega (arith, q))) (eq-eqb (totalsSum t) (p - first) (omega (arith, q))))
 
-    other : first + sumOf t ≢ p → eqb (first + sumOf t) p ≡ totalsPass first p t
+    other : first + totalsSum t ≢ p → eqb (first + totalsSum t) p ≡ totalsPass first p t
     other n =
-        ne-eqb (first + sumOf t) p n
+        ne-eqb (first + totalsSum t) p n
         ∙ sym (never-true (totalsPass first p t) (λ h. let f = totals-facts first p t h in n (omega (arith, f .0, f .1))))
 
 abbrev allFit : ℕ → List ℕ → List ℕ → Bool

@@ -31,6 +31,7 @@ use Rattle.checker.specs.Demand.{Unrefused, fresh}
 use Rattle.checker.specs.Machine.{tabulated, atFirst, tallyOf}
 use Rattle.checker.specs.declared.Profile.{Profile}
 use Rattle.checker.proofs.ProfileLaws.{number-passes}
+use Rattle.checker.proofs.SumLaws.{sum-zeros}
 use Rattle.checker.proofs.Bases as bases
 pub use Rattle.checker.proofs.Bases.{within-member}
 use Rattle.checker.proofs.Simulation.{Fine, Both, count-of}
@@ -120,6 +121,7 @@ both-fresh profile frames w b e m f =
             width = refl;
             tally = refl;
             long = length-replicate (windowWords w) (pos 0);
+            sum = sum-zeros (windowWords w);
             live = λ e k n he hb hk hn. absurd (omega arith);
           };
     }

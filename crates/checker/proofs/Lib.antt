@@ -1,6 +1,7 @@
--- Laws of choices, of the window's words, of bases, of tallies, and of what 12 and 13 let through.
+-- Laws of choices, of the window's words and their sum, of bases, of tallies, and of what 12, 13 and 27 let through.
 mod Choices
 mod Ring
+mod SumLaws
 mod Bases
 mod ProfileLaws
 mod Tallies
@@ -24,7 +25,8 @@ mod Exactly
 mod Openings
 mod Unchanged
 mod Told
--- Points of document 02: views, logs of the earlier edition, the rework tariff.
+-- Points of document 02: windows that differ in one word, views, logs of the earlier edition, the rework tariff.
+mod OneWord
 mod Views
 mod Earlier
 mod Prices
@@ -34,17 +36,18 @@ mod Marked
 mod CallExamples
 mod StartExamples
 mod BoardExamples
+mod SumExamples
 mod ViewExamples
 mod TariffExamples
 -- What the proofs of functions cite: opening, bases, the window, 12, feeding.
 mod CodeCopy
 mod CodeBase
 mod CodeRing
+mod WordBits
 mod CodeStateTest
 mod CodeOpen
 mod CodeFeed
 -- What the proofs of functions cite: marks and notes, the report, pulling.
-mod PullBits
 mod PullFound
 mod PullReport
 mod PullOffer

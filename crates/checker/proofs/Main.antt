@@ -33,6 +33,7 @@ use Rattle.checker.specs.Base.{referenced, startAt, smallest, base, Refe
 use Rattle.checker.specs.BasePass.{firstOf}
 use Rattle.checker.specs.State.{tallyIn, stateFrames, zeroState, SameRule}
 use Rattle.checker.specs.Ring.{wordAt}
+use Rattle.checker.specs.Sum.{sumOf}
 use Rattle.checker.specs.Open.{openDef}
 use Rattle.checker.specs.StateTest.{statePasses, Passing}
 use Rattle.checker.specs.Feed.{feedDef}
@@ -41,6 +42,7 @@ use Rattle.checker.specs.Calls.{Call, Out, outs, checker}
 use Rattle.checker.specs.Machine.{atFirst, tallyOf, machineFor}
 use Rattle.checker.specs.Demand.{Unrefused, fresh, answerOf, instancesFrom, countIn, totalsOf, checkerAfter, machineAfter, handedOut, ThirdDemand, acceptedIn, Reordered}
 use Rattle.checker.specs.Demand.{reportsOut, Reported, ReportedTwice}
+use Rattle.checker.specs.OneWord.{Words, OneWordApart, LetThrough}
 use Rattle.checker.specs.View.{viewDef, viewsOut, reportedOut, seen}
 use Rattle.checker.specs.Earlier.{RaisedLog}
 use Rattle.checker.specs.Tariff.{priceLimit, bandsOf, priceSum, centsOf, cents, turned, chargeTold, chargeDef, BandsRise, PricesInRange, ChargeRefused}
@@ -71,6 +73,7 @@ use Rattle.checker.proofs.Unchanged
 use Rattle.checker.proofs.Stays
 use Rattle.checker.proofs.Bases
 use Rattle.checker.proofs.Passes
+use Rattle.checker.proofs.OneWord
 use Rattle.checker.proofs.Told
 
 -- ---- a list of calls, whatever its lines and report buffers, from an unrefused opening, of desk or board, whatever W
@@ -94,14 +97,15 @@ module _ {profile : Profile} {frames : List ℕ} {w : ℕ} {win : List ℤ} (o :
       × (checkerAfter profile frames w win cs .state .totals ≡ totalsOf (handedOut profile frames w win cs))
   third-totals = Sums.sums o cs
 
-  -- 12 and 13 never come
-  pub never-12-13 : (x : Out) → List·Memᴰ x (outs checker cs (fresh profile frames w win)) → (place : ℕ) → (answerOf x ≢ refused 12 place) × (answerOf x ≢ refused 13 place)
-  never-12-13 = Never.never o cs
+  -- 12, 13 and 27 never come
+  pub never-12-13-27 : (x : Out) → List·Memᴰ x (outs checker cs (fresh profile frames w win)) → (place : ℕ)
+      → (answerOf x ≢ refused 12 place) × ((answerOf x ≢ refused 13 place) × (answerOf x ≢ refused 27 place))
+  never-12-13-27 = Never.never o cs
 
   -- the five together: "The third demand is a single claim about the whole list and not one for each call"
   pub third-demand : ThirdDemand profile frames w win cs
   third-demand =
-      record { answers = third-answers; state = third-state; final = third-final; totals = third-totals; never-12-13 = never-12-13 }
+      record { answers = third-answers; state = third-state; final = third-final; totals = third-totals; never-12-13-27 = never-12-13-27 }
 
   -- one call more: 'waiting' exactly where the buffer is long enough and the next instance is not settled by the machine's lists
   pub waiting-exactly : (buffer : List ℕ)
@@ -317,6 +321,35 @@ feed-12-exactly = Passes.feed-12-exactly
 
 pub pull-12-exactly : (s : State) (win : List ℤ) (buffer : List ℕ) → (pullDef s win buffer .answer ≡ refused 12 0) ↔ (Passing s → ⊥)
 pull-12-exactly = Passes.pull-12-exactly
+
+-- ---- document 02, point 11: 27 comes exactly where 12 and 13 do not and the state's sum is not that of the window's words, whatever
+-- the line and the buffer
+pub feed-27-exactly : (s : State) (win : List ℤ) (line : List ℕ)
+    → (feedDef s win line .answer ≡ refused 27 0) ↔ (Passing s × ((length win ≡ windowWords (s .width)) × (s .sum ≢ sumOf win)))
+feed-27-exactly = Passes.feed-27-exactly
+
+pub pull-27-exactly : (s : State) (win : List ℤ) (buffer : List ℕ)
+    → (pullDef s win buffer .answer ≡ refused 27 0) ↔ (Passing s × ((length win ≡ windowWords (s .width)) × (s .sum ≢ sumOf win)))
+pull-27-exactly = Passes.pull-27-exactly
+
+-- "A window that differs in just one word .. is always refused": where some call would not refuse a state and a window with 12, 13 or
+-- 27, every feed and pull with that state refuses every window that differs from it in one word with 27, whatever the line and the
+-- buffer
+pub one-word-shows : (s : State) (win win′ : List ℤ) → Words win → Words win′ → OneWordApart win win′
+    → (c : Call) → LetThrough (answerOf (checker (record { state = s; words = win }) c .out))
+    → (c′ : Call) → answerOf (checker (record { state = s; words = win′ }) c′ .out) ≡ refused 27 0
+one-word-shows = OneWord.one-word-shows
+
+-- so it is of the window that a list of calls left with its state
+pub one-word-shows-after : {profile : Profile} {frames : List ℕ} {w : ℕ} {win : List ℤ} → Unrefused profile frames w win → (cs : List Call)
+    → Words (checkerAfter profile frames w win cs .words) → (win′ : List ℤ) → Words win′ → OneWordApart (checkerAfter profile frames w win cs .words) win′
+    → (c : Call) → answerOf (checker (record { state = checkerAfter profile frames w win cs .state; words = win′ }) c .out) ≡ refused 27 0
+one-word-shows-after = OneWord.one-word-shows-after
+
+-- and its state's sum is that of the window's words
+pub sum-stays : {profile : Profile} {frames : List ℕ} {w : ℕ} {win : List ℤ} → Unrefused profile frames w win → (cs : List Call)
+    → checkerAfter profile frames w win cs .state .sum ≡ sumOf (checkerAfter profile frames w win cs .words)
+sum-stays = OneWord.sum-stays
 
 -- ---- bases, whatever the references, the event and p
 -- an event is referenced exactly where a reference names it

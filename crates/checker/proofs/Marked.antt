@@ -34,8 +34,9 @@ use Rattle.verdict.specs.declared.Verdict.the-variants.{True, False, Unknown}
 use Rattle.checker.specs.Limits.{windowWords, reportLeast}
 use Rattle.checker.specs.Answer.{Answer, opened, accepted, waiting, verdict, refused}
 use Rattle.checker.specs.Base.{ofEvent, referenced, smallest, base, someNotVoid, firstFrom, firstInstance}
-use Rattle.checker.specs.State.{freshState, withTally}
+use Rattle.checker.specs.State.{freshState, withTally, withSum}
 use Rattle.checker.specs.Ring.{stored, kept}
+use Rattle.checker.specs.Sum.{addedUp, sumOf}
 use Rattle.checker.specs.Open.{openDef}
 use Rattle.checker.specs.StateTest.{rulePasses, countPasses, allTo, tallyPasses, statePasses}
 use Rattle.checker.specs.Admission.{admission}
@@ -279,7 +280,7 @@ pub record Shown (xs : List Example) : Type 0 where
   pub checker : map byChecker xs ≡ map (λ x. x .answers) xs
 
 pub marked : Shown table
-unfolding classOf span same wordKind longestMark markWidth tokenKind widthOf tokenHere tokenAt tokensIn tokensFrom code nameCode decimalFrom decimal numberValue startFactor step finish run deeper position negated put acts judged readOf kindOf referenceCount orderOf sizesFit treeOf checkedOf digitValue digitsAtFront badPlace lineOf ofEvent referenced smallest base someNotVoid firstFrom firstInstance freshState withTally stored kept openDef rulePasses countPasses allTo tallyPasses statePasses admission feedEvent feedDef reportBytes pullRead pullDef outs tabulated joined moved
+unfolding classOf span same wordKind longestMark markWidth tokenKind widthOf tokenHere tokenAt tokensIn tokensFrom code nameCode decimalFrom decimal numberValue startFactor step finish run deeper position negated put acts judged readOf kindOf referenceCount orderOf sizesFit treeOf checkedOf digitValue digitsAtFront badPlace lineOf ofEvent referenced smallest base someNotVoid firstFrom firstInstance freshState withTally withSum stored kept addedUp sumOf openDef rulePasses countPasses allTo tallyPasses statePasses admission feedEvent feedDef reportBytes pullRead pullDef outs tabulated joined moved
 marked = record { reading = refl; opening = refl; machine = refl; checker = refl }
 
 -- ---- the report of the bench program's example: instance 0 false, two references, 40 and 10; later bytes keep
@@ -294,5 +295,5 @@ benchOuts =
 
 pub bench-report : (outs (machineFor (bytesOf (postfix latency)) 4) bench (atFirst (bytesOf (postfix latency))) ≡ benchOuts)
     × (outs checker bench (fresh Desk (bytesOf (postfix latency)) 4 (replicate (windowWords 4) (pos 7))) ≡ benchOuts)
-unfolding kindOf referenceCount orderOf sizesFit treeOf checkedOf digitValue digitsAtFront badPlace lineOf ofEvent referenced smallest base someNotVoid firstFrom firstInstance freshState withTally stored kept openDef rulePasses countPasses allTo tallyPasses statePasses admission feedEvent feedDef reportBytes pullRead pullDef outs tabulated joined moved
+unfolding kindOf referenceCount orderOf sizesFit treeOf checkedOf digitValue digitsAtFront badPlace lineOf ofEvent referenced smallest base someNotVoid firstFrom firstInstance freshState withTally withSum stored kept addedUp sumOf openDef rulePasses countPasses allTo tallyPasses statePasses admission feedEvent feedDef reportBytes pullRead pullDef outs tabulated joined moved
 bench-report = (refl, refl)

@@ -1,4 +1,4 @@
--- 12 and 13 do not come in a list of calls from a fresh checker. Assumes nothing.
+-- 12, 13 and 27 do not come in a list of calls from a fresh checker. Assumes nothing.
 use mathlib.Core.Path.{_≡_, sym, ap, subst}
 use mathlib.Core.List.{List, [], _∷_, List·Memᴰ, List·Memᴰ·cases-cons}
 use mathlib.Core.Logic.{⊎-elim, _≢_}
@@ -33,7 +33,7 @@ numberIn (verdict v) = 0
 numberIn (refused number place) = number
 
 abbrev pub Late : Answer → Type 0
-Late a = (numberIn a ≢ 12) × (numberIn a ≢ 13)
+Late a = (numberIn a ≢ 12) × ((numberIn a ≢ 13) × (numberIn a ≢ 27))
 
 pub line-number : (s : List ℕ) (refs : List Reference) (w : ℕ) (t : Tally) → Late (feedAnswer (feedRead refs w t (lineOf s)))
 unfolding lineOf feedEvent
@@ -41,17 +41,17 @@ line-number s refs w t =
     cond-case (λ (l : LineAnswer). Late (feedAnswer (feedRead refs w t l))) (isLine s) (log.line (byteAt s 0) (noteAt s 0) (noteAt s 1) (noteAt s 2) (noteAt s 3)) (log.refused 15 (badPlace s))
     (λ _. cond-case (λ (f : FeedRead). Late (feedAnswer f)) (referenced refs (byteAt s 0)) _ _
     (λ _. cond-case (λ (f : FeedRead). Late (feedAnswer f)) (leb lineLimit (countOf t (byteAt s 0))) _ _
-    (λ _. (λ q. omega (arith, q), λ q. omega (arith, q)))
+    (λ _. (λ q. omega (arith, q), (λ q. omega (arith, q), λ q. omega (arith, q))))
     (λ _. cond-case (λ (f : FeedRead). Late (feedAnswer f)) (leb (base refs (byteAt s 0) (t .next) + w) (countOf t (byteAt s 0))) _ _
-    (λ _. (λ q. omega (arith, q), λ q. omega (arith, q)))
-    (λ _. (λ q. omega (arith, q), λ q. omega (arith, q)))))
-    (λ _. (λ q. omega (arith, q), λ q. omega (arith, q))))
-    (λ _. (λ q. omega (arith, q), λ q. omega (arith, q)))
+    (λ _. (λ q. omega (arith, q), (λ q. omega (arith, q), λ q. omega (arith, q))))
+    (λ _. (λ q. omega (arith, q), (λ q. omega (arith, q), λ q. omega (arith, q))))))
+    (λ _. (λ q. omega (arith, q), (λ q. omega (arith, q), λ q. omega (arith, q)))))
+    (λ _. (λ q. omega (arith, q), (λ q. omega (arith, q), λ q. omega (arith, q))))
 
 pub pull-number : (x : PullRead) → Late (pullAnswer x)
-pull-number short = (λ q. omega (arith, q), λ q. omega (arith, q))
-pull-number waits = (λ q. omega (arith, q), λ q. omega (arith, q))
-pull-number (gave v) = (λ q. omega (arith, q), λ q. omega (arith, q))
+pull-number short = (λ q. omega (arith, q), (λ q. omega (arith, q), λ q. omega (arith, q)))
+pull-number waits = (λ q. omega (arith, q), (λ q. omega (arith, q), λ q. omega (arith, q)))
+pull-number (gave v) = (λ q. omega (arith, q), (λ q. omega (arith, q), λ q. omega (arith, q)))
 
 module _ (frames : List ℕ) (w : ℕ) where
   late-step : (m : Machine) (c : Call) → Late (answerOf (machineFor frames w m c .out))
@@ -68,7 +68,7 @@ module _ (frames : List ℕ) (w : ℕ) where
       (List·Memᴰ·cases-cons h)
 
 module _ {profile : Profile} {frames : List ℕ} {w : ℕ} {win : List ℤ} (o : Unrefused profile frames w win) (cs : List Call) where
-  pub never : (x : Out) → List·Memᴰ x (outs checker cs (fresh profile frames w win)) → (place : ℕ) → (answerOf x ≢ refused 12 place) × (answerOf x ≢ refused 13 place)
+  pub never : (x : Out) → List·Memᴰ x (outs checker cs (fresh profile frames w win)) → (place : ℕ) → (answerOf x ≢ refused 12 place) × ((answerOf x ≢ refused 13 place) × (answerOf x ≢ refused 27 place))
   never x h place =
       let l = late-all frames w cs (atFirst frames) x (subst (λ (os : List Out). List·Memᴰ x os) (lists.answers o cs) h) in
-      (λ q. l .0 (ap numberIn q), λ q. l .1 (ap numberIn q))
+      (λ q. l .0 (ap numberIn q), (λ q. l .1 .0 (ap numberIn q), λ q. l .1 .1 (ap numberIn q)))

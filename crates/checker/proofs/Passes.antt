@@ -1,12 +1,12 @@
 -- The states that 12 lets through are those of which none of the document's conditions holds; feeding and pulling refuse the others
--- with 12. Assumes nothing.
+-- with 12, and with 27 exactly where neither 12 nor 13 comes and the sums differ. Assumes nothing.
 use mathlib.Core.Path.{_≡_, refl, sym, ap, _∙_}
 use mathlib.Core.Bool.{Bool, true, false}
 use mathlib.Core.List.{List}
 use mathlib.Core.Logic.{_↔_, _≢_}
 use Prim.Native.Nat.{ℕ, _*_, _≤_}
 use native.Mathlib.Omega.{arith}
-use borrow.Author.Tests.{le-leb, eq-eqb}
+use borrow.Author.Tests.{le-leb, eqb-true, eqb-false, eq-eqb, ne-eqb}
 use lib.Dec.{leb}
 use lib.IntN.{ℤ, pos}
 use lib.ListN.{length, replicate, length-replicate, length-take}
@@ -15,19 +15,20 @@ use Rattle.rule.specs.Limits.{frameBytes}
 use Rattle.rule.specs.Frames.{frameCount}
 use Rattle.log.specs.Line.{lineOf}
 use Rattle.checker.specs.Limits.{widthLimit, windowWords}
-use Rattle.checker.specs.Answer.{opened, refused}
+use Rattle.checker.specs.Answer.{Answer, opened, refused}
 use Rattle.checker.specs.Profile.{widthMost, framesMost, profilePasses}
 use Rattle.checker.specs.Base.{referenced}
 use Rattle.checker.specs.State.{tallyIn, stateFrames, refsIn}
 use Rattle.checker.specs.Open.{OpenResult, widthFits, windowFits, openDef}
 use Rattle.checker.specs.StateTest.{isAccepted, rulePasses, statePasses, Passing}
-use Rattle.checker.specs.Admission.{Admission}
+use Rattle.checker.specs.Sum.{sumOf}
+use Rattle.checker.specs.Admission.{Admission, admitted, barred, admission}
 use Rattle.checker.specs.Feed.{FeedRead, turned, skipped, taken, feedAnswer, fedBy, lineIn, fedIf, feedDef}
-use Rattle.checker.specs.Pull.{nextIn, pulledIf, pullDef}
+use Rattle.checker.specs.Pull.{pullAnswer, nextIn, pulledIf, pullDef}
 use Rattle.checker.specs.declared.Profile.{Profile}
 use Rattle.checker.specs.declared.State.{State}
 use Rattle.checker.proofs.Choices.{never-true}
-use Rattle.checker.proofs.Admissions.{let-in, barred-12, barred-13}
+use Rattle.checker.proofs.Admissions.{barred-12, barred-27, by-12, by-27}
 use Rattle.checker.proofs.Bases.{referenced-exactly}
 use Rattle.checker.proofs.ProfileLaws.{within-facts, within-by, number-passes}
 use Rattle.checker.proofs.Tallies.{Sound, tally-good}
@@ -35,7 +36,7 @@ use Rattle.checker.proofs.Fresh.{passed}
 use Rattle.checker.proofs.CodeOpen.{past-frames}
 use Rattle.checker.proofs.Stays.{sound-in}
 use Rattle.checker.proofs.CodeStateTest.{good-facts}
-use Rattle.checker.proofs.Never.{numberIn, line-number, pull-number}
+use Rattle.checker.proofs.Never.{numberIn, Late, line-number, pull-number}
 
 -- ---- what passes
 module _ (s : State) (g : statePasses s ≡ true) where
@@ -110,44 +111,61 @@ module _ (s : State) (win : List ℤ) where
   fed-answer skipped = refl
   fed-answer (taken e notes) = refl
 
-  -- 12 does not come where the state passes
-  feed-other : statePasses s ≡ true → (line : List ℕ) → numberIn (feedDef s win line .answer) ≢ 12
+  -- a number that comes of 12, 13 and 27 only bars the state and the window
+  feed-bars : (line : List ℕ) (n : ℕ) → ((a : Answer) → Late a → numberIn a ≢ n) → numberIn (feedDef s win line .answer) ≡ n → admission s win ≡ barred n
   unfolding feedDef
-  feed-other g line = go (windowFits (s .width) win) refl
+  feed-bars line n late = go (admission s win)
     where
-      go : (t : Bool) → windowFits (s .width) win ≡ t → numberIn (feedDef s win line .answer) ≢ 12
-      go true l q =
-          line-number line (refsIn s) (s .width) (tallyIn s) .0
-          (ap numberIn (sym (ap (λ (a : Admission). fedIf s win line a .answer) (let-in s win g l) ∙ fed-answer (lineIn s (lineOf line)))) ∙ q)
-      go false l q =
-          let z : numberIn (feedDef s win line .answer) ≡ 13 = ap (λ (a : Admission). numberIn (fedIf s win line a .answer)) (barred-13 s win g l) in
-          omega (arith, z, q)
+      go : (a : Admission) → numberIn (fedIf s win line a .answer) ≡ n → a ≡ barred n
+      go admitted q = absurd (late (feedAnswer (lineIn s (lineOf line))) (line-number line (refsIn s) (s .width) (tallyIn s)) (ap numberIn (sym (fed-answer (lineIn s (lineOf line)))) ∙ q))
+      go (barred number) q = ap barred q
 
-  pull-other : statePasses s ≡ true → (buffer : List ℕ) → numberIn (pullDef s win buffer .answer) ≢ 12
+  pull-bars : (buffer : List ℕ) (n : ℕ) → ((a : Answer) → Late a → numberIn a ≢ n) → numberIn (pullDef s win buffer .answer) ≡ n → admission s win ≡ barred n
   unfolding pullDef
-  pull-other g buffer = go (windowFits (s .width) win) refl
+  pull-bars buffer n late = go (admission s win)
     where
-      go : (t : Bool) → windowFits (s .width) win ≡ t → numberIn (pullDef s win buffer .answer) ≢ 12
-      go true l q =
-          pull-number (nextIn s win (length buffer)) .0
-          (sym (ap (λ (a : Admission). numberIn (pulledIf s win buffer a .answer)) (let-in s win g l)) ∙ q)
-      go false l q =
-          let z : numberIn (pullDef s win buffer .answer) ≡ 13 = ap (λ (a : Admission). numberIn (pulledIf s win buffer a .answer)) (barred-13 s win g l) in
-          omega (arith, z, q)
+      go : (a : Admission) → numberIn (pulledIf s win buffer a .answer) ≡ n → a ≡ barred n
+      go admitted q = absurd (late (pullAnswer (nextIn s win (length buffer))) (pull-number (nextIn s win (length buffer))) q)
+      go (barred number) q = ap barred q
 
-  not-passing : (Passing s → ⊥) → statePasses s ≡ false
-  not-passing h = never-true (statePasses s) (λ g. h (passing-by s g))
+  -- ---- 12
+  bars-12 : (admission s win ≡ barred 12) ↔ (Passing s → ⊥)
+  bars-12 = (
+    λ q h. true-false (sym (by-passing s h) ∙ by-12 s win q),
+    λ h. barred-12 s win (never-true (statePasses s) (λ g. h (passing-by s g))),
+  )
 
   pub feed-12-exactly : (line : List ℕ) → (feedDef s win line .answer ≡ refused 12 0) ↔ (Passing s → ⊥)
   unfolding feedDef
   feed-12-exactly line = (
-    λ q h. feed-other (by-passing s h) line (ap numberIn q),
-    λ h. ap (λ (a : Admission). fedIf s win line a .answer) (barred-12 s win (not-passing h)),
+    λ q. bars-12 .0 (feed-bars line 12 (λ a l. l .0) (ap numberIn q)),
+    λ h. ap (λ (a : Admission). fedIf s win line a .answer) (bars-12 .1 h),
   )
 
   pub pull-12-exactly : (buffer : List ℕ) → (pullDef s win buffer .answer ≡ refused 12 0) ↔ (Passing s → ⊥)
   unfolding pullDef
   pull-12-exactly buffer = (
-    λ q h. pull-other (by-passing s h) buffer (ap numberIn q),
-    λ h. ap (λ (a : Admission). pulledIf s win buffer a .answer) (barred-12 s win (not-passing h)),
+    λ q. bars-12 .0 (pull-bars buffer 12 (λ a l. l .0) (ap numberIn q)),
+    λ h. ap (λ (a : Admission). pulledIf s win buffer a .answer) (bars-12 .1 h),
+  )
+
+  -- ---- 27
+  bars-27 : (admission s win ≡ barred 27) ↔ (Passing s × ((length win ≡ windowWords (s .width)) × (s .sum ≢ sumOf win)))
+  bars-27 = (
+    λ q. let t = by-27 s win q in (passing-by s (t .0), (eqb-true (length win) (windowWords (s .width)) (t .1 .0), eqb-false (s .sum) (sumOf win) (t .1 .1))),
+    λ h. barred-27 s win (by-passing s (h .0)) (eq-eqb (length win) (windowWords (s .width)) (h .1 .0)) (ne-eqb (s .sum) (sumOf win) (h .1 .1)),
+  )
+
+  pub feed-27-exactly : (line : List ℕ) → (feedDef s win line .answer ≡ refused 27 0) ↔ (Passing s × ((length win ≡ windowWords (s .width)) × (s .sum ≢ sumOf win)))
+  unfolding feedDef
+  feed-27-exactly line = (
+    λ q. bars-27 .0 (feed-bars line 27 (λ a l. l .1 .1) (ap numberIn q)),
+    λ h. ap (λ (a : Admission). fedIf s win line a .answer) (bars-27 .1 h),
+  )
+
+  pub pull-27-exactly : (buffer : List ℕ) → (pullDef s win buffer .answer ≡ refused 27 0) ↔ (Passing s × ((length win ≡ windowWords (s .width)) × (s .sum ≢ sumOf win)))
+  unfolding pullDef
+  pull-27-exactly buffer = (
+    λ q. bars-27 .0 (pull-bars buffer 27 (λ a l. l .1 .1) (ap numberIn q)),
+    λ h. ap (λ (a : Admission). pulledIf s win buffer a .answer) (bars-27 .1 h),
   )

@@ -30,8 +30,9 @@ use Rattle.verdict.proofs.Laws.{SameOn, found-same}
 use Rattle.checker.specs.Limits.{windowWords, lineLimit, reportLeast}
 use Rattle.checker.specs.Profile.{profilePasses}
 use Rattle.checker.specs.Base.{referenced, orZero, base}
-use Rattle.checker.specs.State.{Tally, countOf, tallyIn, stateFrames, refsIn, withLine, withVerdict, withTally}
+use Rattle.checker.specs.State.{Tally, countOf, tallyIn, stateFrames, refsIn, withLine, withVerdict, withTally, withSum}
 use Rattle.checker.specs.Ring.{wordAt, kept}
+use Rattle.checker.specs.Sum.{sumOf}
 use Rattle.checker.specs.Found.{byWindow, foundInWindow, givenInWindow}
 use Rattle.checker.specs.Open.{widthFits, windowFits}
 use Rattle.checker.specs.StateTest.{isAccepted, rulePasses, tallyPasses, statePasses}
@@ -66,6 +67,7 @@ pub record Sim (frames : List ℕ) (w : ℕ) (m : Machine) (k : Checker) : Type 
   pub width : k .state .width ≡ w
   pub tally : tallyIn (k .state) ≡ tallyOf m
   pub long : length (k .words) ≡ windowWords w
+  pub sum : k .state .sum ≡ sumOf (k .words)
   pub live : Live (references (treeOf frames)) w m (k .words)
 
 pub record Both (frames : List ℕ) (w : ℕ) (m : Machine) (k : Checker) : Type 0 where
@@ -223,7 +225,7 @@ module _ (frames : List ℕ) (w : ℕ) (ok : Fine frames w) where
         ap (λ (x : List ℕ). f (references (treeOf x)) (k .state .width) (tallyIn (k .state))) (b .sim .rule)
         ∙ ap₂ (f (references (treeOf frames))) (b .sim .width) (b .sim .tally)
 
-    -- ---- 12 and 13 do not come
+    -- ---- 12, 13 and 27 do not come
     pub good : statePasses (k .state) ≡ true
     unfolding statePasses rulePasses
     good =
@@ -237,7 +239,7 @@ module _ (frames : List ℕ) (w : ℕ) (ok : Fine frames w) where
     fits = eq-eqb (length (k .words)) (windowWords (k .state .width)) (b .sim .long ∙ ap windowWords (sym (b .sim .width)))
 
     pub in-step-stays : admission (k .state) (k .words) ≡ admitted
-    in-step-stays = let-in (k .state) (k .words) good fits
+    in-step-stays = let-in (k .state) (k .words) good fits (eq-eqb (k .state .sum) (sumOf (k .words)) (b .sim .sum))
 
     -- ---- feeding
     feed-eq : (line : List ℕ) → feedDef (k .state) (k .words) line ≡ fedBy (k .state) (k .words) (machineFeed (treeOf frames) w m line)
@@ -250,11 +252,12 @@ module _ (frames : List ℕ) (w : ℕ) (ok : Fine frames w) where
         → Sim frames w (joined m e notes) (record { state = fedBy (k .state) (k .words) (taken e notes) .state; words = fedBy (k .state) (k .words) (taken e notes) .words })
     sim-taken e notes he hw =
         record {
-          rule = unfold withTally in b .sim .rule;
-          len = unfold withTally in b .sim .len;
-          width = unfold withTally in b .sim .width;
-          tally = unfold withTally in (ap (λ (t : Tally). withLine t e) (b .sim .tally) ∙ tally-joined m e notes he);
+          rule = unfold withTally in unfold withSum in b .sim .rule;
+          len = unfold withTally in unfold withSum in b .sim .len;
+          width = unfold withTally in unfold withSum in b .sim .width;
+          tally = unfold withTally in unfold withSum in (ap (λ (t : Tally). withLine t e) (b .sim .tally) ∙ tally-joined m e notes he);
           long = rw words-kept (length-kept w (k .words) notes wide e (base refs e (m .next)) (length (m .lists e)) ∙ b .sim .long);
+          sum = unfold withSum in refl;
           live = rw words-kept (live-joined refs w m (k .words) wide (b .sim .long) (b .sim .live) e notes he hw);
         }
       where
@@ -329,6 +332,7 @@ module _ (frames : List ℕ) (w : ℕ) (ok : Fine frames w) where
                 width = unfold withTally in b .sim .width;
                 tally = unfold withTally in unfold moved in ap (λ (y : Tally). withVerdict y v) (b .sim .tally);
                 long = b .sim .long;
+                sum = unfold withTally in b .sim .sum;
                 live = unfold moved in λ e j n he hb hk hn. b .sim .live e j n he (omega (arith, base-mono refs e (m .next) (m .next + 1) (omega arith))) hk hn;
               };
         }

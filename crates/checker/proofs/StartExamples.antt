@@ -119,6 +119,7 @@ stateOf x =
       next = x .next;
       totals = record { held = x .held; failed = x .failed; unknown = x .unknown };
     })
+    0
 
 abbrev tallies : List TallyExample
 tallies =

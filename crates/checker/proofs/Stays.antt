@@ -1,4 +1,4 @@
--- A state and a window that 12 and 13 let through stay so: what a feed and a pull hand on passes them again, and so does a fresh one.
+-- A state and a window that 12, 13 and 27 let through stay so: what a feed and a pull hand on passes them again, and so does a fresh one.
 -- Assumes nothing.
 use mathlib.Core.Path.{_≡_, refl, sym, ap, _∙_, subst}
 use mathlib.Core.Bool.{true}
@@ -22,12 +22,13 @@ use Rattle.verdict.specs.declared.Verdict.{Verdict}
 use Rattle.checker.specs.Limits.{windowWords}
 use Rattle.checker.specs.Profile.{profileNumber}
 use Rattle.checker.specs.Base.{base}
-use Rattle.checker.specs.State.{Tally, countOf, tallyIn, stateFrames, ruleIn, refsIn, SameRule, withLine, withVerdict, withTally, freshState}
+use Rattle.checker.specs.State.{Tally, countOf, tallyIn, stateFrames, ruleIn, refsIn, SameRule, withLine, withVerdict, withTally, withSum, freshState}
+use Rattle.checker.specs.Sum.{sumOf}
 use Rattle.checker.specs.Found.{byWindow}
 use Rattle.checker.specs.Open.{OpenResult, openDef}
 use Rattle.checker.specs.Admission.{Admission, admitted, barred, admission}
 use Rattle.checker.specs.StateTest.{rulePasses, tallyPasses, statePasses}
-use Rattle.checker.specs.Feed.{FeedRead, turned, skipped, taken, fedBy, lineIn, fedIf, feedDef}
+use Rattle.checker.specs.Feed.{FeedRead, turned, skipped, taken, wordsWith, fedBy, lineIn, fedIf, feedDef}
 use Rattle.checker.specs.Pull.{PullRead, short, waits, gave, givenHere, foundHere, pulledBy, nextIn, pulledIf, pullDef}
 use Rattle.checker.specs.Calls.{Call, feed, pull, end, Checker, checker}
 use Rattle.checker.specs.Machine.{atFirst}
@@ -37,7 +38,7 @@ use Rattle.checker.specs.declared.State.{State}
 use Rattle.checker.proofs.Choices.{less-or}
 use Rattle.checker.proofs.Ring.{length-kept}
 use Rattle.checker.proofs.Bases.{late-pending}
-use Rattle.checker.proofs.Admissions.{let-in, in-good, in-long}
+use Rattle.checker.proofs.Admissions.{let-in, in-good, in-long, in-sum}
 use Rattle.checker.proofs.Tallies.{Sound, tally-facts, tally-good, sound-line, sound-verdict}
 use Rattle.checker.proofs.Simulation.{in-step-stays, Took, took, all-pending, verdict-settled, Gave, gave-judged}
 use Rattle.checker.proofs.Fresh.{passed, opened-fine, both-opened, within-member}
@@ -45,6 +46,11 @@ use Rattle.checker.proofs.CodeBase.{within-in}
 use Rattle.checker.proofs.CodeStateTest.{good-facts}
 
 -- ---- the state
+-- 12 does not look at the sum
+passes-sum : (s : State) (n : ℕ) → statePasses (withSum s n) ≡ statePasses s
+unfolding statePasses rulePasses withSum
+passes-sum s n = refl
+
 module _ (s : State) (g : statePasses s ≡ true) where
   pub sound-in : Sound (refsIn s) (s .width) (tallyIn s)
   unfolding statePasses
@@ -61,7 +67,9 @@ module _ (s : State) (g : statePasses s ≡ true) where
   fed-good : (win : List ℤ) (f : FeedRead) → Took (refsIn s) (s .width) (tallyIn s) f → statePasses (fedBy s win f .state) ≡ true
   fed-good win (turned number place) t = g
   fed-good win skipped t = g
-  fed-good win (taken e notes) t = good-with (withLine (tallyIn s) e) (sound-line (refsIn s) (s .width) (tallyIn s) sound-in e (t .0) (t .1) (t .2))
+  fed-good win (taken e notes) t =
+      passes-sum (withTally s (withLine (tallyIn s) e)) (sumOf (wordsWith s win e notes))
+      ∙ good-with (withLine (tallyIn s) e) (sound-line (refsIn s) (s .width) (tallyIn s) sound-in e (t .0) (t .1) (t .2))
 
   -- whatever the window and the line are
   pub good-feed : (win : List ℤ) (line : List ℕ) → statePasses (feedDef s win line .state) ≡ true
@@ -123,6 +131,34 @@ module _ (s : State) (g : statePasses s ≡ true) where
       go admitted = fed-long win (lineIn s (lineOf line))
       go (barred number) = refl
 
+-- ---- the state's sum stays that of the window
+module _ (s : State) (win : List ℤ) (q : s .sum ≡ sumOf win) where
+  fed-sum : (f : FeedRead) → fedBy s win f .state .sum ≡ sumOf (fedBy s win f .words)
+  fed-sum (turned number place) = q
+  fed-sum skipped = q
+  fed-sum (taken e notes) = unfold withSum in refl
+
+  feed-sum : (line : List ℕ) → feedDef s win line .state .sum ≡ sumOf (feedDef s win line .words)
+  unfolding feedDef
+  feed-sum line = go (admission s win)
+    where
+      go : (a : Admission) → fedIf s win line a .state .sum ≡ sumOf (fedIf s win line a .words)
+      go admitted = fed-sum (lineIn s (lineOf line))
+      go (barred number) = q
+
+  pulled-sum : (buffer : List ℕ) (x : PullRead) → pulledBy s win buffer x .state .sum ≡ sumOf win
+  pulled-sum buffer short = q
+  pulled-sum buffer waits = q
+  pulled-sum buffer (gave v) = unfold withTally in q
+
+  pull-sum : (buffer : List ℕ) → pullDef s win buffer .state .sum ≡ sumOf win
+  unfolding pullDef
+  pull-sum buffer = go (admission s win)
+    where
+      go : (a : Admission) → pulledIf s win buffer a .state .sum ≡ sumOf win
+      go admitted = pulled-sum buffer (nextIn s win (length buffer))
+      go (barred number) = q
+
 -- ---- the rule and W stay
 rule-same : (s : State) → SameRule s s
 rule-same s = record { frames = refl; len = refl; width = refl; profile = refl }
@@ -131,11 +167,15 @@ rule-with : (s : State) (t : Tally) → SameRule s (withTally s t)
 unfolding withTally
 rule-with s t = record { frames = refl; len = refl; width = refl; profile = refl }
 
+rule-sum : (s : State) (t : Tally) (n : ℕ) → SameRule s (withSum (withTally s t) n)
+unfolding withTally withSum
+rule-sum s t n = record { frames = refl; len = refl; width = refl; profile = refl }
+
 module _ (s : State) (win : List ℤ) where
   rule-fed : (f : FeedRead) → SameRule s (fedBy s win f .state)
   rule-fed (turned number place) = rule-same s
   rule-fed skipped = rule-same s
-  rule-fed (taken e notes) = rule-with s (withLine (tallyIn s) e)
+  rule-fed (taken e notes) = rule-sum s (withLine (tallyIn s) e) (sumOf (wordsWith s win e notes))
 
   pub feed-rule : (line : List ℕ) → SameRule s (feedDef s win line .state)
   unfolding feedDef
@@ -158,18 +198,18 @@ module _ (s : State) (win : List ℤ) where
       go admitted = rule-pulled buffer (nextIn s win (length buffer))
       go (barred number) = rule-same s
 
--- ---- what 12 and 13 let through stays so
+-- ---- what 12, 13 and 27 let through stays so
 module _ (s : State) (win : List ℤ) (a : admission s win ≡ admitted) where
   pub fed-stays : (line : List ℕ) → admission (feedDef s win line .state) (feedDef s win line .words) ≡ admitted
   fed-stays line =
       let g = in-good s win a in
       let l = feed-long s g win line ∙ in-long s win a ∙ ap windowWords (sym (feed-rule s win line .width)) in
-      let-in (feedDef s win line .state) (feedDef s win line .words) (good-feed s g win line) (eq-eqb _ _ l)
+      let-in (feedDef s win line .state) (feedDef s win line .words) (good-feed s g win line) (eq-eqb _ _ l) (eq-eqb _ _ (feed-sum s win (in-sum s win a) line))
 
   pub pulled-stays : Bytes (stateFrames s) → (buffer : List ℕ) → admission (pullDef s win buffer .state) win ≡ admitted
   pulled-stays b buffer =
       let l = in-long s win a ∙ ap windowWords (sym (pull-rule s win buffer .width)) in
-      let-in (pullDef s win buffer .state) win (good-pull s (in-good s win a) b win buffer) (eq-eqb _ _ l)
+      let-in (pullDef s win buffer .state) win (good-pull s (in-good s win a) b win buffer) (eq-eqb _ _ l) (eq-eqb _ _ (pull-sum s win (in-sum s win a) buffer))
 
 -- so is what an unrefused opening gives
 pub opened-stays : {profile : Profile} {frames : List ℕ} {w : ℕ} {win : List ℤ} → Unrefused profile frames w win → admission (openDef profile frames w win .state) (openDef profile frames w win .words) ≡ admitted

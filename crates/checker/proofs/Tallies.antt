@@ -16,7 +16,7 @@ use Rattle.verdict.specs.Found.{instanceLimit}
 use Rattle.verdict.specs.declared.Verdict.{Verdict}
 use Rattle.checker.specs.Limits.{lineLimit}
 use Rattle.checker.specs.Base.{referenced, base, firstInstance}
-use Rattle.checker.specs.State.{counted, sumOf, Tally, countOf, withLine, withVerdict}
+use Rattle.checker.specs.State.{counted, totalsSum, Tally, countOf, withLine, withVerdict}
 use Rattle.checker.specs.StateTest.{allTo, countPasses, totalsPass, tallyPasses}
 use Rattle.checker.specs.declared.Totals.{Totals}
 use Rattle.checker.proofs.Choices.{cond-case, less-or, same-or, allTo-true}
@@ -32,7 +32,7 @@ pub record Sound (refs : List Reference) (w : ℕ) (t : Tally) : Type 0 where
   pub counts : (e : ℕ) → e < 8 → Counts refs w t e
   pub low : t .next ≤ instanceLimit
   pub begun : firstInstance refs ≤ t .next
-  pub sum : sumOf (t .totals) ≡ t .next - firstInstance refs
+  pub sum : totalsSum (t .totals) ≡ t .next - firstInstance refs
 
 all-at : (n : ℕ) (f : ℕ → Bool) → allTo n f ≡ true → (e : ℕ) → e < n → f e ≡ true
 unfolding allTo
@@ -41,10 +41,10 @@ all-at (suc n) f h e l =
     let a = and-true (f n) (allTo n f) h in
     ⊎-elim (λ (q : e < n). all-at n f (a .1) e q) (λ (q : n ≤ e). let p : e ≡ n = omega arith in rw p (a .0)) (less-or e n)
 
-pub totals-facts : (first p : ℕ) (t : Totals) → totalsPass first p t ≡ true → (first ≤ p) × (sumOf t ≡ p - first)
+pub totals-facts : (first p : ℕ) (t : Totals) → totalsPass first p t ≡ true → (first ≤ p) × (totalsSum t ≡ p - first)
 totals-facts first p t e =
-    let a = and-true (leb first p) (eqb (sumOf t) (p - first)) e in
-    (leb-true first p (a .0), eqb-true (sumOf t) (p - first) (a .1))
+    let a = and-true (leb first p) (eqb (totalsSum t) (p - first)) e in
+    (leb-true first p (a .0), eqb-true (totalsSum t) (p - first) (a .1))
 
 module _ (refs : List Reference) (w : ℕ) (t : Tally) where
   count-facts : (e : ℕ) → countPasses refs w t e ≡ true → Counts refs w t e
@@ -84,7 +84,7 @@ module _ (refs : List Reference) (w : ℕ) (t : Tally) where
   tally-good x =
       true-and _ _ (allTo-true 8 (countPasses refs w t) (λ e l. count-good e (x .counts e l)))
       (true-and _ _ (le-leb (t .next) instanceLimit (x .low))
-      (true-and _ _ (le-leb (firstInstance refs) (t .next) (x .begun)) (eq-eqb (sumOf (t .totals)) (t .next - firstInstance refs) (x .sum))))
+      (true-and _ _ (le-leb (firstInstance refs) (t .next) (x .begun)) (eq-eqb (totalsSum (t .totals)) (t .next - firstInstance refs) (x .sum))))
 
 -- ---- a line is taken
 set-most : (xs : List ℕ) (e v : ℕ) → getD (set xs e v) e 0 ≤ v
@@ -111,7 +111,7 @@ module _ (refs : List Reference) (w : ℕ) (t : Tally) (x : Sound refs w t) wher
   sound-line e r h₁ h₂ = record { counts = λ f l. count-line e f l r h₁ h₂; low = x .low; begun = x .begun; sum = x .sum }
 
 -- ---- a verdict is given
-pub sum-counted : (t : Totals) (v : Verdict) → sumOf (counted t v) ≡ sumOf t + 1
+pub sum-counted : (t : Totals) (v : Verdict) → totalsSum (counted t v) ≡ totalsSum t + 1
 sum-counted t Verdict.True = omega arith
 sum-counted t Verdict.False = omega arith
 sum-counted t Verdict.Unknown = omega arith

@@ -18,8 +18,9 @@ use Rattle.log.specs.Line.{digitsAtFront, badPlace, lineOf}
 use Rattle.verdict.specs.declared.Verdict.the-variants.{True, False, Unknown}
 use Rattle.checker.specs.Limits.{windowWords}
 use Rattle.checker.specs.Base.{ofEvent, referenced, smallest, base, someNotVoid, firstFrom, firstInstance}
-use Rattle.checker.specs.State.{freshState, withTally}
+use Rattle.checker.specs.State.{freshState, withTally, withSum}
 use Rattle.checker.specs.Ring.{stored, kept}
+use Rattle.checker.specs.Sum.{addedUp, sumOf}
 use Rattle.checker.specs.Open.{openDef}
 use Rattle.checker.specs.declared.Profile.the-variants.{Desk}
 use Rattle.checker.specs.StateTest.{rulePasses, countPasses, allTo, tallyPasses, statePasses}
@@ -91,5 +92,5 @@ two-logs : (reportedOut Desk frames 4 (window 4) oneLog ≡ bothReported)
     × (viewsOut Desk frames 4 (window 4) oneLog ≡ bothViews)
     × (reportedOut Desk frames 1 (window 1) otherLog ≡ bothReported)
     × (viewsOut Desk frames 1 (window 1) otherLog ≡ bothViews)
-unfolding viewDef views reportedFrom verdicts kindOf referenceCount orderOf sizesFit treeOf checkedOf digitValue digitsAtFront badPlace lineOf ofEvent referenced smallest base someNotVoid firstFrom firstInstance freshState withTally stored kept openDef rulePasses countPasses allTo tallyPasses statePasses admission feedEvent feedDef reportBytes pullRead pullDef outs
+unfolding viewDef views reportedFrom verdicts kindOf referenceCount orderOf sizesFit treeOf checkedOf digitValue digitsAtFront badPlace lineOf ofEvent referenced smallest base someNotVoid firstFrom firstInstance freshState withTally withSum stored kept addedUp sumOf openDef rulePasses countPasses allTo tallyPasses statePasses admission feedEvent feedDef reportBytes pullRead pullDef outs
 two-logs = (refl, refl, refl, refl)

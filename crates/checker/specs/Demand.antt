@@ -108,9 +108,9 @@ pub record ThirdDemand (profile : Profile) (frames : List ℕ) (w : ℕ) (win : 
   pub totals : (checkerAfter profile frames w win cs .state .next .0
       ≡ firstFor frames + length (handedOut profile frames w win cs))
       × (checkerAfter profile frames w win cs .state .totals ≡ totalsOf (handedOut profile frames w win cs))
-  -- "So 12 and 13 never come in such a list"
-  pub never-12-13 : (x : Out) → List·Memᴰ x (outs checker cs (fresh profile frames w win)) → (place : ℕ)
-      → (answerOf x ≢ refused 12 place) × (answerOf x ≢ refused 13 place)
+  -- "So 12 and 13 never come in such a list"; document 02, point 11: 27, "like 12 and 13 it never comes in a list"
+  pub never-12-13-27 : (x : Out) → List·Memᴰ x (outs checker cs (fresh profile frames w win)) → (place : ℕ)
+      → (answerOf x ≢ refused 12 place) × ((answerOf x ≢ refused 13 place) × (answerOf x ≢ refused 27 place))
 
 -- ---- accepted lines
 -- of "accepted lines, each as its four notes": one, with its event

@@ -1,4 +1,5 @@
--- Feeding: 12, 13, 15, ignored, 16, 17. From document 01, "Feeding, pulling and the window" and "What is turned down".
+-- Feeding: 12, 13, 27, 15, ignored, 16, 17. From document 01, "Feeding, pulling and the window" and "What is turned down", and
+-- document 02, point 11.
 -- Assumes nothing: definitions.
 use mathlib.Core.Bool.{cond}
 use mathlib.Core.List.{List, [], _∷_}
@@ -11,8 +12,9 @@ use Rattle.log.specs.Line as log
 use Rattle.checker.specs.Limits.{lineLimit}
 use Rattle.checker.specs.Answer.{Answer, accepted, ignored, refused, feedTold}
 use Rattle.checker.specs.Base.{referenced, base}
-use Rattle.checker.specs.State.{Tally, countOf, tallyIn, refsIn, withLine, withTally}
+use Rattle.checker.specs.State.{Tally, countOf, tallyIn, refsIn, withLine, withTally, withSum}
 use Rattle.checker.specs.Ring.{kept}
+use Rattle.checker.specs.Sum.{sumOf}
 use Rattle.checker.specs.Admission.{Admission, admitted, barred, admission}
 use Rattle.checker.specs.declared.Fed.{Fed}
 use Rattle.checker.specs.declared.State.{State}
@@ -55,15 +57,19 @@ pub record FeedResult : Type 0 where
 abbrev pub notFed : State → List ℤ → Answer → FeedResult
 notFed s win a = record { answer = a; state = s; words = win }
 
--- "Each accepted occurrence from base on is found there .. One that arrives below base is counted and not stored"
+-- "Each accepted occurrence from base on is found there .. One that arrives below base is counted and not stored": the words then
+abbrev pub wordsWith : State → List ℤ → ℕ → List ℤ → List ℤ
+wordsWith s win e notes = kept win (s .width) e (base (refsIn s) e (s .next .0)) (countOf (tallyIn s) e) notes
+
+-- "A refused line .., an ignored line .. change nothing"; of an accepted one "The state keeps the .. sum of the window's words"
 abbrev pub fedBy : State → List ℤ → FeedRead → FeedResult
 fedBy s win (turned number place) = notFed s win (refused number place)
 fedBy s win skipped = notFed s win ignored
 fedBy s win (taken e notes) =
     record {
       answer = accepted;
-      state = withTally s (withLine (tallyIn s) e);
-      words = kept win (s .width) e (base (refsIn s) e (s .next .0)) (countOf (tallyIn s) e) notes;
+      state = withSum (withTally s (withLine (tallyIn s) e)) (sumOf (wordsWith s win e notes));
+      words = wordsWith s win e notes;
     }
 
 -- what a line does to a state that is let through
@@ -79,7 +85,7 @@ abbrev pub fedIf : State → List ℤ → List ℕ → Admission → FeedResult
 fedIf s win line admitted = fedBy s win (lineIn s (lineOf line))
 fedIf s win line (barred number) = notFed s win (refused number 0)
 
--- "for .. every argument": 12, then 13, then the line
+-- "for .. every argument": 12, 13, 27, then the line
 unfoldable pub feedDef : State → List ℤ → List ℕ → FeedResult
 feedDef s win line = fedIf s win line (admission s win)
 

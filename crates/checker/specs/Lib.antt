@@ -1,11 +1,13 @@
--- What a buyer reads: limits and answers, desk and board, bases, the state and the window, the report, the three calls, the plain
--- machine, the words of the third demand, the view of a report, logs of the earlier edition, and the rework tariff.
+-- What a buyer reads: limits and answers, desk and board, bases, the state, the window and its sum, the report, the three calls, the
+-- plain machine, the words of the third demand, windows that differ in one word, the view of a report, logs of the earlier edition,
+-- and the rework tariff.
 pub mod Limits
 pub mod Answer
 pub mod Profile
 pub mod Base
 pub mod State
 pub mod Ring
+pub mod Sum
 pub mod Found
 pub mod Report
 pub mod Open
@@ -16,6 +18,7 @@ pub mod Pull
 pub mod Calls
 pub mod Machine
 pub mod Demand
+pub mod OneWord
 pub mod View
 pub mod Earlier
 pub mod Tariff

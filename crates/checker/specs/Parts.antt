@@ -14,9 +14,10 @@ use Rattle.checker.specs.declared.State.{State}
 abbrev pub tallyOfFields : Fields → Tally
 tallyOfFields f = record { counts = f .counts; next = f .next .0; totals = f .totals }
 
--- "The state carries frames, W (1 to 256), per-event counts, p, and the totals", and the profile: of frames and the other fields
+-- "The state carries frames, W (1 to 256), per-event counts, p, and the totals", the profile and the sum: of frames and the other
+-- fields
 abbrev pub stateOf : List ℕ → Fields → State
-stateOf frames f = stateWith frames (f .len) (f .width) (f .profile) (tallyOfFields f)
+stateOf frames f = stateWith frames (f .len) (f .width) (f .profile) (tallyOfFields f) (f .sum)
 
 -- what a feed by parts gives, with its state put together
 abbrev pub fedOf : List ℕ → FedFields → Fed

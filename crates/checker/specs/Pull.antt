@@ -1,5 +1,5 @@
--- Pulling: 12, 13, 14, then the verdict of the next instance or 'waiting'. From document 01, "Feeding, pulling and the window"
--- and "What is turned down". Pull is the document's term. Assumes nothing: definitions.
+-- Pulling: 12, 13, 27, 14, then the verdict of the next instance or 'waiting'. From document 01, "Feeding, pulling and the window"
+-- and "What is turned down", and document 02, point 11. Pull is the document's term. Assumes nothing: definitions.
 use mathlib.Core.Bool.{cond}
 use mathlib.Core.List.{List}
 use Prim.Native.Nat.{ℕ}
@@ -93,7 +93,7 @@ abbrev pub pulledIf : State → List ℤ → List ℕ → Admission → PullResu
 pulledIf s win buffer admitted = pulledBy s win buffer (nextIn s win (length buffer))
 pulledIf s win buffer (barred number) = notPulled s buffer (refused number 0)
 
--- "for .. every argument": pull is the document's term; 12, then 13, then 14
+-- "for .. every argument": pull is the document's term; 12, 13, 27, then 14
 unfoldable pub pullDef : State → List ℤ → List ℕ → PullResult
 pullDef s win buffer = pulledIf s win buffer (admission s win)
 

@@ -1,4 +1,5 @@
--- What the inner calls require: a state, as its frames and the other fields, and a window that 12 and 13 let through.
+-- What the inner calls require: a state, as its frames and the other fields, and a window that 12, 13 and 27 let
+-- through.
 -- No contract of open, feed or pull cites it; crate bench calls by it. Assumes nothing: definitions.
 use mathlib.Core.Path.{_≡_}
 use mathlib.Core.List.{List}
@@ -10,7 +11,7 @@ use Rattle.checker.specs.Admission.{admitted, admission}
 use Rattle.checker.specs.Parts.{stateOf}
 use Rattle.checker.specs.declared.parts.Fields.{Fields}
 
--- "Feeding, pulling" would not refuse it with 12 or 13
+-- "Feeding, pulling" would not refuse it with 12, 13 or 27; so its sum is the window's
 pub record Ready (frames : List ℕ) (fields : Fields) (win : List ℤ) : Type 0 where
   pub long : length frames ≡ frameLimit * frameBytes
   pub let-in : admission (stateOf frames fields) win ≡ admitted

@@ -27,8 +27,8 @@ counted t False = record { held = t .held; failed = t .failed + 1; unknown = t .
 counted t Unknown = record { held = t .held; failed = t .failed; unknown = t .unknown + 1 }
 
 -- the sum in "The totals sum to p less that start"
-abbrev pub sumOf : Totals → ℕ
-sumOf t = t .held + t .failed + t .unknown
+abbrev pub totalsSum : Totals → ℕ
+totalsSum t = t .held + t .failed + t .unknown
 
 -- ---- "the counts, p and totals in the state", which the plain machine has too; next is p
 pub record Tally : Type 0 where
@@ -53,9 +53,10 @@ abbrev pub withVerdict : Tally → Verdict → Tally
 withVerdict t v = record { counts = t .counts; next = t .next + 1; totals = counted (t .totals) v }
 
 -- ---- states; only here their fields are listed
--- "The state carries frames, W (1 to 256), per-event counts, p, and the totals"; document 02, point 9: "stays in the state"
-abbrev pub stateWith : List ℕ → ℕ → ℕ → ℕ → Tally → State
-stateWith frames n w number t =
+-- "The state carries frames, W (1 to 256), per-event counts, p, and the totals"; document 02, point 9: "stays in the state", and
+-- point 11: "The state keeps the wrapping 32-bit sum of the window's words"
+abbrev pub stateWith : List ℕ → ℕ → ℕ → ℕ → Tally → ℕ → State
+stateWith frames n w number t sum =
     record {
       frames = frames;
       len = n;
@@ -64,25 +65,31 @@ stateWith frames n w number t =
       counts = t .counts;
       next = record { 0 = t .next };
       totals = t .totals;
+      sum = sum;
     }
 
 -- "per-event counts, p, and the totals" of a state
 abbrev pub tallyIn : State → Tally
 tallyIn s = record { counts = s .counts; next = s .next .0; totals = s .totals }
 
--- the one change of a state: other "per-event counts, p, and the totals"
+-- a state with other "per-event counts, p, and the totals"
 unfoldable pub withTally : State → Tally → State
-withTally s t = stateWith (s .frames) (s .len) (s .width) (s .profile) t
+withTally s t = stateWith (s .frames) (s .len) (s .width) (s .profile) t (s .sum)
+
+-- a state with another "sum of the window's words"
+unfoldable pub withSum : State → ℕ → State
+withSum s sum = stateWith (s .frames) (s .len) (s .width) (s .profile) (tallyIn s) sum
 
 -- "the state that is zero throughout, with no frames"
 abbrev pub zeroState : State
-zeroState = stateWith (replicate (frameLimit * frameBytes) 0) 0 0 0 (tallyFrom 0)
+zeroState = stateWith (replicate (frameLimit * frameBytes) 0) 0 0 0 (tallyFrom 0) 0
 
--- "the state .. that an unrefused opening gave back", zero after the last frame; document 02, point 2: "p starts there"
+-- "the state .. that an unrefused opening gave back", zero after the last frame; document 02, point 2: "p starts there". The sum is
+-- 0, as "opening sets all to 0"
 unfoldable pub freshState : Profile → List ℕ → ℕ → State
 freshState profile frames w =
     stateWith (frames ++ replicate (frameLimit * frameBytes - length frames) 0) (length frames / frameBytes) w
-    (profileNumber profile) (tallyFrom (firstFor frames))
+    (profileNumber profile) (tallyFrom (firstFor frames)) 0
 
 -- "a state whose frames": those that its rule is
 abbrev pub stateFrames : State → List ℕ

@@ -17,7 +17,7 @@ use Rattle.checker.specs.Limits.{windowWords, lineLimit}
 use Rattle.checker.specs.Answer.{opened}
 use Rattle.checker.specs.Profile.{framesMost, profileNumber, profilePasses}
 use Rattle.checker.specs.Base.{referenced, base, Referenced, firstInstance}
-use Rattle.checker.specs.State.{sumOf, Tally, countOf, tallyIn, stateFrames, refsIn}
+use Rattle.checker.specs.State.{totalsSum, Tally, countOf, tallyIn, stateFrames, refsIn}
 use Rattle.checker.specs.Open.{widthFits, openDef}
 use Rattle.checker.specs.declared.Profile.{Profile}
 use Rattle.checker.specs.declared.Totals.{Totals}
@@ -45,7 +45,7 @@ allTo (suc n) f = f n && allTo n f
 
 -- "12 tests the new sum and refuses a p below the start": not such a p, and "The totals sum to p less that start"
 abbrev pub totalsPass : ℕ → ℕ → Totals → Bool
-totalsPass first p totals = leb first p && eqb (sumOf totals) (p - first)
+totalsPass first p totals = leb first p && eqb (totalsSum totals) (p - first)
 
 -- nor "p over 1,009,999"
 unfoldable pub tallyPasses : List Reference → ℕ → Tally → Bool
@@ -75,7 +75,7 @@ pub record Passing (s : State) : Type 0 where
   -- not "a p below the start"
   pub begun : firstInstance (refsIn s) ≤ s .next .0
   -- "The totals sum to p less that start"
-  pub sum : sumOf (s .totals) ≡ s .next .0 - firstInstance (refsIn s)
+  pub sum : totalsSum (s .totals) ≡ s .next .0 - firstInstance (refsIn s)
   -- not "a nonzero count of an unreferenced event"
   pub none : (e : ℕ) → e < eventLimit → (Referenced (refsIn s) e → ⊥) → countOf (tallyIn s) e ≡ 0
   -- not "a count above base plus W"

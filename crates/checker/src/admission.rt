@@ -1,7 +1,8 @@
-// What feeding and pulling test first: 12, then 13.
+// What feeding and pulling test first: 12, 13, then 27.
 use crate::opening;
 use crate::parts::Fields;
 use crate::state_test;
+use crate::sum;
 ghost use mathlib.Core.Path.{_≡_};
 ghost use Prim.Native.Nat.{_*_};
 ghost use lib.ListN.{length};
@@ -17,7 +18,7 @@ pub struct Admitted {
     pub bases: [u32; 8],
 }
 
-// Whether 12 and 13 let a state and a window through.
+// Whether 12, 13 and 27 let a state and a window through.
 pub fn admit(frames: &[u8], fields: Fields, window: &[i32]) -> Admitted
     requires { ⌜ length (now frames) ≡ frameLimit * frameBytes ⌝ }
     ensures { λ r. ⌜ (r .number ≡ barredWith (admission (stateOf (now (frames .entry)) fields) (now (window .entry))))
@@ -27,7 +28,11 @@ pub fn admit(frames: &[u8], fields: Fields, window: &[i32]) -> Admitted
     let bases = tested.bases;
     if tested.fits {
         if opening::window_fits(fields.width, window.len()) {
-            Admitted { number: 0, bases }
+            if sum::sum_of(window) == fields.sum {
+                Admitted { number: 0, bases }
+            } else {
+                Admitted { number: 27, bases }
+            }
         } else {
             Admitted { number: 13, bases }
         }

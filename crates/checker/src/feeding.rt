@@ -1,4 +1,4 @@
-// Feeding: 12, 13, 15, ignored, 16, 17.
+// Feeding: 12, 13, 27, 15, ignored, 16, 17.
 use crate::Fed;
 use crate::FeedAnswer;
 use crate::State;
@@ -85,14 +85,14 @@ fn feed_event(
     if low + width <= c {
         return refuse(fields, 17, 0);
     }
-    words::keep(window, width, event, low, Occurrence(c), notes);
+    let sum = words::keep(window, fields.sum, width, event, low, Occurrence(c), notes);
     FedFields {
         answer: FeedAnswer::Accepted,
-        fields: parts::with_line(fields, event),
+        fields: parts::with_line(fields, event, sum),
     }
 }
 
-// A line fed to a checker that 12 and 13 let through, with its bases.
+// A line fed to a checker that 12, 13 and 27 let through, with its bases.
 fn feed_with(
     frames: &[u8],
     fields: Fields,
@@ -112,7 +112,7 @@ fn feed_with(
     }
 }
 
-// Feeds a line to a checker that 12 and 13 let through, without testing them: for callers that carry the state from an opening.
+// Feeds a line to a checker that 12, 13 and 27 let through, without testing them: for callers that carry the state from an opening.
 pub fn feed_admitted(frames: &[u8], fields: Fields, window: &mut [i32], line: &[u8]) -> FedFields
     requires { ⌜ Ready (now frames) fields (now window) ⌝ }
     ensures { λ r. ⌜ feedOutcome (fedOf (now (frames .entry)) r) (now (window .exit))

@@ -1,17 +1,18 @@
 // Opening, feeding and pulling over a state by value and a lent window; the view of a report; the charge for rework.
-mod admission; // admission.rt: 12 and 13, before a line or a pull
+mod admission; // admission.rt: 12, 13 and 27, before a line or a pull
 mod base; // base.rt: the base of each event, and the first instance
 mod charging; // charging.rt: 28, 29, 12, the charge for rework
-mod feeding; // feeding.rt: 12, 13, 15, ignored, 16, 17
+mod feeding; // feeding.rt: 12, 13, 27, 15, ignored, 16, 17
 mod found; // found.rt: marks and notes of references
 mod state_test; // state_test.rt: 12
 mod limits; // limits.rt: the limits of the window, the counts and the report
 mod opening; // opening.rt: 9, 10, 7, 8, 11, 26; a fresh checker
 mod pricing; // pricing.rt: what violations cost by a tariff
 mod profiles; // profiles.rt: the limits of desk and board
-mod pulling; // pulling.rt: 12, 13, 14, the next verdict or waiting
+mod pulling; // pulling.rt: 12, 13, 27, 14, the next verdict or waiting
 mod report; // report.rt: the report of a false verdict
 mod parts; // parts.rt: a state taken apart, put together and changed
+mod sum; // sum.rt: the sum of the window's words
 mod viewing; // viewing.rt: 14, the view of a report
 mod words; // words.rt: the window's words
 
@@ -45,7 +46,7 @@ pub struct Totals {
 
 // The state, the document's term for what a checker carries from call to call. Its rule is the first `len` frames, of 8 bytes
 // each; the bytes after them are carried and not looked at. `width` is the document's W, `next` its p; `profile` is 0 for the desk,
-// 1 for the board.
+// 1 for the board; `sum` is the sum of the window's words, modulo 2^32.
 #[repr(C)]
 pub struct State {
     pub frames: [u8; 512],
@@ -55,6 +56,7 @@ pub struct State {
     pub counts: [u32; 8],
     pub next: Instance,
     pub totals: Totals,
+    pub sum: u32,
 }
 
 // Who opens a checker: the desk, with W to 256 and 64 frames, or the board inside a plotter, with W to 32 and 16 frames.

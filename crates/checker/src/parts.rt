@@ -10,7 +10,7 @@ ghost use Prim.Native.Nat.{ℕ, _<_};
 ghost use lib.ListN.{getD};
 ghost use Rattle.rule.specs.Limits.{eventLimit};
 ghost use Rattle.checker.specs.Limits.{lineLimit};
-ghost use Rattle.checker.specs.State.{counted, tallyFrom, withLine, withVerdict, stateWith, tallyIn, withTally};
+ghost use Rattle.checker.specs.State.{counted, tallyFrom, withLine, withVerdict, stateWith, tallyIn, withTally, withSum};
 ghost use Rattle.checker.specs.Parts.{stateOf};
 ghost use Rattle.checker.specs.Offer.{Countable};
 
@@ -22,6 +22,7 @@ pub struct Fields {
     pub counts: [u32; 8],
     pub next: Instance,
     pub totals: Totals,
+    pub sum: u32,
 }
 
 // What a state has beside its frames.
@@ -38,6 +39,7 @@ pub fn fields_of(s: State) -> Fields
         counts,
         next,
         totals,
+        sum: s.sum,
     }
 }
 
@@ -56,12 +58,13 @@ pub fn with_fields(frames: [u8; 512], f: Fields) -> State
         counts,
         next,
         totals,
+        sum: f.sum,
     }
 }
 
-// A state with no line counted and no verdict pulled.
+// A state with no line counted, no verdict pulled and a window of words that are 0.
 pub fn at_first(frames: [u8; 512], len: u32, width: u32, profile: u32, next: Instance) -> State
-    ensures { λ r. ⌜ r ≡ stateWith frames len width profile (tallyFrom (next .0)) ⌝ }
+    ensures { λ r. ⌜ r ≡ stateWith frames len width profile (tallyFrom (next .0)) 0 ⌝ }
 {
     let counts = [0u32; 8];
     let totals = Totals {
@@ -77,19 +80,21 @@ pub fn at_first(frames: [u8; 512], len: u32, width: u32, profile: u32, next: Ins
         counts,
         next,
         totals,
+        sum: 0,
     }
 }
 
-// One line more of an event.
-pub fn with_line(f: Fields, event: u8) -> Fields
+// One line more of an event, and the sum of the window then.
+pub fn with_line(f: Fields, event: u8, sum: u32) -> Fields
     requires { ⌜ (event < eventLimit) × (getD (f .counts) event 0 < lineLimit) ⌝ }
     ensures { λ r. ⌜ ((fs : List ℕ) → stateOf fs r
-        ≡ withTally (stateOf fs f) (withLine (tallyIn (stateOf fs f)) event)) ⌝ }
+        ≡ withSum (withTally (stateOf fs f) (withLine (tallyIn (stateOf fs f)) event)) sum) ⌝ }
 {
     let e = event as usize;
     let c = f.counts[e];
     let mut after = f;
     after.counts[e] = c + 1;
+    after.sum = sum;
     after
 }
 

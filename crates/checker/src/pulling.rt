@@ -1,4 +1,4 @@
-// Pulling: 12, 13, 14, then the verdict of the next instance or 'waiting'. Pull is the document's term.
+// Pulling: 12, 13, 27, 14, then the verdict of the next instance or 'waiting'. Pull is the document's term.
 use crate::PullAnswer;
 use crate::Pulled;
 use crate::State;
@@ -101,8 +101,8 @@ fn offer(
     judged
 }
 
-// Pulls from a checker that 12 and 13 let through, into a buffer that 14 does, without testing them: for callers that carry the
-// state from an opening.
+// Pulls from a checker that 12, 13 and 27 let through, into a buffer that 14 does, without testing them: for callers that carry
+// the state from an opening.
 pub fn pull_admitted(
     frames: &[u8],
     fields: Fields,

@@ -1,4 +1,5 @@
 // The report of a false verdict. Report is the document's term.
+use crate::words;
 use rule::FRAME_BYTES;
 use rule::kinds;
 use verdict::Instance;
@@ -9,8 +10,6 @@ ghost use Prim.Native.Nat.{_+_, _≤_};
 ghost use lib.Dec.{eqb};
 ghost use lib.ListN.{length};
 ghost use lib.Seq.{sets};
-ghost use mir.Syntax.{w32};
-ghost use mir.Val.{ofZ};
 ghost use Rattle.rule.specs.Frames.{frameCount};
 ghost use Rattle.rule.specs.Tree.{wordBytes};
 ghost use Rattle.rule.specs.References.{referenceByte, referenceCount};
@@ -25,18 +24,6 @@ const HEADER: usize = 6;
 
 // The bytes of a reference.
 const ENTRY: usize = 5;
-
-// A signed number's bits, in two's complement.
-fn bits(z: i32) -> u32
-    ensures { λ r. ⌜ r ≡ ofZ w32 z ⌝ }
-{
-    if z < 0 {
-        let k = -1 - z;
-        0xffff_ffff - k as u32
-    } else {
-        z as u32
-    }
-}
 
 // Four bytes, the first the most significant.
 fn put_word(report: &mut [u8], at: usize, w: u32)
@@ -65,7 +52,7 @@ fn put_entry(report: &mut [u8], at: usize, mark: u8, note: i32)
     ensures { λ r. ⌜ now (report .exit) ≡ sets (now (report .entry)) at (entryOf mark note) ⌝ }
 {
     report[at] = mark;
-    put_word(report, at + 1, bits(note));
+    put_word(report, at + 1, words::bits(note));
 }
 
 // One frame more: a reference's entry, and where the next goes.

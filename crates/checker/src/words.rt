@@ -1,11 +1,16 @@
-// The words of the window, the document's term. Only here an occurrence number becomes an index.
+// The words of the window, the document's term. Only here an occurrence number becomes an index, and a word is stored with its sum.
 use log::Notes;
+use std::num::wrapping_add_u32;
+use std::num::wrapping_sub_u32;
 use verdict::Occurrence;
 ghost use mathlib.Core.Path.{_≡_};
 ghost use Prim.Native.Nat.{_<_};
-ghost use lib.ListN.{length};
+ghost use lib.ListN.{length, set};
+ghost use mir.Syntax.{w32};
+ghost use mir.Val.{ofZ};
 ghost use Rattle.checker.specs.Limits.{windowWords};
 ghost use Rattle.checker.specs.Ring.{notesOf, wordAt, stored, kept};
+ghost use Rattle.checker.specs.Sum.{sumOf};
 ghost use Rattle.checker.specs.InWindow.{InWindow};
 
 // A place has a word for each of 4 notes.
@@ -21,10 +26,33 @@ pub fn word(width: u32, event: u8, k: Occurrence, note: u8) -> usize
     (row + ring_place) as usize * NOTES + note as usize
 }
 
-// Stores the four notes of an occurrence.
-fn store(window: &mut [i32], width: u32, event: u8, k: Occurrence, notes: Notes)
-    requires { ⌜ InWindow width event 0 × (length (now window) ≡ windowWords width) ⌝ }
-    ensures { λ r. ⌜ now (window .exit) ≡ stored (now (window .entry)) width event (k .0) (notesOf notes) ⌝ }
+// A signed number's bits, in two's complement.
+pub fn bits(z: i32) -> u32
+    ensures { λ r. ⌜ r ≡ ofZ w32 z ⌝ }
+{
+    if z < 0 {
+        let k = -1 - z;
+        0xffff_ffff - k as u32
+    } else {
+        z as u32
+    }
+}
+
+// Stores a word, and gives the window's sum then: the old word taken off, the new one added.
+fn put(window: &mut [i32], sum: u32, at: usize, z: i32) -> u32
+    requires { ⌜ (at < length (now window)) × (sum ≡ sumOf (now window)) ⌝ }
+    ensures { λ r. ⌜ (now (window .exit) ≡ set (now (window .entry)) at z) × (r ≡ sumOf (now (window .exit))) ⌝ }
+{
+    let old = bits(window[at]);
+    window[at] = z;
+    wrapping_add_u32(wrapping_sub_u32(sum, old), bits(z))
+}
+
+// Stores the four notes of an occurrence, and gives the window's sum then.
+fn store(window: &mut [i32], sum: u32, width: u32, event: u8, k: Occurrence, notes: Notes) -> u32
+    requires { ⌜ InWindow width event 0 × ((length (now window) ≡ windowWords width) × (sum ≡ sumOf (now window))) ⌝ }
+    ensures { λ r. ⌜ (now (window .exit) ≡ stored (now (window .entry)) width event (k .0) (notesOf notes))
+        × (r ≡ sumOf (now (window .exit))) ⌝ }
 {
     let a = word(width, event, k, 0);
     let b = word(width, event, k, 1);
@@ -34,18 +62,29 @@ fn store(window: &mut [i32], width: u32, event: u8, k: Occurrence, notes: Notes)
     let n1 = notes.1;
     let n2 = notes.2;
     let n3 = notes.3;
-    window[a] = n0;
-    window[b] = n1;
-    window[c] = n2;
-    window[d] = n3;
+    let sum_a = put(window, sum, a, n0);
+    let sum_b = put(window, sum_a, b, n1);
+    let sum_c = put(window, sum_b, c, n2);
+    put(window, sum_c, d, n3)
 }
 
-// An occurrence from base on is stored; one below base is not.
-pub fn keep(window: &mut [i32], width: u32, event: u8, base: u32, k: Occurrence, notes: Notes)
-    requires { ⌜ InWindow width event 0 × (length (now window) ≡ windowWords width) ⌝ }
-    ensures { λ r. ⌜ now (window .exit) ≡ kept (now (window .entry)) width event base (k .0) (notesOf notes) ⌝ }
+// An occurrence from base on is stored; one below base is not. Gives the window's sum then.
+pub fn keep(
+    window: &mut [i32],
+    sum: u32,
+    width: u32,
+    event: u8,
+    base: u32,
+    k: Occurrence,
+    notes: Notes,
+) -> u32
+    requires { ⌜ InWindow width event 0 × ((length (now window) ≡ windowWords width) × (sum ≡ sumOf (now window))) ⌝ }
+    ensures { λ r. ⌜ (now (window .exit) ≡ kept (now (window .entry)) width event base (k .0) (notesOf notes))
+        × (r ≡ sumOf (now (window .exit))) ⌝ }
 {
     if base <= k.0 {
-        store(window, width, event, k, notes);
+        store(window, sum, width, event, k, notes)
+    } else {
+        sum
     }
 }

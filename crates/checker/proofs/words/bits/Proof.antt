@@ -1,4 +1,4 @@
--- `checker::report::bits` meets its contract. Assumes nothing.
+-- `checker::words::bits` meets its contract. Assumes nothing.
 use mathlib.Core.Path.{_≡_, ap, _∙_}
 use Prim.Native.Nat.{_^_, _<_}
 use mathlib.Core.Bool.{true}
@@ -9,10 +9,10 @@ use mir.Val.{toZ, ofZ}
 use mir.Facts.{toZ-pos}
 use mir.ValLaws.{toZ-ofZ}
 use Rattle.numbers.proofs.Ints.{is-not-negative, natAbs-mag}
-use Rattle.checker.proofs.PullBits.{below, bits-below, bits-from}
+use Rattle.checker.proofs.WordBits.{below, bits-below, bits-from}
 use native.Mathlib.Omega.{arith}
-use Rattle.checker.proofs.report.bits.Statement.{statement}
-use Rattle.checker.proofs.report.bits.Tie as tie
+use Rattle.checker.proofs.words.bits.Statement.{statement}
+use Rattle.checker.proofs.words.bits.Tie as tie
 
 same : (s : tie.Start) → toZ w32 (ofZ w32 (s .args .z)) ≡ s .args .z
 same s = toZ-ofZ w32 (s .args .z) (s .fits .z)

@@ -1,0 +1,1 @@
+-- The sum of the window's words and 27 (document 02, point 11), computed. Assumes nothing.
