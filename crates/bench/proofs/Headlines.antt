@@ -18,6 +18,7 @@ use Rattle.checker.specs.Answer.{opened, verdict}
 use Rattle.checker.specs.State.{stateFrames, refsIn}
 use Rattle.checker.specs.Open.{windowFits, OpenResult}
 use Rattle.checker.specs.StateTest.{statePasses}
+use Rattle.checker.specs.Sum.{sumFits}
 use Rattle.checker.specs.Report.{reportBytes}
 use Rattle.checker.specs.Pull.{foundHere, pullDef}
 use Rattle.checker.specs.Parts.{stateOf}
@@ -33,11 +34,11 @@ use Rattle.bench.proofs.ChunkLaws
 use Rattle.bench.proofs.Whole
 use Rattle.bench.proofs.Waiting
 
--- "pulls until waiting": for a state that 12 lets through, its frames bytes as an array of them is, and a window that 13 does,
+-- "pulls until waiting": for a state that 12 lets through, its frames bytes as an array of them is, and a window that 13 and 27 do,
 -- pullLimit pulls are enough
 pub pulls-wait : (x : Progress) → statePasses (x .state) ≡ true → Bytes (stateFrames (x .state))
-    → windowFits (x .state .width) (x .words) ≡ true → UntilWaiting x (pulls pullLimit x)
-pulls-wait x g b f = Waiting.pulls-wait x (record { admits = let-in (x .state) (x .words) g f; bytes = b })
+    → windowFits (x .state .width) (x .words) ≡ true → sumFits (x .state) (x .words) ≡ true → UntilWaiting x (pulls pullLimit x)
+pulls-wait x g b f m = Waiting.pulls-wait x (record { admits = let-in (x .state) (x .words) g f m; bytes = b })
 
 -- ".. before the first line and after each": for every rule that is read, and after whatever lines
 module _ (text : List ℕ) (n : ℕ) (s : List ℕ) (r : readOf text (replicate (frameLimit * frameBytes) 0) ≡ (reading.frames n, s)) where

@@ -79,16 +79,16 @@ read-latency : readOf (bytes latencyText) (replicate bufferBytes 0) ≡ (reading
 unfolding classOf span same wordKind longestMark markWidth tokenKind widthOf tokenHere tokenAt tokensIn tokensFrom code nameCode decimalFrom decimal numberValue startFactor step finish run deeper position negated put acts judged readOf kindOf referenceCount orderOf sizesFit checkedOf
 read-latency = refl
 
--- how far the program has come with so many frames: lines of events 0 and 1, p and the totals, the window's words, what is printed,
--- lines accepted
-abbrev come : List ℕ → ℕ → ℕ → ℕ → ℕ → ℕ → ℕ → List ℤ → List ℕ → ℕ → Progress
-come frames len ins outs p held failed words said n =
+-- how far the program has come with so many frames: lines of events 0 and 1, p and the totals, the window's words and their sum, what
+-- is printed, lines accepted
+abbrev come : List ℕ → ℕ → ℕ → ℕ → ℕ → ℕ → ℕ → List ℤ → ℕ → List ℕ → ℕ → Progress
+come frames len ins outs p held failed words sum said n =
     record {
       state = stateWith frames len benchWidth 0 (record {
         counts = ins ∷ (outs ∷ replicate 6 0);
         next = p;
         totals = record { held = held; failed = failed; unknown = 0 };
-      });
+      }) sum;
       words = words;
       counts = record { accepted = n; ignored = 0; refused = 0 };
       said = said;
@@ -107,25 +107,25 @@ report = lines ("0000000000020000000028000000000A" ∷ [])
 
 -- ---- before the first line and after each: what was fed, and then each pull
 abbrev start : Progress
-start = come filled 5 0 0 0 0 0 (window (pos 0) (pos 0) (pos 0) (pos 0)) [] 0
+start = come filled 5 0 0 0 0 0 (window (pos 0) (pos 0) (pos 0) (pos 0)) 0 [] 0
 
 abbrev after1 : Progress
-after1 = come filled 5 1 0 0 0 0 (window (pos 10) (pos 0) (pos 0) (pos 0)) [] 1
+after1 = come filled 5 1 0 0 0 0 (window (pos 10) (pos 0) (pos 0) (pos 0)) 10 [] 1
 
 abbrev fed2 : Progress
-fed2 = come filled 5 1 1 0 0 0 (window (pos 10) (pos 0) (pos 40) (pos 0)) [] 2
+fed2 = come filled 5 1 1 0 0 0 (window (pos 10) (pos 0) (pos 40) (pos 0)) 50 [] 2
 
 abbrev after2 : Progress
-after2 = come filled 5 1 1 1 0 1 (window (pos 10) (pos 0) (pos 40) (pos 0)) report 2
+after2 = come filled 5 1 1 1 0 1 (window (pos 10) (pos 0) (pos 40) (pos 0)) 50 report 2
 
 abbrev after3 : Progress
-after3 = come filled 5 2 1 1 0 1 (window (pos 10) (pos 50) (pos 40) (pos 0)) report 3
+after3 = come filled 5 2 1 1 0 1 (window (pos 10) (pos 50) (pos 40) (pos 0)) 100 report 3
 
 abbrev fed4 : Progress
-fed4 = come filled 5 2 2 1 0 1 (window (pos 10) (pos 50) (pos 40) (pos 75)) report 4
+fed4 = come filled 5 2 2 1 0 1 (window (pos 10) (pos 50) (pos 40) (pos 75)) 175 report 4
 
 abbrev after4 : Progress
-after4 = come filled 5 2 2 2 1 1 (window (pos 10) (pos 50) (pos 40) (pos 75)) report 4
+after4 = come filled 5 2 2 2 1 1 (window (pos 10) (pos 50) (pos 40) (pos 75)) 175 report 4
 
 abbrev line1 : List ℕ
 line1 = bytes "000000000A000000000000000000000000"
@@ -235,13 +235,13 @@ abbrev minusOne : List ℤ
 minusOne = negsuc 0 ∷ replicate 2047 (pos 0)
 
 abbrev none3 : Progress
-none3 = come filled3 3 0 0 1 0 0 (replicate 2048 (pos 0)) [] 0
+none3 = come filled3 3 0 0 1 0 0 (replicate 2048 (pos 0)) 0 [] 0
 
 abbrev fed3 : Progress
-fed3 = come filled3 3 1 0 1 0 0 minusOne [] 1
+fed3 = come filled3 3 1 0 1 0 0 minusOne 4294967295 [] 1
 
 abbrev one3 : Progress
-one3 = come filled3 3 1 0 2 0 1 minusOne (lines ("00000001000100FFFFFFFF" ∷ [])) 1
+one3 = come filled3 3 1 0 2 0 1 minusOne 4294967295 (lines ("00000001000100FFFFFFFF" ∷ [])) 1
 
 opens-3 : beforeLog (openedFor framesOf3) ≡ none3
 unfolding openDef freshState someNotVoid firstFrom firstInstance checkedOf kindOf orderOf referenceCount sizesFit treeOf

@@ -101,7 +101,7 @@ pub pulled-as : (x : Progress) (st : State) (said : List ℕ) → st ≡ pullOf 
 unfolding pulledOnce
 pulled-as x st said e f = record { written = f .written; same = rw (e, f .same); whole = f .whole }
 
--- ---- a checker that 12 and 13 let through stays one
+-- ---- a checker that 12, 13 and 27 let through stays one
 module _ (frames : List ℕ) (f after : Fields) where
   pub ready-pulled : (win : List ℤ) (report : List ℕ) → Ready frames f win → Bytes (stateFrames (stateOf frames f))
       → stateOf frames after ≡ pullDef (stateOf frames f) win report .state → Ready frames after win

@@ -33,7 +33,7 @@ use Rattle.bench.specs.Progress.{Progress, emptyReport, pullOf, isVerdic
 use Rattle.bench.specs.Output.{benchWidth, beforeLog, begun, openedFor}
 use Rattle.bench.proofs.Whole.{read-opened}
 
--- ---- what 12 and 13 let through
+-- ---- what 12, 13 and 27 let through
 pub record LetIn (x : Progress) : Type 0 where
   pub admits : admission (x .state) (x .words) ≡ admitted
   pub bytes : Bytes (stateFrames (x .state))

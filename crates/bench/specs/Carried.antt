@@ -57,7 +57,7 @@ pub record AfterChunked (want got : Chunked) : Type 0 where
   pub held : got .held ≡ want .held
 
 -- ---- what is required
--- of a step: a checker that 12 and 13 let through, and an output buffer in which so many bytes wait
+-- of a step: a checker that 12, 13 and 27 let through, and an output buffer in which so many bytes wait
 pub record Running (frames : List ℕ) (r : Run) (win : List ℤ) (out : List ℕ) : Type 0 where
   pub ready : Ready frames (r .fields) win
   pub full : r .full ≤ outBytes

@@ -2,7 +2,7 @@
 
 -- a fresh checker beside the plain machine
 pub use Rattle.checker.proofs.Fresh.{both-opened}
--- states and windows that 12 and 13 let through
+-- states and windows that 12, 13 and 27 let through
 pub use Rattle.checker.proofs.Admissions.{let-in, in-good}
 pub use Rattle.checker.proofs.Stays.{opened-stays, fed-stays, pulled-stays, feed-rule, pull-rule}
 -- bytes of a state's frames

@@ -1,4 +1,4 @@
--- `bench::run_in` hands on what an opening gave, which 12 and 13 let through. Assumes nothing.
+-- `bench::run_in` hands on what an opening gave, which 12, 13 and 27 let through. Assumes nothing.
 use mathlib.Core.Path.{ap}
 use Rattle.rule.proofs.Laws.{bytes-by}
 use Rattle.checker.specs.Answer.{openTold}

@@ -1,4 +1,4 @@
--- `bench::run_log` runs a checker that 12 and 13 let through. Assumes nothing.
+-- `bench::run_log` runs a checker that 12, 13 and 27 let through. Assumes nothing.
 use mathlib.Core.Path.{_∙_}
 use borrow.Author.Needs.{needs}
 use Rattle.bench.proofs.run_log.Statement.{statement}

@@ -1,4 +1,4 @@
--- `bench::turn` hands on a checker that 12 and 13 let through. Assumes nothing.
+-- `bench::turn` hands on a checker that 12, 13 and 27 let through. Assumes nothing.
 use borrow.Author.Needs.{needs}
 use Rattle.bench.proofs.turn.Statement.{statement}
 use Rattle.bench.proofs.turn.Tie as tie

@@ -1,4 +1,4 @@
--- `bench::step::feed_line` feeds a line to a checker that 12 and 13 let through, and counts its answer. Assumes nothing.
+-- `bench::step::feed_line` feeds a line to a checker that 12, 13 and 27 let through, and counts its answer. Assumes nothing.
 use mathlib.Core.Path.{refl, ap}
 use borrow.Author.Needs.{needs}
 use Rattle.checker.specs.Feed.{FeedResult}
