@@ -3,9 +3,10 @@
 //!
 //! A rule flows `text` -> `grammar` -> `names`, `numbers` -> `postfix` -> `frames`; a log flows `line` ->
 //! `machine`, which asks `verdict`. `state` answers calls on a state and a window that a caller hands in, forged ones
-//! too; `profile` has the limits of a desk and of a board, for opening and for 12; `view` has what machine hands see of a
-//! report; `earlier` reads log lines of the earlier edition, which `machine` takes too, and converts them to log lines and
-//! back; `tariff` has what violations cost; `bench` has the output of the bench program.
+//! too, and adds up the window's words anew at each call; `profile` has the limits of a desk and of a board, for opening
+//! and for 12; `view` has what machine hands see of a report; `earlier` reads log lines of the earlier edition, which
+//! `machine` takes too, and converts them to log lines and back; `tariff` has what violations cost; `bench` has the
+//! output of the bench program.
 //!
 //! It is written from the documents alone, and shares no code or table with the proved part. A test drives it call by
 //! call:
@@ -47,7 +48,7 @@ pub use earlier::{lower, raise, read_old, Line, OldLine};
 pub use machine::{open, open_as, Fed, Machine, Pulled, Totals};
 pub use profile::Profile;
 pub use reading::{read, read_into};
-pub use state::State;
+pub use state::{sum_of, State};
 pub use tariff::{Band, Tariff};
 pub use verdict::Truth;
 pub use view::{view, Reported, View};

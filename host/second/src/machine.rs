@@ -4,7 +4,7 @@ use super::earlier::read_old;
 use super::frames::{check, Reference, Rule};
 use super::line::{read_line, Notes};
 use super::profile::Profile;
-use super::state::State;
+use super::state::{sum_of, State};
 use super::tariff::Tariff;
 use super::verdict::{verdict, Status, Truth};
 use super::view::Reported;
@@ -213,8 +213,8 @@ impl Machine {
         tariff.cents(self.reported.len() as u32)
     }
 
-    /// What a checker's state carries after the same calls.
-    pub fn state(&self) -> State {
+    /// What a checker's state carries after the same calls. The machine has no window: the sum is that of the one given.
+    pub fn state(&self, window: &[i32]) -> State {
         let mut state = State {
             len: self.frames.len() as u32 / 8,
             w: self.w,
@@ -222,6 +222,7 @@ impl Machine {
             counts: self.counts(),
             p: self.p,
             totals: self.totals,
+            sum: sum_of(window),
             ..State::zero()
         };
         state.frames[..self.frames.len()].copy_from_slice(&self.frames);

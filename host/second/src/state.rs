@@ -1,4 +1,4 @@
-//! A state that a caller hands in: 12, and 13 with a window, and what the calls answer if these let it pass.
+//! A state that a caller hands in: 12, and 13 and 27 with a window, and what the calls answer if these let it pass.
 
 use super::frames::{check, Reference, Rule};
 use super::line::read_line;
@@ -24,6 +24,16 @@ pub struct State {
     pub counts: [u32; EVENTS],
     pub p: u32,
     pub totals: Totals,
+    /// The sum of the window's words, modulo 2^32.
+    pub sum: u32,
+}
+
+/// The sum of a window's words, each as its 32 bits, modulo 2^32. All words are added up, then the remainder is taken: the most
+/// that 32 x 256 words come to is below 2^45.
+pub fn sum_of(window: &[i32]) -> u32 {
+    let bits = |word: &i32| u64::from(u32::from_ne_bytes(word.to_ne_bytes()));
+    let whole: u64 = window.iter().map(bits).sum();
+    (whole % (1 << 32)) as u32
 }
 
 impl State {
@@ -37,6 +47,7 @@ impl State {
             counts: [0; EVENTS],
             p: 0,
             totals: Totals::default(),
+            sum: 0,
         }
     }
 
@@ -54,17 +65,17 @@ impl State {
     ) -> Result<State, Refusal> {
         let machine = open_as(profile, frames, w, window.len())?;
         window.fill(0);
-        Ok(machine.state())
+        Ok(machine.state(window))
     }
 
-    /// 12 or 13, if one of them refuses this state with a window of some words.
-    pub fn refusal(&self, window_len: usize) -> Option<Refusal> {
-        self.rule(window_len).err()
+    /// 12, 13 or 27, if one of them refuses this state with a window.
+    pub fn refusal(&self, window: &[i32]) -> Option<Refusal> {
+        self.rule(window).err()
     }
 
-    /// Feeding: an occurrence from base on goes into the window.
+    /// Feeding: an occurrence from base on goes into the window, and the sum is that of the window then.
     pub fn feed(&mut self, window: &mut [i32], line: &[u8]) -> Fed {
-        let rule = match self.rule(window.len()) {
+        let rule = match self.rule(window) {
             Ok(rule) => rule,
             Err(refusal) => return Fed::Refused(refusal),
         };
@@ -86,6 +97,7 @@ impl State {
             for (n, note) in notes.into_iter().enumerate() {
                 window[self.word(event, count, n)] = note;
             }
+            self.sum = sum_of(window);
         }
         self.counts[event] += 1;
         Fed::Accepted
@@ -93,7 +105,7 @@ impl State {
 
     /// Pulling: the notes come from the window.
     pub fn pull(&mut self, window: &[i32], report: &mut [u8]) -> Pulled {
-        let rule = match self.rule(window.len()) {
+        let rule = match self.rule(window) {
             Ok(rule) => rule,
             Err(refusal) => return Pulled::Refused(refusal),
         };
@@ -130,11 +142,14 @@ impl State {
         (event * w + occurrence as usize % w) * 4 + note
     }
 
-    /// The state's rule, unless 12 or 13 refuses.
-    fn rule(&self, window_len: usize) -> Result<Rule, Refusal> {
+    /// The state's rule, unless 12, 13 or 27 refuses, in this order.
+    fn rule(&self, window: &[i32]) -> Result<Rule, Refusal> {
         let rule = self.rule_in_order().ok_or(Refusal::of(12))?;
-        if !window_fits(self.w, window_len) {
+        if !window_fits(self.w, window.len()) {
             return Err(Refusal::of(13));
+        }
+        if sum_of(window) != self.sum {
+            return Err(Refusal::of(27));
         }
         Ok(rule)
     }

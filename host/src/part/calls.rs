@@ -28,8 +28,8 @@ struct Part {
     len: usize,
 }
 
-const _: () = assert!(size_of::<Reading>() == 16 && size_of::<Result>() == 584);
-const _: () = assert!(offset_of!(Result, answer) == 572 && offset_of!(Result, place) == 580);
+const _: () = assert!(size_of::<Reading>() == 16 && size_of::<Result>() == 588);
+const _: () = assert!(offset_of!(Result, answer) == 576 && offset_of!(Result, place) == 584);
 const _: () = assert!(size_of::<Part>() == 16);
 const _: () = assert!(size_of::<Raised>() == 44 && size_of::<Lowered>() == 24);
 const _: () = assert!(size_of::<Tariff>() == 44 && size_of::<Charged>() == 16);

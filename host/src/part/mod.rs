@@ -86,11 +86,14 @@ pub struct State {
     /// p, the number of the next instance.
     pub next: u32,
     pub totals: Totals,
+    /// The sum of the window's words, modulo 2^32.
+    pub sum: u32,
 }
 
-const _: () = assert!(size_of::<Totals>() == 12 && size_of::<State>() == 572);
+const _: () = assert!(size_of::<Totals>() == 12 && size_of::<State>() == 576);
 const _: () = assert!(offset_of!(State, width) == 516 && offset_of!(State, profile) == 520);
 const _: () = assert!(offset_of!(State, counts) == 524 && offset_of!(State, next) == 556);
+const _: () = assert!(offset_of!(State, totals) == 560 && offset_of!(State, sum) == 572);
 
 /// A refusal: its number in the documents, and its place (0 if none is named).
 #[derive(Clone, Copy, Debug, PartialEq, Eq)]
@@ -104,7 +107,7 @@ pub struct Refusal {
 pub enum Fed {
     Accepted,
     Ignored,
-    /// 12, 13, 15, 16 or 17.
+    /// 12, 13, 27, 15, 16 or 17.
     Refused(Refusal),
 }
 
@@ -116,7 +119,7 @@ pub enum Pulled {
     False,
     Unknown,
     Waiting,
-    /// 12, 13 or 14.
+    /// 12, 13, 27 or 14.
     Refused(Refusal),
 }
 

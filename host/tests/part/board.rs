@@ -61,7 +61,8 @@ fn a_refused_opening_hands_back_zero() {
         let (state, opened) = part::State::open_board(&frames, w, window);
         assert_eq!(opened.map_err(refusal), Err(expected));
         assert_eq!(state, state_of(&State::zero()));
-        assert_eq!([state.len, state.width, state.profile, state.next], [0; 4]);
+        let words = [state.len, state.width, state.profile, state.next, state.sum];
+        assert_eq!(words, [0; 5]);
         assert!(window.iter().all(|word| *word == 7));
         refused_with_12(state, window);
     }

@@ -360,7 +360,7 @@ fn call(random: &mut Random, pair: &mut Pair, machine: &mut Machine, seen: &mut 
         assert!(report == expected, "the reports differ");
         seen.pulled(answer);
     }
-    assert_eq!(*pair.state(), machine.state());
+    assert_eq!(*pair.state(), machine.state(pair.window()));
 }
 
 #[test]

@@ -9,7 +9,7 @@ use crate::shared::log::{events, random_line};
 use crate::shared::random::{board_frames, frames, late_frames, Random};
 use crate::shared::seen::Seen;
 use crate::shared::start::start_of;
-use dillplatter_second::{Profile, State, Totals};
+use dillplatter_second::{sum_of, Profile, Refusal, State, Totals};
 
 fn word(random: &mut Random) -> u32 {
     let any = (random.below(1 << 32)) as u32;
@@ -103,7 +103,7 @@ fn profile(random: &mut Random) -> u32 {
 
 /// Changes one field, or two that go together.
 pub fn change(random: &mut Random, state: &mut State) {
-    match random.below(12) {
+    match random.below(13) {
         0 => state.frames[random.below(512)] = random.below(256) as u8,
         1 => {
             let mut frames = state.frames[..8 * state.len.min(64) as usize].to_vec();
@@ -123,6 +123,7 @@ pub fn change(random: &mut Random, state: &mut State) {
         8 => state.totals.unknown = near(random, state.totals.unknown),
         9 => state.profile = profile(random),
         10 => (state.profile, state.w) = (1, random.pick(&[31, 32, 33, 33, 34])),
+        11 => state.sum = near(random, state.sum),
         _ => {
             // p and a total together, so that the sum may stay right.
             let less = random.pick(&[1, 2, 3, 9, 300, 9_999]);
@@ -148,6 +149,7 @@ pub fn noise(random: &mut Random) -> State {
         failed: word(random),
         unknown: word(random),
     };
+    state.sum = word(random);
     state
 }
 
@@ -164,11 +166,25 @@ fn window(random: &mut Random, w: u32) -> Vec<i32> {
         .collect()
 }
 
-/// Some calls on a state; each answer is counted.
-fn calls(random: &mut Random, state: State, events: &[usize], seen: &mut Seen) {
+/// The sum of a window, or one that is near, or the one that the state has.
+fn sum(random: &mut Random, state: &State, window: &[i32]) -> u32 {
+    let right = sum_of(window);
+    let other = near(random, right);
+    random.pick(&[
+        right, right, right, right, right, right, right, other, state.sum,
+    ])
+}
+
+/// Some calls on a state, mostly with the window's sum; each answer is counted. Sometimes somebody writes into the window.
+fn calls(random: &mut Random, mut state: State, events: &[usize], seen: &mut Seen) {
     let window = window(random, state.w);
+    state.sum = sum(random, &state, &window);
     let mut pair = Pair::forged(state, window);
     for _ in 0..4 {
+        if random.once_in(20) && !pair.window().is_empty() {
+            let word = random.below(pair.window().len());
+            pair.write(word, near(random, pair.window()[word] as u32) as i32);
+        }
         if random.once_in(2) {
             seen.fed(pair.feed(&random_line(random, events)));
         } else {
@@ -184,8 +200,8 @@ fn refused_by_profile(state: &State) -> bool {
         profile: 0,
         ..state.clone()
     };
-    let words = 32 * state.w as usize;
-    state.refusal(words).is_some() && at_a_desk.refusal(words).is_none()
+    let twelve = |state: &State| state.refusal(&[]) == Some(Refusal::of(12));
+    twelve(state) && !twelve(&at_a_desk)
 }
 
 #[test]
@@ -215,8 +231,8 @@ fn forged_states_and_windows() {
         }
         calls(random, state, &events, &mut seen);
     }
-    // Accepted, ignored, 12, 13, 15, 16, 17; three verdicts, waiting, 12, 13, 14.
-    seen.more_than(14, 100);
+    // Accepted, ignored, 12, 13, 27, 15, 16, 17; three verdicts, waiting, 12, 13, 27, 14.
+    seen.more_than(16, 100);
     assert!(above > 100 && none > 100, "{above} {none}");
     quota.end();
 }

@@ -11,7 +11,7 @@ const RULE: &str = "events a b; notes t; t(a[i]) > 0";
 /// A fresh checker with W 1, as a caller may hand it in.
 fn fresh() -> Pair {
     let state = Pair::of_text(RULE, 1).state().clone();
-    Pair::forged(state, vec![9; 32])
+    Pair::summed(state, vec![9; 32])
 }
 
 #[test]

@@ -113,6 +113,7 @@ fn model_of(state: &part::State) -> State {
             failed: state.totals.failed,
             unknown: state.totals.unknown,
         },
+        sum: state.sum,
     }
 }
 
@@ -130,6 +131,7 @@ pub fn state_of(model: &State) -> part::State {
             failed: model.totals.failed,
             unknown: model.totals.unknown,
         },
+        sum: model.sum,
     }
 }
 
@@ -205,6 +207,12 @@ impl Driven for Pair {
             window: edged(&window, 77),
             twin: Twin::forged(state, window),
         }
+    }
+
+    fn write(&mut self, word: usize, value: i32) {
+        let room = inside(&self.window);
+        self.window[room][word] = value;
+        self.twin.write(word, value);
     }
 
     #[track_caller]

@@ -1,4 +1,4 @@
-//! Every refusal, 1 to 17, 23 to 26, 28 and 29, by a call of the part; the last line of an event.
+//! Every refusal, 1 to 17 and 23 to 29, by a call of the part; the last line of an event.
 
 use crate::pair::{refusal, Pair};
 use crate::quota::{count, Quota};
@@ -57,13 +57,13 @@ fn the_last_instance() {
     let text = "events a; notes t; t(a[i-9999]) > 0";
     let mut state = Pair::of_text(text, 1).state().clone();
     (state.counts[0], state.p, state.totals.unknown) = (1_000_000, 1_009_998, 999_999);
-    let mut pair = Pair::forged(state.clone(), vec![5; 32]);
+    let mut pair = Pair::summed(state.clone(), vec![5; 32]);
     assert_eq!(pair.pull(&mut [0; 166]), Pulled::Verdict(Truth::True));
     assert_eq!(pair.pull(&mut [0; 166]), Pulled::Waiting);
     assert_eq!(pair.feed(&line(0, [1; 4])), Fed::Refused(Refusal::of(16)));
     assert_eq!(pair.state().p, 1_009_999);
     (state.p, state.totals.unknown) = (1_010_000, 1_000_001);
-    let mut pair = Pair::forged(state, vec![5; 32]);
+    let mut pair = Pair::summed(state, vec![5; 32]);
     let refused = Pulled::Refused(Refusal::of(12));
     assert_eq!(pair.pull(&mut [0; 166]), refused);
 }

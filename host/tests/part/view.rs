@@ -149,7 +149,7 @@ fn instances_up_to_the_last() {
         state.counts[0] = (i + 1).saturating_sub(9_999);
         state.counts[1] = (i + 1).min(1_000_000);
         let mut lent = Lent::of(&[0xA5; 166]);
-        assert_eq!(Pair::forged(state, vec![5; 32]).pull_lent(&mut lent), FALSE);
+        assert_eq!(Pair::summed(state, vec![5; 32]).pull_lent(&mut lent), FALSE);
         let verdict = Truth::False;
         let view = Reported { i, verdict }.view();
         assert_eq!(Pair::view_lent(&lent), Ok(view), "instance {i}");

@@ -135,7 +135,7 @@ fn stored_and_seen(opened: &State, k: u32) {
     let mut state = opened.clone();
     (state.counts[0], state.counts[7], state.p, state.totals.held) = (k, k, k, k);
     let w = state.w as usize;
-    let mut pair = Pair::forged(state, vec![-1; 32 * w]);
+    let mut pair = Pair::summed(state, vec![-1; 32 * w]);
     let notes = [[1, 2, 3, 4], [5, 6, 7, 8]];
     let mut words = vec![-1; 32 * w];
     for (event, notes) in [0, 7].into_iter().zip(notes) {

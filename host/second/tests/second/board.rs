@@ -57,7 +57,7 @@ fn profiles_have_their_numbers() {
 #[test]
 fn the_state_of_a_refused_opening_is_zero_throughout() {
     let zero = State::zero();
-    assert_eq!([zero.len, zero.w, zero.profile, zero.p], [0; 4]);
+    assert_eq!([zero.len, zero.w, zero.profile, zero.p, zero.sum], [0; 5]);
     assert!(zero.frames == [0; 512] && zero.counts == [0; 8]);
     assert_eq!(zero.totals, Totals::default());
     // 12 refuses it, with another profile too.

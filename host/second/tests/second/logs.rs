@@ -366,5 +366,6 @@ fn count_of_1_000_000() {
     assert_eq!(machine.feed(&good), Fed::Refused(Refusal::of(16)));
     assert_eq!(machine.pull(&mut report), Pulled::Waiting);
     assert_eq!((machine.p(), machine.totals().held), (1_000_000, 1_000_000));
-    assert_eq!(machine.state().refusal(32), None);
+    let window = [7; 32];
+    assert_eq!(machine.state(&window).refusal(&window), None);
 }

@@ -1,4 +1,4 @@
-//! Every refusal, 1 to 17, 23 to 26, 28 and 29, by the call that has it.
+//! Every refusal, 1 to 17 and 23 to 29, by the call that has it.
 
 use crate::common::{feed, machine, pull, reads};
 use crate::shared::driven::Twin;
@@ -25,7 +25,7 @@ fn refusals_of_a_call_come_in_order() {
     assert_eq!(open(&wrong_end, 0, 0).err(), Some(Refusal::at(10, 3)));
     let whole = [&no_reference[..], &relation].concat();
     assert_eq!(open(&whole, 0, 0).err(), Some(Refusal::of(7)));
-    // 12 before 13, 13 before 14 and 15, 15 before ignored.
+    // 12 before 13, 13 before 27, 27 before 14 and 15, 15 before ignored.
     let mut state = State::open(&frames, 1, &mut [5; 32]).unwrap();
     assert_eq!(
         State::zero().feed(&mut [], b""),
@@ -33,6 +33,12 @@ fn refusals_of_a_call_come_in_order() {
     );
     assert_eq!(state.feed(&mut [], b""), Fed::Refused(Refusal::of(13)));
     assert_eq!(state.pull(&[], &mut []), Pulled::Refused(Refusal::of(13)));
+    let strange = &mut [1; 32];
+    assert_eq!(state.feed(strange, b""), Fed::Refused(Refusal::of(27)));
+    assert_eq!(
+        state.pull(strange, &mut []),
+        Pulled::Refused(Refusal::of(27))
+    );
     assert_eq!(
         state.pull(&[0; 32], &mut []),
         Pulled::Refused(Refusal::of(14))
@@ -47,7 +53,7 @@ fn refusals_of_a_call_come_in_order() {
 fn refused_ignored_and_waiting_change_nothing() {
     let mut machine = machine("events a b; notes t; t(a[i]) > t(b[i])", 1);
     assert_eq!(feed(&mut machine, 0, 7), Fed::Accepted);
-    let before = machine.state();
+    let before = machine.state(&[]);
     assert_eq!(feed(&mut machine, 0, 8), Fed::Refused(Refusal::of(17)));
     assert_eq!(machine.feed(b"00"), Fed::Refused(Refusal::at(15, 2)));
     assert_eq!(feed(&mut machine, 2, 8), Fed::Ignored);
@@ -58,7 +64,7 @@ fn refused_ignored_and_waiting_change_nothing() {
         Pulled::Refused(Refusal::of(14))
     );
     assert_eq!(report, [9; 200]);
-    assert_eq!(machine.state(), before);
+    assert_eq!(machine.state(&[]), before);
     assert_eq!(machine.list(0), [[7, 0, 0, 0]]);
 }
 

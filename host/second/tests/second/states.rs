@@ -1,8 +1,8 @@
-//! States that a caller hands in: 12, 13, and calls on them.
+//! States that a caller hands in: 12, 13, 27, and calls on them.
 
 use crate::common::{feed_all, machine, pull, reads};
 use crate::shared::log::line;
-use dillplatter_second::{Fed, Pulled, Refusal, State, Totals, Truth};
+use dillplatter_second::{sum_of, Fed, Pulled, Refusal, State, Totals, Truth};
 
 const RULE: &str = "events a b c; notes t; t(a[2*i+1]) > 0 || t(c[i-3]) > 0";
 
@@ -14,19 +14,19 @@ fn totals(held: u32, failed: u32, unknown: u32) -> Totals {
     }
 }
 
-/// A state for a rule, with W, counts of a, b, c, and p; all verdicts before it held.
+/// A state for a rule, with W, counts of a, b, c, and p; all verdicts before it held. All words of its window are 0.
 fn state(rule: &str, w: u32, counts: [u32; 3], p: u32) -> State {
-    let mut state = machine(rule, w).state();
+    let mut state = machine(rule, w).state(&[]);
     state.counts[..3].copy_from_slice(&counts);
     state.totals = totals(p - state.p, 0, 0);
     state.p = p;
     state
 }
 
-/// The number of the refusal that both calls give before they look at their own arguments.
+/// The number of the refusal that both calls give before they look at their own arguments, with a window of so many times 0.
 fn number(state: &State, words: usize) -> Option<u8> {
-    let refusal = state.refusal(words);
     let mut window = vec![0; words];
+    let refusal = state.refusal(&window);
     let fed = state.clone().feed(&mut window, b"");
     let pulled = state.clone().pull(&window, &mut []);
     match refusal {
@@ -46,12 +46,12 @@ fn number(state: &State, words: usize) -> Option<u8> {
 #[test]
 fn state_of_a_machine_passes() {
     let mut machine = machine(RULE, 4);
-    assert_eq!(number(&machine.state(), 128), None);
+    assert_eq!(number(&machine.state(&[]), 128), None);
     feed_all(&mut machine, 0, &[1, 1, 1, 1]);
     assert_eq!(pull(&mut machine), Pulled::Verdict(Truth::True));
     assert_eq!(pull(&mut machine), Pulled::Verdict(Truth::True));
-    assert_eq!(machine.state(), state(RULE, 4, [4, 0, 0], 2));
-    assert_eq!(number(&machine.state(), 128), None);
+    assert_eq!(machine.state(&[]), state(RULE, 4, [4, 0, 0], 2));
+    assert_eq!(number(&machine.state(&[]), 128), None);
 }
 
 #[test]
@@ -148,7 +148,11 @@ fn counts_of_a_state() {
     for event in 3..8 {
         let mut forged = state(RULE, 4, [19, 0, 8], 7);
         forged.counts[event] = 1;
-        assert_eq!(forged.refusal(128), Some(Refusal::of(12)), "event {event}");
+        assert_eq!(
+            forged.refusal(&[0; 128]),
+            Some(Refusal::of(12)),
+            "event {event}"
+        );
     }
 }
 
@@ -175,11 +179,12 @@ fn p_up_to_1_009_999() {
     let mut window = vec![0; 32];
     window[0] = 5;
     let mut before = state(rule, 1, [1_000_000, 0, 0], 1_009_998);
+    before.sum = 5;
     assert_eq!(
         before.pull(&window, &mut [0; 166]),
         Pulled::Verdict(Truth::True)
     );
-    assert_eq!(before, last);
+    assert_eq!(before, State { sum: 5, ..last });
     assert_eq!(before.pull(&window, &mut [0; 166]), Pulled::Waiting);
     assert_eq!(
         before.feed(&mut window, &line(0, [1; 4])),
@@ -195,6 +200,7 @@ fn a_pull_reads_the_window_that_it_is_given() {
     let mut window = vec![-7; 96];
     window[5] = 10;
     window[20] = 9;
+    forged.sum = sum_of(&window);
     let mut report = [0xA5; 170];
     assert_eq!(
         forged.pull(&window, &mut report),
@@ -215,6 +221,7 @@ fn a_report_has_each_mark_and_value_at_its_place() {
     let mut forged = state(rule, 1, [10_000, 0, 0], 9_998);
     let mut window = vec![7; 32];
     window[0] = i32::MIN + 0x0A0B0C;
+    forged.sum = sum_of(&window);
     let mut report = [0xA5; 170];
     let verdict = forged.pull(&window, &mut report);
     assert_eq!(verdict, Pulled::Verdict(Truth::False));
@@ -231,6 +238,7 @@ fn a_feed_changes_four_words_or_none() {
     // Base of b is 8; count 7 comes below it, 8 does not.
     let mut forged = state(rule, 3, [0, 7, 0], 4);
     let mut window = vec![-7; 96];
+    forged.sum = sum_of(&window);
     assert_eq!(
         forged.feed(&mut window, &line(1, [1, 2, 3, 4])),
         Fed::Accepted
@@ -256,7 +264,7 @@ fn opening_gives_the_state_of_a_fresh_machine() {
     let frames = reads(RULE).unwrap();
     let mut window = [9; 64];
     let opened = State::open(&frames, 2, &mut window).unwrap();
-    assert_eq!(opened, machine(RULE, 2).state());
+    assert_eq!(opened, machine(RULE, 2).state(&window));
     assert_eq!((opened.counts, opened.p), ([0; 8], 0));
     assert_eq!(opened.totals, totals(0, 0, 0));
     assert_eq!(opened.frames[..56], frames);

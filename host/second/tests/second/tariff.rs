@@ -244,7 +244,7 @@ fn a_state_that_12_refuses_costs_nothing() {
         let mut state = with_totals([1, 2, 3]);
         assert_eq!(state.charge(&tariff), Ok(96));
         change(&mut state);
-        assert_eq!(state.refusal(32), Some(Refusal::of(12)));
+        assert_eq!(state.refusal(&[0; 32]), Some(Refusal::of(12)));
         assert_eq!(state.charge(&tariff), refused(12));
     }
 }
@@ -264,7 +264,7 @@ fn a_machine_charges_for_its_reports() {
     ] {
         assert_eq!(pull(&mut machine), answer);
         assert_eq!(machine.charge(&tariff), Ok(cents));
-        assert_eq!(machine.state().charge(&tariff), Ok(cents));
+        assert_eq!(machine.state(&[]).charge(&tariff), Ok(cents));
     }
 }
 
@@ -294,7 +294,7 @@ fn charges_after_random_calls() {
             damage(random, &mut tariff);
         }
         assert_eq!(machine.charge(&tariff), tariff.cents(count), "seed {seed}");
-        assert_eq!(machine.state().charge(&tariff), machine.charge(&tariff));
+        assert_eq!(machine.state(&[]).charge(&tariff), machine.charge(&tariff));
         seen.charged(machine.charge(&tariff));
         violations += count;
     }

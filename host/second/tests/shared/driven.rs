@@ -1,7 +1,8 @@
 //! A checker as tests drive it, and the second checker in this form.
 
 use dillplatter_second::{self as second, Fed, Machine, Pulled, Refusal, State, Truth, View};
-use dillplatter_second::{Line, OldLine, Profile, Tariff};
+use dillplatter_second::{sum_of, Line, OldLine, Profile, Tariff};
+use std::collections::BTreeMap;
 
 pub const TRUE: Pulled = Pulled::Verdict(Truth::True);
 pub const FALSE: Pulled = Pulled::Verdict(Truth::False);
@@ -11,6 +12,11 @@ pub const FULL: Fed = Fed::Refused(Refusal {
     number: 17,
     place: 0,
 });
+/// What feeding and pulling are refused with where the sum differs.
+pub const STRAY: Refusal = Refusal {
+    number: 27,
+    place: 0,
+};
 
 /// A checker, with calls on memory as it is.
 pub trait Driven: Sized {
@@ -22,6 +28,9 @@ pub trait Driven: Sized {
 
     /// A state and a window that a caller hands in.
     fn forged(state: State, window: Vec<i32>) -> Self;
+
+    /// Somebody writes a word into the window.
+    fn write(&mut self, word: usize, value: i32);
 
     /// Feeds a line.
     fn feed(&mut self, line: &[u8]) -> Fed;
@@ -49,6 +58,12 @@ pub trait Driven: Sized {
 
     /// The plain machine after the same calls, unless the state was handed in.
     fn machine(&self) -> &Machine;
+
+    /// The same as `forged`, where the state has the window's sum.
+    fn summed(state: State, window: Vec<i32>) -> Self {
+        let sum = sum_of(&window);
+        Self::forged(State { sum, ..state }, window)
+    }
 
     /// Opens at a desk with a window.
     #[track_caller]
@@ -86,8 +101,33 @@ pub trait Driven: Sized {
 pub struct Twin {
     state: State,
     window: Vec<i32>,
-    /// Nothing if the state was handed in.
+    /// The words that somebody wrote since the last unrefused call, with what that call left there.
+    written: BTreeMap<usize, i32>,
+    /// Nothing if the state was handed in, or if a call went on with strange words.
     machine: Option<Machine>,
+}
+
+impl Twin {
+    /// How many words are not what the last unrefused call left.
+    fn strange(&self) -> usize {
+        let strange = |(word, left): &(&usize, &i32)| self.window[**word] != **left;
+        self.written.iter().filter(strange).count()
+    }
+
+    /// After an answer, with so many strange words before it: with one it is refused with 27. With several a call may go on, and
+    /// then the machine is left behind.
+    #[track_caller]
+    fn after(&mut self, refusal: Option<Refusal>, strange: usize) {
+        if self.machine.is_some() {
+            assert!(strange != 1 || refusal == Some(STRAY), "{refusal:?}");
+        }
+        if refusal.is_none() {
+            self.written.clear();
+            if strange > 0 {
+                self.machine = None;
+            }
+        }
+    }
 }
 
 impl Driven for Twin {
@@ -106,7 +146,7 @@ impl Driven for Twin {
         let opened = State::open_as(profile, frames, w, &mut lent);
         let machine = second::open_as(profile, frames, w, window.len());
         assert_eq!(
-            machine.as_ref().map(Machine::state),
+            machine.as_ref().map(|machine| machine.state(&lent)),
             opened.as_ref().cloned()
         );
         if opened.is_ok() {
@@ -117,6 +157,7 @@ impl Driven for Twin {
         opened.map(|state| Twin {
             state,
             window: lent,
+            written: BTreeMap::new(),
             machine: machine.ok(),
         })
     }
@@ -125,16 +166,28 @@ impl Driven for Twin {
         Twin {
             state,
             window,
+            written: BTreeMap::new(),
             machine: None,
         }
     }
 
+    fn write(&mut self, word: usize, value: i32) {
+        self.written.entry(word).or_insert(self.window[word]);
+        self.window[word] = value;
+    }
+
     #[track_caller]
     fn feed(&mut self, line: &[u8]) -> Fed {
+        let strange = self.strange();
         let answer = self.state.feed(&mut self.window, line);
-        if let Some(machine) = &mut self.machine {
+        let refusal = match answer {
+            Fed::Refused(refusal) => Some(refusal),
+            _ => None,
+        };
+        self.after(refusal, strange);
+        if let (Some(machine), 0) = (&mut self.machine, strange) {
             assert_eq!(machine.feed(line), answer, "{}", line.escape_ascii());
-            assert_eq!(machine.state(), self.state);
+            assert_eq!(machine.state(&self.window), self.state);
         }
         answer
     }
@@ -142,11 +195,17 @@ impl Driven for Twin {
     #[track_caller]
     fn pull(&mut self, report: &mut [u8]) -> Pulled {
         let mut other_report = report.to_vec();
+        let strange = self.strange();
         let answer = self.state.pull(&self.window, report);
-        if let Some(machine) = &mut self.machine {
+        let refusal = match answer {
+            Pulled::Refused(refusal) => Some(refusal),
+            _ => None,
+        };
+        self.after(refusal, strange);
+        if let (Some(machine), 0) = (&mut self.machine, strange) {
             assert_eq!(machine.pull(&mut other_report), answer);
             assert!(other_report == report, "the machine's report is another");
-            assert_eq!(machine.state(), self.state);
+            assert_eq!(machine.state(&self.window), self.state);
         }
         answer
     }

@@ -111,6 +111,8 @@ fn feeding<C: Driven>() -> Vec<Row> {
     vec![
         (12, 0, of(forged(State::zero(), 32), &good)),
         (13, 0, of(forged(state::<C>(0), 64), &good)),
+        (27, 0, of(strange(), &good)),
+        (27, 0, of(strange(), b"")),
         (15, 8, of(C::of_text(RULE, 1), b"00000000g1")),
         (15, 33, of(full(), &good[..33])),
         (16, 0, of(forged(state::<C>(1_000_000), 32), &good)),
@@ -127,6 +129,8 @@ fn pulling<C: Driven>() -> Vec<Row> {
         (12, 0, of(forged(State::zero(), 32), 166)),
         (13, 0, of(forged(state::<C>(0), 64), 166)),
         (13, 0, of(forged(state::<C>(0), 31), 166)),
+        (27, 0, of(strange(), 166)),
+        (27, 0, of(strange(), 0)),
         (14, 0, of(forged(state::<C>(0), 32), 165)),
         (14, 0, of(full(), 165)),
     ]
@@ -165,6 +169,13 @@ fn full<C: Driven>() -> C {
     let mut full = C::of_text(RULE, 1);
     assert_eq!(full.feed(&line(0, [1, 2, 3, 4])), Fed::Accepted);
     full
+}
+
+/// The same, with a word that somebody wrote.
+fn strange<C: Driven>() -> C {
+    let mut strange: C = full();
+    strange.write(31, 1);
+    strange
 }
 
 /// The rule's state after p lines that all held.
