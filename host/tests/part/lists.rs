@@ -7,6 +7,7 @@ use crate::shared::log::{events, random_line};
 use crate::shared::random::{board_frames, frames, late_frames, width, Random};
 use crate::shared::seen::Seen;
 use crate::shared::start::start_of;
+use crate::shared::strays::stray;
 use dillplatter_second::{Fed, Profile, Pulled, Truth};
 use std::ops::Range;
 
@@ -28,6 +29,8 @@ fn call(random: &mut Random, pair: &mut Pair, events: &[usize], seen: &mut Seen)
         } else {
             seen.pulled(other.pull(&mut [random.below(256) as u8; 166]));
         }
+    } else if random.once_in(30) {
+        stray(random, pair, events, seen);
     } else if random.once_in(2) {
         seen.fed(pair.feed(&random_line(random, events)));
     } else {
@@ -67,8 +70,8 @@ fn random_lists_of_calls() {
     let quota = Quota::begin("random lists of calls");
     let mut seen = Seen::default();
     lists(50_000_000..50_001_000, Profile::Desk, frames, &mut seen);
-    // Accepted, ignored, 13, 15, 17; three verdicts, waiting, 13, 14.
-    seen.more_than(11, 500);
+    // Accepted, ignored, 13, 27, 15, 17; three verdicts, waiting, 13, 27, 14.
+    seen.more_than(13, 500);
     quota.end();
 }
 
@@ -79,7 +82,7 @@ fn random_lists_of_calls_for_rules_that_start_late() {
     let seeds = 370_000_000..370_001_000;
     let late = lists(seeds, Profile::Desk, late_frames, &mut seen);
     // The same answers.
-    seen.more_than(11, 500);
+    seen.more_than(13, 500);
     assert!(late > 850, "{late}");
     quota.end();
 }
@@ -91,7 +94,7 @@ fn random_lists_of_calls_on_a_board() {
     let seeds = 420_000_000..420_001_000;
     let late = lists(seeds, Profile::Board, board_frames, &mut seen);
     // The same answers.
-    seen.more_than(11, 500);
+    seen.more_than(13, 500);
     assert!(late > 200, "{late}");
     quota.end();
 }

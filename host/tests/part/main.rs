@@ -19,6 +19,7 @@ mod program;
 mod quota;
 mod refusals;
 mod start;
+mod strays;
 mod tariff;
 mod texts;
 mod vectors;

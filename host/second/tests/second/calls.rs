@@ -5,6 +5,7 @@ use crate::shared::log::{events, line, random_line};
 use crate::shared::random::{board_frames, frames, late_frames, width, Random};
 use crate::shared::seen::Seen;
 use crate::shared::start::start_of;
+use crate::shared::strays::stray;
 use dillplatter_second::line::read_line;
 use dillplatter_second::{open, Fed, Machine, Profile, Pulled, Truth};
 use std::ops::Range;
@@ -26,7 +27,10 @@ fn window_holds_the_lists(machine: &Machine, window: &[i32]) {
 
 /// One random call; its answer is counted, and a verdict is added to a list.
 fn call(random: &mut Random, twin: &mut Twin, seen: &mut Seen, verdicts: &mut Vec<Truth>) {
-    if random.once_in(2) {
+    if random.once_in(30) {
+        let events = events(twin.machine());
+        stray(random, twin, &events, seen);
+    } else if random.once_in(2) {
         let line = random_line(random, &events(twin.machine()));
         let answer = twin.feed(&line);
         if answer == Fed::Accepted {
@@ -61,7 +65,7 @@ fn lists(seeds: Range<u64>, profile: Profile, rule: Maker, seen: &mut Seen) -> u
         let mut verdicts = Vec::new();
         for turn in 0..200 {
             call(random, &mut twin, seen, &mut verdicts);
-            let refusal = twin.state().refusal(twin.window().len());
+            let refusal = twin.state().refusal(twin.window());
             assert_eq!(refusal, None, "{seed} {turn}");
             assert_eq!(twin.state().profile, profile.number(), "{seed} {turn}");
         }
@@ -83,8 +87,8 @@ fn lists(seeds: Range<u64>, profile: Profile, rule: Maker, seen: &mut Seen) -> u
 fn whole_lists_and_window_agree() {
     let mut seen = Seen::default();
     lists(2_000_000..2_001_250, Profile::Desk, frames, &mut seen);
-    // Accepted, ignored, 15, 17; three verdicts, waiting, 14.
-    seen.more_than(9, 500);
+    // Accepted, ignored, 27, 15, 17; three verdicts, waiting, 27, 14.
+    seen.more_than(11, 500);
 }
 
 #[test]
@@ -93,7 +97,7 @@ fn whole_lists_and_window_agree_for_rules_that_start_late() {
     let seeds = 360_000_000..360_001_000;
     let late = lists(seeds, Profile::Desk, late_frames, &mut seen);
     // The same answers.
-    seen.more_than(9, 500);
+    seen.more_than(11, 500);
     assert!(late > 850, "{late}");
 }
 
@@ -103,7 +107,7 @@ fn whole_lists_and_window_agree_on_a_board() {
     let seeds = 450_000_000..450_001_000;
     let late = lists(seeds, Profile::Board, board_frames, &mut seen);
     // The same answers.
-    seen.more_than(9, 500);
+    seen.more_than(11, 500);
     assert!(late > 200, "{late}");
 }
 

@@ -20,6 +20,7 @@ mod refusals;
 mod requires;
 mod start;
 mod states;
+mod strays;
 mod tariff;
 mod texts;
 mod trees;

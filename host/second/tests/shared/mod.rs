@@ -13,5 +13,6 @@ pub mod random;
 pub mod refusals;
 pub mod seen;
 pub mod start;
+pub mod strays;
 pub mod tariff;
 pub mod vectors;

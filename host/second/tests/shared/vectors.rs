@@ -99,10 +99,11 @@ fn opened_words<C>(answer: Result<C, Refusal>) -> String {
     }
 }
 
-/// The files of calls, with how many rules, feeds and pulls each has.
-const CALLS: [(&str, [usize; 3]); 2] = [
-    ("calls.txt", [86, 2_812, 2_264]),
-    ("points/02/calls.txt", [60, 1_994, 1_548]),
+/// The files of calls, with how many rules, feeds, pulls and written words each has, and how many answers with 27.
+const CALLS: [(&str, [usize; 5]); 3] = [
+    ("calls.txt", [86, 2_812, 2_264, 0, 0]),
+    ("points/02/calls.txt", [60, 1_994, 1_548, 0, 0]),
+    ("points/11/strays.txt", [60, 1_955, 1_940, 658, 719]),
 ];
 
 /// Each file of calls.
@@ -112,10 +113,11 @@ pub fn calls<C: Driven>() {
     }
 }
 
-/// A file of calls: lists of feeds and pulls, each behind its rule. The answer is how many of each there are.
-fn calls_of<C: Driven>(name: &str) -> [usize; 3] {
+/// A file of calls: lists of feeds and pulls, each behind its rule, with words that somebody writes in between. The answer is how
+/// many of each there are, and how many answers with 27.
+fn calls_of<C: Driven>(name: &str) -> [usize; 5] {
     let mut checker: Option<C> = None;
-    let [mut rules, mut feeds, mut pulls] = [0; 3];
+    let [mut rules, mut feeds, mut pulls, mut written, mut strays] = [0; 5];
     for (at, line) in vector_lines(name) {
         let fields: Vec<&str> = line.split(' ').collect();
         let words = match fields[0] {
@@ -124,6 +126,12 @@ fn calls_of<C: Driven>(name: &str) -> [usize; 3] {
                 let w: u32 = fields[2].parse().unwrap();
                 let opened = C::open(&unhex(fields[1]), w, &vec![-1; 32 * w as usize]);
                 checker = Some(opened.unwrap_or_else(|_| panic!("{name} line {at}")));
+                continue;
+            }
+            "word" => {
+                written += 1;
+                let (word, value) = (fields[1].parse().unwrap(), fields[2].parse().unwrap());
+                checker.as_mut().unwrap().write(word, value);
                 continue;
             }
             "feed" => {
@@ -137,8 +145,9 @@ fn calls_of<C: Driven>(name: &str) -> [usize; 3] {
             other => panic!("{name} line {at}: {other}"),
         };
         assert_eq!(words, fields[2..].join(" "), "{name} line {at}");
+        strays += usize::from(words == "refused 27 0");
     }
-    [rules, feeds, pulls]
+    [rules, feeds, pulls, written, strays]
 }
 
 /// points/08/converting.txt.
