@@ -13,6 +13,9 @@ use std::process::{Command, Stdio};
 const LINES: [usize; 2] = [10_000, 20_000];
 /// Calls of the shorter and the longer run.
 const CALLS: [usize; 2] = [1_000, 2_000];
+/// The W of one feed and one pull, and those that are compared: a call looks at every word of the window.
+const W: u32 = 64;
+pub const WIDTHS: [u32; 3] = [1, W, 256];
 
 /// What one kind of rule costs.
 pub struct Counts {
@@ -31,22 +34,17 @@ pub fn at_hand() -> bool {
     version.is_ok_and(|status| status.success())
 }
 
+/// The words that run this program under callgrind.
+fn own(what: &str, kind: &Kind, times: usize, w: u32) -> Vec<String> {
+    let program = std::env::current_exe().expect("a path");
+    let words = [program.display().to_string(), "steps".into(), what.into()];
+    let numbers = [kind.name.into(), times.to_string(), w.to_string()];
+    [words, numbers].concat()
+}
+
 /// Counts for one kind of rule; the difference of two runs leaves out what is done once.
 pub fn count(room: &Room, kind: &Kind) -> Counts {
     room.put_rule(kind);
-    let own = |what: &str, times: usize| {
-        let program = std::env::current_exe()
-            .expect("a path")
-            .display()
-            .to_string();
-        vec![
-            program,
-            "steps".into(),
-            what.into(),
-            kind.name.into(),
-            times.to_string(),
-        ]
-    };
     let whole = |words: &dyn Fn(usize) -> Vec<String>| {
         let of = |lines| collected(room, &words(lines), &logs::name(lines));
         (of(LINES[1]) - of(LINES[0])) / (LINES[1] - LINES[0]) as u64
@@ -55,20 +53,23 @@ pub fn count(room: &Room, kind: &Kind) -> Counts {
         room.put(&logs::name(lines), &logs::make(lines));
     }
     let lines = vec![
-        whole(&|lines| own("library", lines)),
+        whole(&|lines| own("library", kind, lines, W)),
         whole(&|_| ways::bench()),
-        whole(&|lines| own("second", lines)),
-        whole(&|lines| own("states", lines)),
+        whole(&|lines| own("second", kind, lines, W)),
+        whole(&|lines| own("states", kind, lines, W)),
         whole(&|_| ways::awk()),
     ];
-    let single = |what| {
-        let of = |times| collected(room, &own(what, times), &logs::name(LINES[0]));
+    let calls = calls(room, kind, W).to_vec();
+    Counts { lines, calls }
+}
+
+/// Instructions of one feed and of one pull of the library, with some W.
+pub fn calls(room: &Room, kind: &Kind, w: u32) -> [u64; 2] {
+    room.put("nothing", b"");
+    ["feed", "pull"].map(|what| {
+        let of = |times| collected(room, &own(what, kind, times, w), "nothing");
         (of(CALLS[1]) - of(CALLS[0])) / (CALLS[1] - CALLS[0]) as u64
-    };
-    Counts {
-        lines,
-        calls: vec![single("feed"), single("pull")],
-    }
+    })
 }
 
 /// The instructions of a program with a log in a file.
@@ -88,12 +89,13 @@ fn collected(room: &Room, words: &[String], log: &str) -> u64 {
     number.unwrap_or_else(|| panic!("callgrind counted nothing: {told}"))
 }
 
-/// What a run under callgrind does: `steps WHAT KIND TIMES`. A whole log comes on standard input; `awk` and `log` print
-/// the script of a rule and a log of so many lines.
+/// What a run under callgrind does: `steps WHAT KIND TIMES [W]`. A whole log comes on standard input, and its W is always 64;
+/// `awk` and `log` print the script of a rule and a log of so many lines.
 pub fn steps(words: &[String]) {
-    let [what, name, times] = words else {
-        panic!("steps WHAT KIND TIMES");
+    let [what, name, times, w @ ..] = words else {
+        panic!("steps WHAT KIND TIMES [W]");
     };
+    let w = w.first().map_or(W, |w| w.parse().expect("a number"));
     let all = kinds();
     let kind = all
         .iter()
@@ -105,8 +107,8 @@ pub fn steps(words: &[String]) {
         "library" => _ = black_box(ways::library(&frames, &input())),
         "second" => _ = black_box(ways::second(&frames, &input())),
         "states" => _ = black_box(ways::states(&frames, &input())),
-        "feed" => feed(&frames, times),
-        "pull" => pull(&frames, times),
+        "feed" => feed(&frames, w, times),
+        "pull" => pull(&frames, w, times),
         "awk" => print!("{}", awk::script(&kind.rule())),
         "log" => print!("{}", String::from_utf8_lossy(&logs::make(times))),
         other => panic!("no step {other}"),
@@ -120,17 +122,17 @@ fn input() -> Vec<u8> {
     log
 }
 
-/// A state in the middle of a log: the next line is accepted, or the next instance is settled.
-fn middle(frames: &[u8], settled: bool) -> (State, Vec<i32>, Vec<u8>) {
+/// A state in the middle of a log with its window: the next line is accepted, or the next instance is settled.
+fn middle(frames: &[u8], w: u32, settled: bool) -> (State, Vec<i32>, Vec<u8>) {
     let log = logs::make(1_000);
-    let mut window = vec![0; 32 * 64];
-    let (mut state, opened) = State::open(frames, 64, &mut window);
+    let mut window = vec![0; 32 * w as usize];
+    let (mut state, opened) = State::open(frames, w, &mut window);
     opened.expect("the frames open");
     for line in log.chunks(35).map(|line| &line[..34]) {
-        let before = state;
+        let before = (state, window.clone());
         let accepted = state.feed(&mut window, line) == Fed::Accepted;
-        if accepted && !settled && before.next > 300 {
-            return (before, window, line.to_vec());
+        if accepted && !settled && before.0.next > 300 {
+            return (before.0, before.1, line.to_vec());
         }
         loop {
             let before = state;
@@ -145,9 +147,19 @@ fn middle(frames: &[u8], settled: bool) -> (State, Vec<i32>, Vec<u8>) {
     panic!("no such state");
 }
 
+/// A line of the same event that has the notes which stand where it goes, so that feeding it leaves the window as it was.
+fn in_place(state: &State, window: &[i32], line: &[u8]) -> Vec<u8> {
+    let event = usize::from(line[1] - b'0');
+    let (w, count) = (state.width as usize, state.counts[event] as usize);
+    let notes = &window[(event * w + count % w) * 4..][..4];
+    let digits = notes.iter().map(|note| format!("{note:08X}"));
+    format!("{event:02X}{}", digits.collect::<String>()).into_bytes()
+}
+
 /// The same feed again and again.
-fn feed(frames: &[u8], times: usize) {
-    let (state, mut window, line) = middle(frames, false);
+fn feed(frames: &[u8], w: u32, times: usize) {
+    let (state, mut window, line) = middle(frames, w, false);
+    let line = in_place(&state, &window, &line);
     for _ in 0..times {
         let mut state = black_box(state);
         assert_eq!(state.feed(&mut window, &line), Fed::Accepted);
@@ -155,8 +167,8 @@ fn feed(frames: &[u8], times: usize) {
 }
 
 /// The same pull again and again.
-fn pull(frames: &[u8], times: usize) {
-    let (state, window, _) = middle(frames, true);
+fn pull(frames: &[u8], w: u32, times: usize) {
+    let (state, window, _) = middle(frames, w, true);
     for _ in 0..times {
         let mut state = black_box(state);
         assert_eq!(state.pull(&window, &mut [0; 166]), Pulled::True);

@@ -3,7 +3,7 @@
 //!
 //!     cargo run --offline --release --manifest-path host/Cargo.toml --bin compare
 //!
-//! With the word `quick` the logs are a tenth as long.
+//! With the word `quick` the logs are a tenth as long. With the word `widths` it prints the last table alone.
 
 mod awk;
 mod clock;
@@ -30,6 +30,9 @@ fn main() {
     if words.first().is_some_and(|word| word == "steps") {
         return counts::steps(&words[1..]);
     }
+    if words == ["widths"] {
+        return print_widths(&Room::new());
+    }
     let shorter = if words == ["quick"] { 10 } else { 1 };
     let sizes = LINES.map(|lines| lines / shorter);
     let room = Room::new();
@@ -49,6 +52,7 @@ fn main() {
     print_growth(&all, &sizes);
     print_memory(&room, &all, &sizes, &logs);
     print_counts(&room, &all);
+    print_widths(&room);
 }
 
 /// Runs all ways in turn, round by round.
@@ -85,7 +89,11 @@ fn timed(run: impl FnOnce() -> Found) -> (Duration, Found) {
 }
 
 fn heading(title: &str, columns: &[String]) {
-    println!("\n{title}\n\n| Rule | {} |", columns.join(" | "));
+    heading_by("Rule", title, columns);
+}
+
+fn heading_by(first: &str, title: &str, columns: &[String]) {
+    println!("\n{title}\n\n| {first} | {} |", columns.join(" | "));
     println!("|---|{}", "---|".repeat(columns.len()));
 }
 
@@ -176,5 +184,24 @@ fn print_counts(room: &Room, all: &[(Kind, Best)]) {
             .map(u64::to_string)
             .collect();
         println!("| {} | {} |", kind.name, cells.join(" | "));
+    }
+}
+
+/// The latency rule for several W.
+fn print_widths(room: &Room) {
+    if !counts::at_hand() {
+        println!("\nvalgrind is not at hand: no instructions counted");
+        return;
+    }
+    let columns = ["one feed", "one pull"].map(String::from);
+    let title = "Instructions of one call of the library by W (callgrind), latency";
+    heading_by("W", title, &columns);
+    let all = kinds();
+    let latency = all.iter().find(|kind| kind.name == "latency");
+    let latency = latency.expect("a kind of rule");
+    for w in counts::WIDTHS {
+        eprintln!("W {w}, instructions");
+        let cells = counts::calls(room, latency, w).map(|count| count.to_string());
+        println!("| {w} | {} |", cells.join(" | "));
     }
 }
