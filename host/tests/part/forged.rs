@@ -210,7 +210,7 @@ fn forged_states_and_windows() {
     let mut seen = Seen::default();
     // States that 12 refuses for their profile alone: those above a board's limits, and those of no profile.
     let (mut above, mut none) = (0, 0);
-    for seed in 0..15_000 {
+    for seed in 0..20_000 {
         let random = &mut Random::new(seed + 70_000_000);
         let (mut state, events) = honest(random);
         if random.once_in(2) {

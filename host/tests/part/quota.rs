@@ -22,7 +22,7 @@ const OF_TESTS: [(&str, usize); 45] = [
     ("several widths of late rules", 180_000),
     ("several widths of boards", 210_000),
     ("places of every width", 12_000),
-    ("forged states", 60_000),
+    ("forged states", 385_000),
     ("limits of a board", 6_600),
     ("states of either profile", 104_000),
     ("desk and board", 150_000),
