@@ -393,7 +393,7 @@ pub fn sums_that_come_round<C: Driven>() {
     }
 }
 
-/// Lines of large and of negative notes: the rings of the first and the last event are filled, freed and filled again, twice, for W 1
+/// Lines of large and of negative notes: the rings of the first and the last event are filled four times and freed each time, for W 1
 /// and 256. The sum is that of the window after each line.
 pub fn lines_whose_sums_come_round<C: Driven>() {
     for w in [1, 256] {
