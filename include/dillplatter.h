@@ -15,8 +15,12 @@
  * What the caller keeps to, and nobody checks:
  * - a pointer and a length stand for that many elements that may be read, and written where the pointer is not to const; the
  *   elements are aligned as their type asks; with length 0 any pointer will do, NULL too;
- * - during a call, memory that it may write overlaps no other memory lent to that call, and nobody else uses it;
+ * - during a call, nobody else writes to memory lent to that call, and what the call may write overlaps no other memory lent to it
+ *   and is used by nobody else;
  * - the stack has room for the call: "stack" below says how much.
+ *
+ * And what is checked in part: between the calls on a checker nobody changes its window. Feed and pull refuse with 27 every window in
+ * which one word was changed, but not every one in which several were: "a window that somebody wrote into", below.
  *
  * The library is for x86-64 with the System V calling convention, as on Linux. It needs memcpy and memset, nothing else.
  */
@@ -155,6 +159,9 @@ enum dillplatter_refusal {
     DILLPLATTER_WIDE_NOTE = 25,    /* lower: one of the first three notes that 16 bits can't hold; place: the first such note's
                                       first digit. So one below -32,768 or above 32,767; the place is 2, 10 or 18 */
     DILLPLATTER_BOARD_LIMITS = 26, /* open_board: W over 32 or over 16 frames, at a board opening */
+    DILLPLATTER_WINDOW_SUM = 27,   /* feed, pull: the sum of the window's words, modulo 2^32, differs from the state's. So the
+                                      window is not the one that the last call that was not refused left with this state:
+                                      somebody wrote into it, or the state is that of another moment */
     DILLPLATTER_TARIFF_BANDS = 28, /* charge: more than four bands, or last numbers that don't rise strictly from above 0 or exceed
                                       1,010,000 */
     DILLPLATTER_TARIFF_PRICES = 29 /* charge: a price over 10,000 cents or a surcharge over 100 percent */
@@ -211,7 +218,7 @@ typedef struct dillplatter_totals {
 } dillplatter_totals;
 
 /* What a checker carries from call to call, beside the window: hand on what the last call gave back. A caller may read it and
- * copy it; a copy of the state together with a copy of the window is a second checker. */
+ * copy it; a copy of the state together with a copy of the window, both made between the same two calls, is a second checker. */
 typedef struct dillplatter_state {
     uint8_t frames[DILLPLATTER_FRAME_BUFFER]; /* the rule, zero after its last frame */
     uint32_t len;                             /* its number of frames, 1 to 64; 0 in the state of a refused opening */
@@ -220,6 +227,8 @@ typedef struct dillplatter_state {
     uint32_t counts[8];                       /* accepted lines of each event */
     uint32_t next;                            /* the instance that the next pull is about; opening sets it to the start */
     dillplatter_totals totals;
+    uint32_t sum;                             /* of the window's words, each as its 32 bits, modulo 2^32; 0 in an opened state, where
+                                                 all words are 0, and in the state of a refused opening */
 } dillplatter_state;
 
 /* What dillplatter_read gives. */
@@ -291,12 +300,12 @@ dillplatter_reading dillplatter_read(const uint8_t *text, size_t text_len, uint8
  * `frames` is exactly the rule's frames: of a buffer that dillplatter_read filled, the first 8 * reading.frames bytes. They are
  * copied into the state, and are checked whether or not they come from dillplatter_read.
  * Answers: opened; or refused with 9, 10, 7, 8 or 11, checked in this order.
- * Gives: where opened, the state of a fresh checker: `profile` 0, no line, no verdict, and `next` at the rule's start, its first
- * instance with a reference whose line number is not below 0. It is 0 for a rule with a reference whose offset is 0 or more, 2 for
- * t(a[i-2]) > 0, at most 9,999. Where refused, the state that is zero throughout, which feed, pull and charge refuse with 12.
+ * Gives: where opened, the state of a fresh checker: `profile` 0, no line, no verdict, `sum` 0, and `next` at the rule's start, its
+ * first instance with a reference whose line number is not below 0. It is 0 for a rule with a reference whose offset is 0 or more, 2
+ * for t(a[i-2]) > 0, at most 9,999. Where refused, the state that is zero throughout, which feed, pull and charge refuse with 12.
  * Writes: where opened, all words of `window`, to 0. Where refused, none.
  * Memory: `frames` is only read, and not needed after the call. The window stays the caller's; between the calls on this checker
- * nobody may change it. They must not overlap.
+ * nobody may change it, though feed and pull see a change of one word (27). They must not overlap.
  * Stack: count on DILLPLATTER_STACK_OPEN bytes. */
 dillplatter_result dillplatter_open(const uint8_t *frames, size_t frames_len, uint32_t width, int32_t *window, size_t window_len);
 
@@ -316,19 +325,20 @@ dillplatter_result dillplatter_open_board(const uint8_t *frames, size_t frames_l
 
 /* Feeds one log line: 34 digits 0-9, A-F or a-f, the event (2 digits) and four notes (8 digits each, signed, the most
  * significant first). The case of a letter never counts. The line feed is not part of it.
- * Answers: accepted; ignored; or refused with 12, 13, 15, 16 or 17, checked in this order, an event that the rule does not
+ * Answers: accepted; ignored; or refused with 12, 13, 27, 15, 16 or 17, checked in this order, an event that the rule does not
  * reference being ignored after 15. Ignored and refused lines change neither state nor window. After 17, pull, then feed the
- * same line again.
- * Gives: where accepted, the state with that event's count one higher; else the state that it was given.
+ * same line again. After 27, open anew ("a window that somebody wrote into", below).
+ * Gives: where accepted, the state with that event's count one higher and the sum of the window as it is now; else the state that
+ * it was given.
  * Writes: where accepted, at most the four words of that line in `window`. Else none.
  * Memory: `line` is only read, and not needed after the call. `window` must not overlap it.
  * Stack: count on DILLPLATTER_STACK_FEED bytes. */
 dillplatter_result dillplatter_feed(dillplatter_state state, int32_t *window, size_t window_len, const uint8_t *line, size_t line_len);
 
 /* Pulls the verdict of the next instance, number `state.next`.
- * Answers: true, false or unknown, where that instance is settled; waiting, where it isn't yet; or refused with 12, 13 or 14,
- * checked in this order. Waiting and refused pulls change nothing.
- * Gives: with a verdict, the state with `next` and that verdict's total one higher; else the state that it was given.
+ * Answers: true, false or unknown, where that instance is settled; waiting, where it isn't yet; or refused with 12, 13, 27 or 14,
+ * checked in this order. Waiting and refused pulls change nothing. After 27, open anew.
+ * Gives: with a verdict, the state with `next` and that verdict's total one higher; else the state that it was given. The sum stays.
  * Writes: where false, the first 6 + 5 * references bytes of `report`, at most 166; its later bytes keep. Else none.
  * Memory: `window` is only read. The report buffer is the caller's. They must not overlap.
  * Stack: count on DILLPLATTER_STACK_PULL bytes.
@@ -390,6 +400,25 @@ dillplatter_lowered dillplatter_lower(const uint8_t *line, size_t line_len);
  * checker before it is let go; the bands begin anew with each. Where a contract has bands that go on over several checkers, the
  * controller adds their counts and computes the price itself. */
 dillplatter_charged dillplatter_charge(dillplatter_state state, dillplatter_tariff tariff);
+
+/* ---- a window that somebody wrote into ----
+ *
+ * For makers who share memory with drivers. A stray word, one that a driver wrote into the window between two calls, could make a
+ * verdict wrong in silence. The state keeps the sum of the window's words, and every feed and every pull that 12 and 13 let through
+ * compares it with the window's before it goes by any word; where they differ it is refused, whatever line or report buffer it was
+ * given. Charging and viewing take no window and do not compare.
+ * - What is sure: a window that differs in one word from the one that the last call that was not refused left with this state is
+ *   always refused. So one stray word is seen by the next feed or pull, before it can make a verdict wrong.
+ * - What is not: changes of several words may pass, as their differences may cancel out: one word 1 higher and another 1 lower, or two
+ *   words exchanged. A word that is written during a call may pass too. To keep others off the window stays the caller's duty; 27 is
+ *   for where that has failed.
+ * - What it costs: each feed and pull adds up all 32 * W words, 32 additions for each unit of W. So choose W no larger than the rule
+ *   and the lines need (docs/MAKERS.md).
+ * - What to do on 27: the refused call changed nothing and counted no line, but the notes that the stray word took the place of are
+ *   gone. Open anew and, where the log is kept, feed it again; charge the old state before, which 27 does not hinder. Or put back a
+ *   copy of the window that was made when this state was given: then the same call may be made again.
+ * - A state and a window of different moments do not go together. An older copy of the state with a newer window is refused with 27
+ *   unless their sums agree, as they do where no line was stored between the two. */
 
 /* ---- the same with a pointer to the state ----
  * Each replaces *state by the state that the call gives back, and returns the rest. After a refused opening *state is zero
@@ -483,7 +512,7 @@ static inline int32_t dillplatter_report_value(const uint8_t *report, uint32_t k
 #endif
 
 DILLPLATTER_HOLDS(sizeof(dillplatter_totals) == 12);
-DILLPLATTER_HOLDS(sizeof(dillplatter_state) == 572);
+DILLPLATTER_HOLDS(sizeof(dillplatter_state) == 576);
 DILLPLATTER_HOLDS(offsetof(dillplatter_state, frames) == 0);
 DILLPLATTER_HOLDS(offsetof(dillplatter_state, len) == 512);
 DILLPLATTER_HOLDS(offsetof(dillplatter_state, width) == 516);
@@ -491,12 +520,13 @@ DILLPLATTER_HOLDS(offsetof(dillplatter_state, profile) == 520);
 DILLPLATTER_HOLDS(offsetof(dillplatter_state, counts) == 524);
 DILLPLATTER_HOLDS(offsetof(dillplatter_state, next) == 556);
 DILLPLATTER_HOLDS(offsetof(dillplatter_state, totals) == 560);
+DILLPLATTER_HOLDS(offsetof(dillplatter_state, sum) == 572);
 DILLPLATTER_HOLDS(sizeof(dillplatter_reading) == 16);
 DILLPLATTER_HOLDS(offsetof(dillplatter_reading, frames) == 12);
-DILLPLATTER_HOLDS(sizeof(dillplatter_result) == 584);
-DILLPLATTER_HOLDS(offsetof(dillplatter_result, answer) == 572);
-DILLPLATTER_HOLDS(offsetof(dillplatter_result, number) == 576);
-DILLPLATTER_HOLDS(offsetof(dillplatter_result, place) == 580);
+DILLPLATTER_HOLDS(sizeof(dillplatter_result) == 588);
+DILLPLATTER_HOLDS(offsetof(dillplatter_result, answer) == 576);
+DILLPLATTER_HOLDS(offsetof(dillplatter_result, number) == 580);
+DILLPLATTER_HOLDS(offsetof(dillplatter_result, place) == 584);
 DILLPLATTER_HOLDS(sizeof(dillplatter_part) == 16);
 DILLPLATTER_HOLDS(offsetof(dillplatter_part, bytes) == 0);
 DILLPLATTER_HOLDS(offsetof(dillplatter_part, len) == 8);
