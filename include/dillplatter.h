@@ -414,9 +414,10 @@ dillplatter_charged dillplatter_charge(dillplatter_state state, dillplatter_tari
  *   for where that has failed.
  * - What it costs: each feed and pull adds up all 32 * W words, 32 additions for each unit of W. So choose W no larger than the rule
  *   and the lines need (docs/MAKERS.md).
- * - What to do on 27: the refused call changed nothing and counted no line, but the notes that the stray word took the place of are
- *   gone. Open anew and, where the log is kept, feed it again; charge the old state before, which 27 does not hinder. Or put back a
- *   copy of the window that was made when this state was given: then the same call may be made again.
+ * - What to do on 27: the refused call changed nothing and counted no line, but the note whose place the stray word took is gone.
+ *   Open anew. Where the log is kept, feed it again; the fresh checker finds the same violations once more, so charge only that one.
+ *   Else charge the old state first, which 27 does not hinder, and go on with the lines that follow. Or put back a copy of the window
+ *   that was made when this state was given: then the same call may be made again.
  * - A state and a window of different moments do not go together. An older copy of the state with a newer window is refused with 27
  *   unless their sums agree, as they do where no line was stored between the two. */
 
