@@ -108,7 +108,8 @@ static int begin(void) {
 }
 
 /* Feeds a line and pulls. A line that is refused is not counted, and the next one of its event would take its number: so this
- * controller says so and begins a fresh checker with the lines that follow, rather than go on as if it had been taken. */
+ * controller says so and begins a fresh checker with the lines that follow, rather than go on as if it had been taken. It does the
+ * same where somebody wrote into the window, which refuses every line and every pull with 27 until the window is cleared. */
 static void take(const uint8_t *line, size_t len) {
     dillplatter_told told = dillplatter_feed_at(&state, window, DILLPLATTER_WINDOW_WORDS(WIDTH), line, len);
     if (told.answer == DILLPLATTER_ACCEPTED) {
@@ -156,6 +157,10 @@ int main(void) {
     happened_often(5, 0, 100, 1); /* the fifth down with no up finds the window full: 17 */
     happened_often(4, 0, 200, 1);
     happened_often(4, 1, 200, 10); /* the last of these is 27 units after its down: false */
+    window[0]++;                   /* a driver writes into the window: the next line is refused with 27 */
+    happened(0, 300);
+    happened(0, 310);
+    happened(1, 320); /* 10 units: true */
     finish();
     return 0;
 }

@@ -23,6 +23,7 @@ struct State {
     counts: [u32; 8],
     next: u32,
     totals: Totals,
+    sum: u32,
 }
 
 #[repr(C)]
@@ -180,7 +181,7 @@ fn say_board(frames: &[u8], window: &mut [i32]) {
 }
 
 fn main() {
-    assert_eq!((std::mem::size_of::<State>(), std::mem::size_of::<Outcome>(), std::mem::size_of::<Part>()), (572, 584, 16));
+    assert_eq!((std::mem::size_of::<State>(), std::mem::size_of::<Outcome>(), std::mem::size_of::<Part>()), (576, 588, 16));
     assert_eq!((std::mem::size_of::<Raised>(), std::mem::size_of::<Lowered>()), (44, 24));
     assert_eq!((std::mem::size_of::<Tariff>(), std::mem::size_of::<Charged>()), (44, 16));
     let (mut frames, mut window, mut report) = ([0u8; 512], [0i32; 32 * WIDTH], [0u8; 166]);

@@ -105,10 +105,15 @@ static int charges_copy(void) {
            charge_copies(bad, 5, 101, DILLPLATTER_TARIFF_BANDS) || charge_copies(bad, 4, 101, DILLPLATTER_TARIFF_PRICES);
 }
 
-/* Lines and pulls of every answer; the first pull of each rule is of an instance that is not settled. */
+/* Lines and pulls of every answer; the first pull of each rule is of an instance that is not settled. A stray word is refused with 27
+ * and taken back. */
 static void run(void) {
     pull(sizeof report);
     pull(0);
+    window[0]++;
+    pull(sizeof report);
+    feed(WORDS, 0, 0);
+    window[0]--;
     feed(0, 0, 0);
     feed(WORDS, 7, 0);
     for (int k = 0; k < 40; k++) {

@@ -1,6 +1,6 @@
 /* Every refusal of the library once, by its name in the header: what provokes it, its number and its place; the limits of the board
- * from both sides; and each call with NULL and length 0. Fails where a refused call wrote to lent memory or handed back another
- * state, line or price than it should. Then what some violations cost. */
+ * from both sides; stray words in the window, refused and not; and each call with NULL and length 0. Fails where a refused call wrote
+ * to lent memory or handed back another state, line or price than it should. Then what some violations cost. */
 #include <inttypes.h>
 #include <stdio.h>
 #include <string.h>
@@ -296,6 +296,65 @@ static void running(void) {
     refuse_feed("line 1,000,000 of an event", DILLPLATTER_LINES_MOST, state, WORDS, line);
 }
 
+/* One word of the window is changed: no feed and no pull goes by it. Then it is put back. */
+static void refuse_stray(const char *what, size_t at, int32_t value) {
+    const int32_t was = window[at];
+    window[at] = value;
+    refuse_feed(what, DILLPLATTER_WINDOW_SUM, state, WORDS, "0000000001000000000000000000000000");
+    refuse_pull(what, DILLPLATTER_WINDOW_SUM, state, WORDS, sizeof report);
+    window[at] = was;
+}
+
+/* Another state with the window as it is: fed and pulled with 27. Charging has no window, and does not compare. */
+static void refuse_other_sum(const char *what, dillplatter_state other) {
+    refuse_feed(what, DILLPLATTER_WINDOW_SUM, other, WORDS, "0000000001000000000000000000000000");
+    refuse_pull(what, DILLPLATTER_WINDOW_SUM, other, WORDS, sizeof report);
+    expect(dillplatter_charge(other, good_tariff).number == DILLPLATTER_NO_REFUSAL, "a state is charged whatever its sum");
+}
+
+/* 12 and 13 come before 27; 15, an event that is ignored and 14 after it. */
+static void stray_in_order(void) {
+    const char *line = "0000000001000000000000000000000000";
+    window[0]--;
+    refuse_feed("a stray word, and a state that is zero throughout", DILLPLATTER_BAD_STATE, zero, WORDS, line);
+    refuse_feed("a stray word, and a window one word short", DILLPLATTER_WINDOW_SIZE, state, WORDS - 1, line);
+    refuse_feed("a stray word, and a line of 33 digits", DILLPLATTER_WINDOW_SUM, state, WORDS, line + 1);
+    refuse_feed("a stray word, and event 255", DILLPLATTER_WINDOW_SUM, state, WORDS, "FF00000001000000000000000000000000");
+    refuse_pull("a stray word, and a state that is zero throughout", DILLPLATTER_BAD_STATE, zero, WORDS, sizeof report);
+    refuse_pull("a stray word, and a window one word short", DILLPLATTER_WINDOW_SIZE, state, WORDS - 1, sizeof report);
+    refuse_pull("a stray word, and a report buffer of 165 bytes", DILLPLATTER_WINDOW_SUM, state, WORDS, 165);
+    window[0]++;
+}
+
+/* A line a with note 1 and a line b with note 0 make instance 0 true; with a stray word in the place of a note it could be false. */
+static void strays(void) {
+    const uint8_t *a = (const uint8_t *)"0000000001000000000000000000000000";
+    const uint8_t *b = (const uint8_t *)"0100000000000000000000000000000000";
+    dillplatter_state older, other;
+    open_good(good_rule);
+    refuse_stray("a stray word in a fresh window", 0, 1);
+    older = state;
+    expect(dillplatter_feed_at(&state, window, WORDS, a, 34).answer == DILLPLATTER_ACCEPTED, "a is accepted");
+    expect(dillplatter_feed_at(&state, window, WORDS, b, 34).answer == DILLPLATTER_ACCEPTED, "b is accepted");
+    expect(older.sum == 0 && state.sum == 1, "the sum is that of the notes");
+    refuse_stray("a stray word in the place of a note", 0, -1);
+    refuse_stray("a stray word where no line stands", WORDS - 1, INT32_MIN);
+    stray_in_order();
+    refuse_other_sum("a state from before the lines", older);
+    other = state;
+    other.sum++;
+    refuse_other_sum("a state with another sum", other);
+    window[0] -= 2;
+    window[4 * WIDTH] += 2;
+    other = state;
+    expect(dillplatter_pull_at(&other, window, WORDS, report, sizeof report).answer == DILLPLATTER_FALSE, "two stray words may pass");
+    printf("not refused: two stray words that cancel out, and the verdict is false\n");
+    window[0] += 2;
+    window[4 * WIDTH] -= 2;
+    expect(dillplatter_pull_at(&state, window, WORDS, report, sizeof report).answer == DILLPLATTER_TRUE, "put back, it goes on");
+    printf("put back: the verdict is true\n");
+}
+
 static void converting(void) {
     refuse_raise("an old line with a letter past f", DILLPLATTER_BAD_OLD_LINE, "01000fg0000000");
     refuse_raise("an old line of 13 digits", DILLPLATTER_BAD_OLD_LINE, "0100010002000");
@@ -405,6 +464,7 @@ int main(void) {
     opening_board();
     profiles();
     running();
+    strays();
     converting();
     nothing_lent();
     charging();
