@@ -1,6 +1,6 @@
--- What a buyer reads: limits and answers, desk and board, bases, the state, the window and its sum, the report, the three calls, the
--- plain machine, the words of the third demand, windows that differ in one word, the view of a report, logs of the earlier edition,
--- and the rework tariff.
+-- What a buyer reads: limits and answers, desk and board, bases, the state, the window and its sum, the report, the three calls,
+-- the plain machine, the words of the third demand, windows that differ in one word, the view of a report, logs of the earlier
+-- edition, and the rework tariff.
 pub mod Limits
 pub mod Answer
 pub mod Profile
