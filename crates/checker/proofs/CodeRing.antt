@@ -5,7 +5,7 @@ use Prim.Native.Nat.{ℕ, _+_, _*_, _<_, _≤_}
 use native.Mathlib.Nat.{mod-lt, mul-le-mul, mul-le-mul-right, suc-mul, le-of-lt}
 use native.Mathlib.Omega.{arith}
 use lib.IntN.{ℤ, pos}
-use lib.ListN.{length, getD, set, length-set}
+use lib.ListN.{getD, set}
 use Rattle.checker.specs.Limits.{widthLimit, windowWords}
 use Rattle.checker.specs.Ring.{ringPlace, wordAt, stored}
 use Rattle.checker.specs.InWindow.{InWindow}
@@ -26,13 +26,6 @@ word-most w e k n hw he hn = omega (arith, mod-lt k hw, row-end w e he)
 -- so an index that is a word's, in a window of as many words
 pub word-in : (w e k n : ℕ) → InWindow w e n → (at long : ℕ) → at ≡ wordAt w e k n → long ≡ windowWords w → at < long
 word-in w e k n h at long p q = omega (arith, word-most w e k n (h .some) (h .event) (h .note))
-
-pub of-note : {w e : ℕ} → InWindow w e 0 → (n : ℕ) → n < 4 → InWindow w e n
-of-note h n hn = record { some = h .some; most = h .most; event = h .event; note = hn }
-
--- a window in which a word was stored is as long as it was
-pub long-put : (win win′ : List ℤ) (k m : ℕ) (z : ℤ) → win′ ≡ set win k z → length win ≡ m → length win′ ≡ m
-long-put win win′ k m z e l = ap length e ∙ length-set win k z ∙ l
 
 -- four words stored in turn
 pub stored-by : (w e k : ℕ) (notes win win₁ win₂ win₃ win₄ : List ℤ) → win₁ ≡ set win (wordAt w e k 0) (getD notes 0 (pos 0)) → win₂ ≡ set win₁ (wordAt w e k 1) (getD notes 1 (pos 0))

@@ -340,7 +340,15 @@ pub one-word-shows : (s : State) (win win′ : List ℤ) → Words win → Words
     → (c′ : Call) → answerOf (checker (record { state = s; words = win′ }) c′ .out) ≡ refused 27 0
 one-word-shows = OneWord.one-word-shows
 
--- so it is of the window that a list of calls left with its state
+-- so it is of the window and the state that any call leaves which 12, 13 and 27 do not refuse; a state's frames are bytes, as an array
+-- of them is
+pub one-word-shows-next : (s : State) (win : List ℤ) → Bytes (stateFrames s) → (c : Call) → LetThrough (answerOf (checker (record { state = s; words = win }) c .out))
+    → Words (checker (record { state = s; words = win }) c .next .words)
+    → (win′ : List ℤ) → Words win′ → OneWordApart (checker (record { state = s; words = win }) c .next .words) win′
+    → (c′ : Call) → answerOf (checker (record { state = checker (record { state = s; words = win }) c .next .state; words = win′ }) c′ .out) ≡ refused 27 0
+one-word-shows-next = OneWord.one-word-shows-next
+
+-- and of those that an opening and a list of calls leave
 pub one-word-shows-after : {profile : Profile} {frames : List ℕ} {w : ℕ} {win : List ℤ} → Unrefused profile frames w win → (cs : List Call)
     → Words (checkerAfter profile frames w win cs .words) → (win′ : List ℤ) → Words win′ → OneWordApart (checkerAfter profile frames w win cs .words) win′
     → (c : Call) → answerOf (checker (record { state = checkerAfter profile frames w win cs .state; words = win′ }) c .out) ≡ refused 27 0

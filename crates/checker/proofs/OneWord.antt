@@ -6,12 +6,14 @@ use Prim.Native.Nat.{ℕ}
 use borrow.Author.Tests.{eqb-true, eq-eqb, ne-eqb}
 use lib.IntN.{ℤ}
 use lib.ListN.{length}
+use Rattle.rule.specs.Frames.{Bytes}
 use Rattle.checker.specs.Limits.{windowWords}
+use Rattle.checker.specs.State.{stateFrames}
 use Rattle.checker.specs.Answer.{Answer, refused}
 use Rattle.checker.specs.Sum.{sumOf, sumFits}
 use Rattle.checker.specs.Open.{windowFits}
 use Rattle.checker.specs.StateTest.{statePasses}
-use Rattle.checker.specs.Admission.{Admission, barred, admission}
+use Rattle.checker.specs.Admission.{Admission, admitted, barred, admission}
 use Rattle.checker.specs.Feed.{fedIf, feedDef}
 use Rattle.checker.specs.Pull.{pulledIf, pullDef}
 use Rattle.checker.specs.Calls.{Call, feed, pull, checker}
@@ -25,6 +27,7 @@ use Rattle.checker.proofs.Admissions.{barred-27, in-good, in-long, in-s
 use Rattle.checker.proofs.Simulation.{in-step-stays}
 use Rattle.checker.proofs.Fresh.{opened-fine}
 use Rattle.checker.proofs.Lists.{in-step}
+use Rattle.checker.proofs.Stays.{fed-stays, pulled-stays}
 
 -- what a call answers, by what 12, 13 and 27 say
 abbrev answerBy : State → List ℤ → Call → Admission → Answer
@@ -66,6 +69,22 @@ module _ (s : State) (win win′ : List ℤ) (f : Words win) (f′ : Words win�
   one-word-shows c h =
       let t = passed s win c (subst LetThrough (answer-by s win c) h) in
       shows (t .0) (eqb-true _ _ (t .1 .0)) (eqb-true _ _ (t .1 .1))
+
+-- what a call leaves is let through again
+left-in : (s : State) (win : List ℤ) → admission s win ≡ admitted → Bytes (stateFrames s) → (c : Call)
+    → admission (checker (record { state = s; words = win }) c .next .state) (checker (record { state = s; words = win }) c .next .words) ≡ admitted
+left-in s win a b (feed line) = fed-stays s win a line
+left-in s win a b (pull buffer) = pulled-stays s win a b buffer
+
+pub one-word-shows-next : (s : State) (win : List ℤ) → Bytes (stateFrames s) → (c : Call) → LetThrough (answerOf (checker (record { state = s; words = win }) c .out))
+    → Words (checker (record { state = s; words = win }) c .next .words)
+    → (win′ : List ℤ) → Words win′ → OneWordApart (checker (record { state = s; words = win }) c .next .words) win′
+    → (c′ : Call) → answerOf (checker (record { state = checker (record { state = s; words = win }) c .next .state; words = win′ }) c′ .out) ≡ refused 27 0
+one-word-shows-next s win b c h f win′ f′ a =
+    let t = passed s win c (subst LetThrough (answer-by s win c) h) in
+    let k = checker (record { state = s; words = win }) c .next in
+    let e = left-in s win (let-in s win (t .0) (t .1 .0) (t .1 .1)) b c in
+    shows (k .state) (k .words) win′ f f′ a (in-good _ _ e) (in-long _ _ e) (in-sum _ _ e)
 
 module _ {profile : Profile} {frames : List ℕ} {w : ℕ} {win : List ℤ} (o : Unrefused profile frames w win) (cs : List Call) where
   -- what stands after a list of calls

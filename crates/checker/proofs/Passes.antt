@@ -1,7 +1,7 @@
 -- The states that 12 lets through are those of which none of the document's conditions holds; feeding and pulling refuse the others
 -- with 12, and with 27 exactly where neither 12 nor 13 comes and the sums differ. Assumes nothing.
 use mathlib.Core.Path.{_≡_, refl, sym, ap, _∙_}
-use mathlib.Core.Bool.{Bool, true, false}
+use mathlib.Core.Bool.{true}
 use mathlib.Core.List.{List}
 use mathlib.Core.Logic.{_↔_, _≢_}
 use Prim.Native.Nat.{ℕ, _*_, _≤_}

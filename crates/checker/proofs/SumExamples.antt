@@ -17,7 +17,7 @@ use Rattle.rule.specs.Check.{checkedOf}
 use Rattle.log.specs.Digit.{digitValue}
 use Rattle.log.specs.Line.{digitsAtFront, badPlace, lineOf}
 use Rattle.verdict.specs.declared.Verdict.the-variants.{True, False}
-use Rattle.checker.specs.Answer.{Answer, ignored, waiting, verdict, refused}
+use Rattle.checker.specs.Answer.{Answer, ignored, verdict, refused}
 use Rattle.checker.specs.Base.{ofEvent, referenced, smallest, base, someNotVoid, firstFrom, firstInstance}
 use Rattle.checker.specs.State.{noTotals, stateWith, freshState, withTally, withSum}
 use Rattle.checker.specs.Ring.{stored, kept}

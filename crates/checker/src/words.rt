@@ -4,14 +4,11 @@ use std::num::wrapping_add_u32;
 use std::num::wrapping_sub_u32;
 use verdict::Occurrence;
 ghost use mathlib.Core.Path.{_≡_};
-ghost use Prim.Native.Nat.{_<_};
-ghost use lib.ListN.{length, set};
+ghost use lib.ListN.{set};
 ghost use mir.Syntax.{w32};
 ghost use mir.Val.{ofZ};
-ghost use Rattle.checker.specs.Limits.{windowWords};
 ghost use Rattle.checker.specs.Ring.{notesOf, wordAt, stored, kept};
-ghost use Rattle.checker.specs.Sum.{sumOf};
-ghost use Rattle.checker.specs.InWindow.{InWindow};
+ghost use Rattle.checker.specs.InWindow.{InWindow, Summed};
 
 // A place has a word for each of 4 notes.
 const NOTES: usize = 4;
@@ -38,11 +35,13 @@ pub fn bits(z: i32) -> u32
     }
 }
 
-// Stores a word, and gives the window's sum then: the old word taken off, the new one added.
-fn put(window: &mut [i32], sum: u32, at: usize, z: i32) -> u32
-    requires { ⌜ (at < length (now window)) × (sum ≡ sumOf (now window)) ⌝ }
-    ensures { λ r. ⌜ (now (window .exit) ≡ set (now (window .entry)) at z) × (r ≡ sumOf (now (window .exit))) ⌝ }
+// Stores a note of an occurrence, and gives the window's sum then: the old word taken off, the new one added.
+fn put(window: &mut [i32], sum: u32, width: u32, event: u8, k: Occurrence, note: u8, z: i32) -> u32
+    requires { ⌜ InWindow width event note × Summed (now window) width sum ⌝ }
+    ensures { λ r. ⌜ (now (window .exit) ≡ set (now (window .entry)) (wordAt width event (k .0) note) z)
+        × Summed (now (window .exit)) width r ⌝ }
 {
+    let at = word(width, event, k, note);
     let old = bits(window[at]);
     window[at] = z;
     wrapping_add_u32(wrapping_sub_u32(sum, old), bits(z))
@@ -50,22 +49,14 @@ fn put(window: &mut [i32], sum: u32, at: usize, z: i32) -> u32
 
 // Stores the four notes of an occurrence, and gives the window's sum then.
 fn store(window: &mut [i32], sum: u32, width: u32, event: u8, k: Occurrence, notes: Notes) -> u32
-    requires { ⌜ InWindow width event 0 × ((length (now window) ≡ windowWords width) × (sum ≡ sumOf (now window))) ⌝ }
+    requires { ⌜ InWindow width event 0 × Summed (now window) width sum ⌝ }
     ensures { λ r. ⌜ (now (window .exit) ≡ stored (now (window .entry)) width event (k .0) (notesOf notes))
-        × (r ≡ sumOf (now (window .exit))) ⌝ }
+        × Summed (now (window .exit)) width r ⌝ }
 {
-    let a = word(width, event, k, 0);
-    let b = word(width, event, k, 1);
-    let c = word(width, event, k, 2);
-    let d = word(width, event, k, 3);
-    let n0 = notes.0;
-    let n1 = notes.1;
-    let n2 = notes.2;
-    let n3 = notes.3;
-    let sum_a = put(window, sum, a, n0);
-    let sum_b = put(window, sum_a, b, n1);
-    let sum_c = put(window, sum_b, c, n2);
-    put(window, sum_c, d, n3)
+    let sum_0 = put(window, sum, width, event, k, 0, notes.0);
+    let sum_1 = put(window, sum_0, width, event, k, 1, notes.1);
+    let sum_2 = put(window, sum_1, width, event, k, 2, notes.2);
+    put(window, sum_2, width, event, k, 3, notes.3)
 }
 
 // An occurrence from base on is stored; one below base is not. Gives the window's sum then.
@@ -78,9 +69,9 @@ pub fn keep(
     k: Occurrence,
     notes: Notes,
 ) -> u32
-    requires { ⌜ InWindow width event 0 × ((length (now window) ≡ windowWords width) × (sum ≡ sumOf (now window))) ⌝ }
+    requires { ⌜ InWindow width event 0 × Summed (now window) width sum ⌝ }
     ensures { λ r. ⌜ (now (window .exit) ≡ kept (now (window .entry)) width event base (k .0) (notesOf notes))
-        × (r ≡ sumOf (now (window .exit))) ⌝ }
+        × Summed (now (window .exit)) width r ⌝ }
 {
     if base <= k.0 {
         store(window, sum, width, event, k, notes)

@@ -77,7 +77,7 @@ keep-requires c κs =
     let a = p .args in
     let s : State = stateOf (a .frames .now) (a .t2) in
     let f = good-facts s (in-good s (a .window .now) (p .pre .0 .let-in)) in
-    (record { some = f .some; most = f .most; event = omega arith; note = omega arith }, (in-long s (a .window .now) (p .pre .0 .let-in), in-sum s (a .window .now) (p .pre .0 .let-in)))
+    (record { some = f .some; most = f .most; event = omega arith; note = omega arith }, record { long = in-long s (a .window .now) (p .pre .0 .let-in); sum-is = in-sum s (a .window .now) (p .pre .0 .let-in) })
 
 with-line-requires : tie.Need-with-line-requires
 with-line-requires c κs =
@@ -99,7 +99,7 @@ returns-5 c =
     let l = some-in s b g (a .t3) (p .pre .1) (a .event) (k .before .if1 .left) (k .if2 .left) .1 .0 in
     let t = room-taken s b g (a .t3) (p .pre .1) (a .event) (notesOf (a .notes)) (k .before .if1 .left) (k .if2 .left) (n .if3 .left) (at-if4 .if4 .left) in
     let w = at-keep .keep .ensures .0 ∙ ap (λ (x : ℕ). kept (a .window .now) (s .width) (a .event) x (getD (s .counts) (a .event) 0) (notesOf (a .notes))) l in
-    taken-as (a .frames .now) (a .t2) (c .with-line .result) (at-keep .keep .result) (a .window .now) _ _ (a .event) (notesOf (a .notes)) t (c .with-line .ensures (a .frames .now)) (at-keep .keep .ensures .1) w
+    taken-as (a .frames .now) (a .t2) (c .with-line .result) (at-keep .keep .result) (a .window .now) _ _ (a .event) (notesOf (a .notes)) t (c .with-line .ensures (a .frames .now)) (at-keep .keep .ensures .1 .sum-is) w
 
 pub feed-event-spec : {M : Type 1} → statement M
 feed-event-spec =

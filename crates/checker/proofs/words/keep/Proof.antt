@@ -25,7 +25,7 @@ unfolding kept
 returns-2 c =
     let entry = c .before .before in
     let a = entry .args in
-    (rw (lt-leb (a .base) (a .k .0) (omega arith)), entry .pre .1 .1)
+    (rw (lt-leb (a .base) (a .k .0) (omega arith)), entry .pre .1)
 
 pub keep-spec : {M : Type 1} → statement M
 keep-spec = tie.close (tie.spec store-requires same-length returns returns-2)
