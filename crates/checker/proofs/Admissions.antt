@@ -1,8 +1,7 @@
 -- Laws of what 12, 13 and 27 let through. Assumes nothing.
-use mathlib.Core.Path.{_≡_, sym, ap}
+use mathlib.Core.Path.{_≡_, ap}
 use mathlib.Core.Bool.{true, false}
 use mathlib.Core.List.{List}
-use mathlib.Core.Logic.{_≢_}
 use Prim.Native.Nat.{ℕ}
 use native.Mathlib.Omega.{arith}
 use borrow.Author.Tests.{eqb-true}
@@ -13,27 +12,34 @@ use Rattle.checker.specs.Answer.{refused}
 use Rattle.checker.specs.Open.{windowFits}
 use Rattle.checker.specs.StateTest.{statePasses}
 use Rattle.checker.specs.Sum.{sumOf, sumFits}
-use Rattle.checker.specs.Admission.{Admission, admitted, barred, afterLength, admission, barredWith}
+use Rattle.checker.specs.Admission.{Admission, admitted, barred, admission, barredWith}
 use Rattle.checker.specs.Feed.{notFed, fedIf, feedDef}
 use Rattle.checker.specs.Pull.{notPulled, pulledIf, pullDef}
 use Rattle.checker.specs.declared.State.{State}
 use Rattle.checker.proofs.Choices.{cond-case}
 
 module _ (s : State) (win : List ℤ) where
-  -- a number other than 12 and 13 comes after both tests
-  past-13 : (n : ℕ) → barredWith (admission s win) ≡ n → n ≢ 12 → n ≢ 13
-      → (statePasses s ≡ true) × ((windowFits (s .width) win ≡ true) × (barredWith (afterLength s win) ≡ n))
+  -- the cases of the three tests, in their order
+  pub tested : (P : Admission → Type 0) → (statePasses s ≡ false → P (barred 12)) → (statePasses s ≡ true → windowFits (s .width) win ≡ false → P (barred 13))
+      → (statePasses s ≡ true → windowFits (s .width) win ≡ true → sumFits s win ≡ false → P (barred 27))
+      → (statePasses s ≡ true → windowFits (s .width) win ≡ true → sumFits s win ≡ true → P admitted)
+      → P (admission s win)
   unfolding admission
-  past-13 n = cond-case By (statePasses s) _ _ (λ g. cond-case By (windowFits (s .width) win) _ _ (λ l q _ _. (g, (l, q))) (λ _ q _ k. absurd (k (sym q)))) (λ _ q k _. absurd (k (sym q)))
-    where
-      By : Admission → Type 0
-      By a = barredWith a ≡ n → n ≢ 12 → n ≢ 13 → (statePasses s ≡ true) × ((windowFits (s .width) win ≡ true) × (barredWith (afterLength s win) ≡ n))
+  tested P at-12 at-13 at-27 none =
+      cond-case P (statePasses s) _ _
+      (λ g. cond-case P (windowFits (s .width) win) _ _
+      (λ l. cond-case P (sumFits s win) _ _ (none g l) (at-27 g l))
+      (at-13 g))
+      at-12
 
-  -- what is let through passes the three tests
+  -- what is let through passes all three
   through : barredWith (admission s win) ≡ 0 → (statePasses s ≡ true) × ((windowFits (s .width) win ≡ true) × (sumFits s win ≡ true))
-  through q =
-      let p = past-13 0 q (λ e. omega (arith, e)) (λ e. omega (arith, e)) in
-      (p .0, (p .1 .0, cond-case (λ (a : Admission). barredWith a ≡ 0 → sumFits s win ≡ true) (sumFits s win) _ _ (λ m _. m) (λ _ e. absurd (omega (arith, e))) (p .1 .1)))
+  through =
+      tested (λ (a : Admission). barredWith a ≡ 0 → (statePasses s ≡ true) × ((windowFits (s .width) win ≡ true) × (sumFits s win ≡ true)))
+      (λ _ q. absurd (omega (arith, q)))
+      (λ _ _ q. absurd (omega (arith, q)))
+      (λ _ _ _ q. absurd (omega (arith, q)))
+      (λ g l m _. (g, (l, m)))
 
   pub let-in : statePasses s ≡ true → windowFits (s .width) win ≡ true → sumFits s win ≡ true → admission s win ≡ admitted
   unfolding admission
@@ -51,18 +57,24 @@ module _ (s : State) (win : List ℤ) where
   unfolding admission
   barred-12 g = rw g
 
-  -- what 27 bars passes the other two tests, and what 12 bars does not pass its own
+  -- what 27 bars passes the other two, and what 12 bars does not pass its own
   pub by-27 : admission s win ≡ barred 27 → (statePasses s ≡ true) × ((windowFits (s .width) win ≡ true) × (sumFits s win ≡ false))
-  by-27 q =
-      let p = past-13 27 (ap barredWith q) (λ e. omega (arith, e)) (λ e. omega (arith, e)) in
-      (p .0, (p .1 .0, cond-case (λ (a : Admission). barredWith a ≡ 27 → sumFits s win ≡ false) (sumFits s win) _ _ (λ _ e. absurd (omega (arith, e))) (λ m _. m) (p .1 .1)))
+  by-27 e =
+      tested (λ (a : Admission). barredWith a ≡ 27 → (statePasses s ≡ true) × ((windowFits (s .width) win ≡ true) × (sumFits s win ≡ false)))
+      (λ _ q. absurd (omega (arith, q)))
+      (λ _ _ q. absurd (omega (arith, q)))
+      (λ g l m _. (g, (l, m)))
+      (λ _ _ _ q. absurd (omega (arith, q)))
+      (ap barredWith e)
 
   pub by-12 : admission s win ≡ barred 12 → statePasses s ≡ false
-  unfolding admission
-  by-12 q = cond-case By (statePasses s) _ _ (λ _. cond-case By (windowFits (s .width) win) _ _ (λ _. cond-case By (sumFits s win) _ _ (λ _ e. absurd (omega (arith, e))) (λ _ e. absurd (omega (arith, e)))) (λ _ e. absurd (omega (arith, e)))) (λ g _. g) (ap barredWith q)
-    where
-      By : Admission → Type 0
-      By a = barredWith a ≡ 12 → statePasses s ≡ false
+  by-12 e =
+      tested (λ (a : Admission). barredWith a ≡ 12 → statePasses s ≡ false)
+      (λ g _. g)
+      (λ _ _ q. absurd (omega (arith, q)))
+      (λ _ _ _ q. absurd (omega (arith, q)))
+      (λ _ _ _ q. absurd (omega (arith, q)))
+      (ap barredWith e)
 
   pub none-barred : barredWith (admission s win) ≡ 0 → admission s win ≡ admitted
   none-barred q = let t = through q in let-in (t .0) (t .1 .0) (t .1 .1)

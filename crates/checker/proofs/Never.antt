@@ -1,11 +1,12 @@
 -- 12, 13 and 27 do not come in a list of calls from a fresh checker. Assumes nothing.
-use mathlib.Core.Path.{_≡_, sym, ap, subst}
+use mathlib.Core.Path.{_≡_, refl, sym, _∙_, ap, subst}
+use mathlib.Core.Bool.{Bool, false, _||_}
 use mathlib.Core.List.{List, [], _∷_, List·Memᴰ, List·Memᴰ·cases-cons}
 use mathlib.Core.Logic.{⊎-elim, _≢_}
 use Prim.Native.Nat.{ℕ, _+_}
-use native.Mathlib.Omega.{arith}
-use lib.Dec.{leb}
+use lib.Dec.{leb, eqb}
 use lib.IntN.{ℤ}
+use Rattle.numbers.proofs.Bools.{true-false}
 use Rattle.rule.specs.Tree.{Reference, references}
 use Rattle.rule.specs.Build.{treeOf}
 use Rattle.log.specs.Line.{LineAnswer, isLine, lineOf, badPlace, byteAt, noteAt}
@@ -32,8 +33,16 @@ numberIn waiting = 0
 numberIn (verdict v) = 0
 numberIn (refused number place) = number
 
+-- an answer other than 12, 13 and 27
 abbrev pub Late : Answer → Type 0
 Late a = (numberIn a ≢ 12) × ((numberIn a ≢ 13) × (numberIn a ≢ 27))
+
+-- the numbers that come first
+abbrev early : ℕ → Bool
+early n = eqb n 12 || (eqb n 13 || eqb n 27)
+
+late-by : (a : Answer) → early (numberIn a) ≡ false → Late a
+late-by a e = (λ q. true-false (sym (ap early q) ∙ e), (λ q. true-false (sym (ap early q) ∙ e), λ q. true-false (sym (ap early q) ∙ e)))
 
 pub line-number : (s : List ℕ) (refs : List Reference) (w : ℕ) (t : Tally) → Late (feedAnswer (feedRead refs w t (lineOf s)))
 unfolding lineOf feedEvent
@@ -41,17 +50,17 @@ line-number s refs w t =
     cond-case (λ (l : LineAnswer). Late (feedAnswer (feedRead refs w t l))) (isLine s) (log.line (byteAt s 0) (noteAt s 0) (noteAt s 1) (noteAt s 2) (noteAt s 3)) (log.refused 15 (badPlace s))
     (λ _. cond-case (λ (f : FeedRead). Late (feedAnswer f)) (referenced refs (byteAt s 0)) _ _
     (λ _. cond-case (λ (f : FeedRead). Late (feedAnswer f)) (leb lineLimit (countOf t (byteAt s 0))) _ _
-    (λ _. (λ q. omega (arith, q), (λ q. omega (arith, q), λ q. omega (arith, q))))
+    (λ _. late-by (refused 16 0) refl)
     (λ _. cond-case (λ (f : FeedRead). Late (feedAnswer f)) (leb (base refs (byteAt s 0) (t .next) + w) (countOf t (byteAt s 0))) _ _
-    (λ _. (λ q. omega (arith, q), (λ q. omega (arith, q), λ q. omega (arith, q))))
-    (λ _. (λ q. omega (arith, q), (λ q. omega (arith, q), λ q. omega (arith, q))))))
-    (λ _. (λ q. omega (arith, q), (λ q. omega (arith, q), λ q. omega (arith, q)))))
-    (λ _. (λ q. omega (arith, q), (λ q. omega (arith, q), λ q. omega (arith, q))))
+    (λ _. late-by (refused 17 0) refl)
+    (λ _. late-by accepted refl)))
+    (λ _. late-by ignored refl))
+    (λ _. late-by (refused 15 (badPlace s)) refl)
 
 pub pull-number : (x : PullRead) → Late (pullAnswer x)
-pull-number short = (λ q. omega (arith, q), (λ q. omega (arith, q), λ q. omega (arith, q)))
-pull-number waits = (λ q. omega (arith, q), (λ q. omega (arith, q), λ q. omega (arith, q)))
-pull-number (gave v) = (λ q. omega (arith, q), (λ q. omega (arith, q), λ q. omega (arith, q)))
+pull-number short = late-by (refused 14 0) refl
+pull-number waits = late-by waiting refl
+pull-number (gave v) = late-by (verdict v) refl
 
 module _ (frames : List ℕ) (w : ℕ) where
   late-step : (m : Machine) (c : Call) → Late (answerOf (machineFor frames w m c .out))

@@ -21,9 +21,8 @@ use Rattle.checker.specs.Demand.{Unrefused, answerOf, checkerAfter, mach
 use Rattle.checker.specs.OneWord.{Words, OneWordApart, LetThrough}
 use Rattle.checker.specs.declared.Profile.{Profile}
 use Rattle.checker.specs.declared.State.{State}
-use Rattle.checker.proofs.Choices.{cond-case}
 use Rattle.checker.proofs.SumLaws.{sums-differ}
-use Rattle.checker.proofs.Admissions.{barred-27, in-good, in-long, in-sum, let-in}
+use Rattle.checker.proofs.Admissions.{tested, let-in, barred-27, in-good, in-long, in-sum}
 use Rattle.checker.proofs.Simulation.{in-step-stays}
 use Rattle.checker.proofs.Fresh.{opened-fine}
 use Rattle.checker.proofs.Lists.{in-step}
@@ -46,16 +45,12 @@ bars s win (pull buffer) n = refl
 -- a call that is not refused with 12, 13 or 27 lets state and window through
 passed : (s : State) (win : List ℤ) (c : Call) → LetThrough (answerBy s win c (admission s win))
     → (statePasses s ≡ true) × ((windowFits (s .width) win ≡ true) × (sumFits s win ≡ true))
-unfolding admission
 passed s win c =
-    cond-case By (statePasses s) _ _
-    (λ g. cond-case By (windowFits (s .width) win) _ _
-    (λ l. cond-case By (sumFits s win) _ _ (λ m _. (g, (l, m))) (λ _ h. absurd (h .not-27 (bars s win c 27))))
-    (λ _ h. absurd (h .not-13 (bars s win c 13))))
+    tested s win (λ (a : Admission). LetThrough (answerBy s win c a) → (statePasses s ≡ true) × ((windowFits (s .width) win ≡ true) × (sumFits s win ≡ true)))
     (λ _ h. absurd (h .not-12 (bars s win c 12)))
-  where
-    By : Admission → Type 0
-    By a = LetThrough (answerBy s win c a) → (statePasses s ≡ true) × ((windowFits (s .width) win ≡ true) × (sumFits s win ≡ true))
+    (λ _ _ h. absurd (h .not-13 (bars s win c 13)))
+    (λ _ _ _ h. absurd (h .not-27 (bars s win c 27)))
+    (λ g l m _. (g, (l, m)))
 
 module _ (s : State) (win win′ : List ℤ) (f : Words win) (f′ : Words win′) (a : OneWordApart win win′) where
   shows : statePasses s ≡ true → length win ≡ windowWords (s .width) → s .sum ≡ sumOf win

@@ -9,6 +9,9 @@ use Rattle.checker.proofs.CodeRing.{stored-by}
 use Rattle.checker.proofs.words.store.Statement.{statement}
 use Rattle.checker.proofs.words.store.Tie as tie
 
+put-requires-4 : tie.Need-put-requires-4
+put-requires-4 c κs = search needs
+
 returns : tie.Need-returns
 returns c =
     let at-put-4 = c .before in
@@ -35,4 +38,4 @@ returns c =
     )
 
 pub store-spec : {M : Type 1} → statement M
-store-spec = tie.close (tie.spec (λ c κs. search needs) (λ c κs. search needs) (λ c κs. search needs) (λ c κs. search needs) (λ c. search needs) returns)
+store-spec = tie.close (tie.spec (λ c κs. search needs) (λ c κs. search needs) (λ c κs. search needs) put-requires-4 (λ c. search needs) returns)
