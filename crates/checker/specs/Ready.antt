@@ -1,5 +1,5 @@
--- What the inner calls require: a state, as its frames and the other fields, and a window that 12, 13 and 27 let through. No contract
--- of open, feed or pull cites it; crate bench calls by it. Assumes nothing: definitions.
+-- What the inner calls require: a state, as its frames and the other fields, and a window that 12, 13 and 27 let through. No
+-- contract of open, feed or pull cites it; crate bench calls by it. Assumes nothing: definitions.
 use mathlib.Core.Path.{_≡_}
 use mathlib.Core.List.{List}
 use Prim.Native.Nat.{ℕ, _*_}
