@@ -12,6 +12,7 @@
 
 static const char good_rule[] = "events a b; notes t; t(a[i]) > t(b[i])";
 static const char one_event[] = "events a; notes t; t(a[i]) > 0";
+static const char half[] = "events a; notes t; scale 1; t(a[i]) > 0.5";
 static const char sixteen_frames[] = "events a; notes t; abs(t(a[i])+1+1+1+1+1+1) > 0";
 static const char seventeen_frames[] = "events a; notes t; t(a[i])+1+1+1+1+1+1+1 > 0";
 
@@ -215,9 +216,15 @@ static void reading(void) {
     refuse_text("two relations", DILLPLATTER_GRAMMAR, "events a; notes t; t(a[i]) > 0 > 1");
     refuse_text("an event that is not declared", DILLPLATTER_NAME, "events a; notes t; t(b[i]) > 0");
     refuse_text("the factor 10", DILLPLATTER_NUMBER, "events a; notes t; t(a[10*i]) > 0");
+    refuse_text("a literal of 214,748,364.8", DILLPLATTER_NUMBER, "events a; notes t; scale 1; t(a[i]) > 214748364.8");
+    refuse_text("a scale of 7", DILLPLATTER_DECIMALS, "events a; notes t; scale 7; t(a[i]) > 0");
+    refuse_text("a literal with seven decimals", DILLPLATTER_DECIMALS, "events a; notes t; scale 1; t(a[i]) > 0.0000000");
+    refuse_text("a literal with decimals and no scale", DILLPLATTER_GRAMMAR, "events a; notes t; t(a[i]) > 0.5");
     refuse_text("seventeen times not", DILLPLATTER_DEPTH, "events a; notes t; !!!!!!!!!!!!!!!!! t(a[i]) > 0");
     refuse_text("no reference", DILLPLATTER_NO_REFERENCE, "events a; notes t; 1 = 1");
     refuse_text("a product of two notes and 1", DILLPLATTER_MAGNITUDE, "events a; notes t; t(a[i]) * t(a[i]) + 1 > 0");
+    refuse_text("a product of two notes, brought to three decimals", DILLPLATTER_MAGNITUDE,
+                "events a; notes t; scale 1; t(a[i]) * t(a[i]) > 0.125");
 }
 
 static void opening(void) {
@@ -226,6 +233,24 @@ static void opening(void) {
     refuse_open(desk, "two of three frames", DILLPLATTER_FRAMES_ORDER, 16, WIDTH, WORDS);
     refuse_open(desk, "W 257", DILLPLATTER_WINDOW_WIDTH, frames_len, 257, DILLPLATTER_WINDOW_WORDS(257));
     refuse_open(desk, "a window one word short", DILLPLATTER_WINDOW_WIDTH, frames_len, WIDTH, WORDS - 1);
+}
+
+/* Decimals in frames: a scale stands first and nowhere else, has at most 6, as a literal has, and a literal has none without it. */
+static void opening_decimals(void) {
+    enum { scale = DILLPLATTER_FRAME_DECIMALS, literal = 2 * DILLPLATTER_FRAME_BYTES + DILLPLATTER_FRAME_DECIMALS };
+    read_good(half); /* scale, reference, literal, more */
+    frames[scale] = 7;
+    refuse_open(desk, "a frame with a scale of 7", DILLPLATTER_FRAMES_ORDER, frames_len, WIDTH, WORDS);
+    frames[scale] = 6;
+    frames[literal] = 7;
+    refuse_open(desk, "a frame of a literal with seven decimals", DILLPLATTER_FRAMES_ORDER, frames_len, WIDTH, WORDS);
+    read_good(half);
+    refuse_open(desk, "a scale and nothing after it", DILLPLATTER_FRAMES_ORDER, DILLPLATTER_FRAME_BYTES, WIDTH, WORDS);
+    memmove(frames, frames + DILLPLATTER_FRAME_BYTES, frames_len - DILLPLATTER_FRAME_BYTES);
+    refuse_open(desk, "a rule without its scale", DILLPLATTER_FRAMES_ORDER, frames_len - DILLPLATTER_FRAME_BYTES, WIDTH, WORDS);
+    read_good(half);
+    memmove(frames + DILLPLATTER_FRAME_BYTES, frames, frames_len);
+    refuse_open(desk, "a second scale", DILLPLATTER_FRAMES_ORDER, frames_len + DILLPLATTER_FRAME_BYTES, WIDTH, WORDS);
 }
 
 /* The board's opening has the desk's refusals first, 11 too, and then 26. */
@@ -461,6 +486,7 @@ static void costing(void) {
 int main(void) {
     reading();
     opening();
+    opening_decimals();
     opening_board();
     profiles();
     running();

@@ -97,10 +97,10 @@ extern "C" {
 
 /* Reading a text of depth at most 16. A deeper one is no rule. Depth is how many groups, `!` and `->` stand around a point of the
  * text; docs/RULES.md has it exactly. */
-#define DILLPLATTER_STACK_READ 40960
+#define DILLPLATTER_STACK_READ 49152
 
 /* Reading any text. One with 1,000 opening braces takes a thousand levels: a text that is too deep is still read to its end. */
-#define DILLPLATTER_STACK_READ_ANY 1200000
+#define DILLPLATTER_STACK_READ_ANY 1500000
 
 /* ---- answers and refusals ---- */
 
@@ -133,12 +133,13 @@ enum dillplatter_refusal {
     DILLPLATTER_NUMBER = 5,        /* read: a number beyond its limit; place: the first such number */
     DILLPLATTER_DEPTH = 6,         /* read: depth over 16 or over 64 frames */
     DILLPLATTER_NO_REFERENCE = 7,  /* read, open, open_board: the rule has no reference */
-    DILLPLATTER_MAGNITUDE = 8,     /* read, open, open_board: a sum whose magnitude is over 2^62. A magnitude is a bound on the sum's
-                                      value */
+    DILLPLATTER_MAGNITUDE = 8,     /* read, open, open_board: a sum or a side of a relation whose magnitude is over 2^62. A magnitude
+                                      is a bound on its value, after both sides are brought to one count of decimals */
     DILLPLATTER_FRAMES_SIZE = 9,   /* open, open_board: the frames' length isn't 8 to 512 in steps of 8 */
     DILLPLATTER_FRAMES_ORDER = 10, /* open, open_board: not a rule in postfix order with fields within the limits; place: the first
                                       frame that with those before it begins no such rule of any length, their count if only the
-                                      end is wrong */
+                                      end is wrong. A scale may stand first only, with at most 6 decimals; a literal has at most
+                                      6, and none in a rule without a scale */
     DILLPLATTER_WINDOW_WIDTH = 11, /* open, open_board: W outside 1 to 256, or a window not 32 * W words */
     DILLPLATTER_BAD_STATE = 12,    /* feed, pull, charge: a state whose profile is neither 0 nor 1, whose frames or W an opening with
                                       that profile would refuse, a count over 1,000,000, p over 1,009,999 or below the start,
@@ -153,6 +154,8 @@ enum dillplatter_refusal {
     DILLPLATTER_WINDOW_FULL = 17,  /* feed: the count of that event has reached base plus W ('window full'). There is no room for
                                       another line of it until more verdicts are pulled. An event's base is the smallest line number
                                       of it that instance `next` refers to, 0 where that is negative */
+    DILLPLATTER_DECIMALS = 18,     /* read: more than 6 decimals in the clause `scale k;` or in a literal; place: the first such
+                                      number. In the clause by the number's value, in a literal by its digits after the point */
     DILLPLATTER_BAD_OLD_LINE = 23, /* raise: an old line that isn't 14 digits 0-9, A-F or a-f; place: the lower of the first byte
                                       that is none and the shorter of the length and 14 */
     DILLPLATTER_FOURTH_NOTE = 24,  /* lower: a fourth note other than 0 */
@@ -170,16 +173,19 @@ enum dillplatter_refusal {
 /* ---- frames ----
  *
  * A rule as dillplatter_read writes it and a state has it: at most 64 frames of 8 bytes, in postfix order, left operand first. So
- * what an operator joins stands before it. docs/RULES.md has the frames of a rule, byte by byte. */
+ * what an operator joins stands before it. Of a rule with the clause `scale k;` the first frame has the scale, and counts among the
+ * 64. docs/RULES.md has the frames of a rule, byte by byte. */
 
 /* The places of a frame's bytes. Those that a kind does not use are 0. */
 enum dillplatter_frame_byte {
-    DILLPLATTER_FRAME_KIND = 0,   /* enum dillplatter_kind */
-    DILLPLATTER_FRAME_EVENT = 1,  /* of a reference: the event's number, 0 to 7 */
-    DILLPLATTER_FRAME_NOTE = 2,   /* of a reference: the note's number, 0 to 3 */
-    DILLPLATTER_FRAME_FACTOR = 3, /* of a reference: the factor of i, 1 to 9 */
-    DILLPLATTER_FRAME_VALUE = 4   /* 4 to 7, signed, the most significant first, as dillplatter_signed reads them: of a reference its
-                                     offset, -9,999 to 9,999, of a literal its value, 0 to 2,147,483,647 */
+    DILLPLATTER_FRAME_KIND = 0,     /* enum dillplatter_kind */
+    DILLPLATTER_FRAME_EVENT = 1,    /* of a reference: the event's number, 0 to 7 */
+    DILLPLATTER_FRAME_DECIMALS = 1, /* the same byte. Of a scale: how many decimals each note has, 0 to 6; of a literal: how many it
+                                       has itself, 0 to 6, and 0 in a rule without a scale */
+    DILLPLATTER_FRAME_NOTE = 2,     /* of a reference: the note's number, 0 to 3 */
+    DILLPLATTER_FRAME_FACTOR = 3,   /* of a reference: the factor of i, 1 to 9 */
+    DILLPLATTER_FRAME_VALUE = 4     /* 4 to 7, signed, the most significant first, as dillplatter_signed reads them: of a reference
+                                       its offset, -9,999 to 9,999, of a literal its digits without the point, 0 to 2,147,483,647 */
 };
 
 /* The kinds of frames. */
@@ -187,7 +193,8 @@ enum dillplatter_kind {
     DILLPLATTER_KIND_LITERAL = 0x01,
     DILLPLATTER_KIND_INSTANCE = 0x02, /* i */
     DILLPLATTER_KIND_REFERENCE = 0x03,
-    DILLPLATTER_KIND_ADD = 0x11, /* of two sums, as the next two */
+    DILLPLATTER_KIND_SCALE = 0x04, /* the clause `scale k;`: the first frame of a rule that has it, and no other */
+    DILLPLATTER_KIND_ADD = 0x11,   /* of two sums, as the next two */
     DILLPLATTER_KIND_SUBTRACT = 0x12,
     DILLPLATTER_KIND_MULTIPLY = 0x13,
     DILLPLATTER_KIND_ABSOLUTE = 0x14, /* abs, of one sum */
@@ -287,8 +294,8 @@ typedef struct dillplatter_charged {
 /* ---- the calls ---- */
 
 /* Reads a rule's text.
- * Answers: read, with the number of frames; or refused with 1, 2, 3, 4, 5, 6, 7 or 8, the first of them that holds of the
- * whole text.
+ * Answers: read, with the number of frames; or refused with 1, 2, 3, 4, 5, 18, 6, 7 or 8, in this order: the first of them
+ * that holds of the whole text.
  * Writes: where read, all 512 bytes of `frames`: the rule's frames, and zero after the last. Where refused, none.
  * Memory: `text` is only read. Both are the caller's, before and after. They must not overlap.
  * Stack: count on DILLPLATTER_STACK_READ bytes for a text of depth at most 16, and on DILLPLATTER_STACK_READ_ANY, over 1 MB, for any
@@ -324,7 +331,8 @@ dillplatter_result dillplatter_open_board(const uint8_t *frames, size_t frames_l
                                           size_t window_len);
 
 /* Feeds one log line: 34 digits 0-9, A-F or a-f, the event (2 digits) and four notes (8 digits each, signed, the most
- * significant first). The case of a letter never counts. The line feed is not part of it.
+ * significant first). The case of a letter never counts. The line feed is not part of it. A rule with the clause `scale k;` takes
+ * each note as a number with k decimals: with `scale 1;` the note 125 is 12.5.
  * Answers: accepted; ignored; or refused with 12, 13, 27, 15, 16 or 17, checked in this order, an event that the rule does not
  * reference being ignored after 15. Ignored and refused lines change neither state nor window. After 17, pull, then feed the
  * same line again. After 27, open anew ("a window that somebody wrote into", below).
@@ -345,7 +353,7 @@ dillplatter_result dillplatter_feed(dillplatter_state state, int32_t *window, si
  *
  * A report: the instance (4 bytes, the most significant first), 00, the number of the rule's references (1 byte), then for each
  * reference in the order of the frames a mark (00 present, 01 pending, 02 void) and the note's value (4 bytes, signed, 0 unless
- * present). */
+ * present). The value is the note as the line has it, whatever the rule's scale. */
 dillplatter_result dillplatter_pull(dillplatter_state state, const int32_t *window, size_t window_len, uint8_t *report, size_t report_len);
 
 /* Makes a report buffer its view: what machine hands may see of a report, its instance and its verdict, and none of the notes'

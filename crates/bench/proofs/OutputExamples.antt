@@ -9,10 +9,10 @@ use lib.IntN.{ℤ, pos, negsuc}
 use lib.ListN.{take, replicate}
 use Rattle.rule.specs.Limits.{bufferBytes}
 use Rattle.rule.specs.Class.{classOf, span}
-use Rattle.rule.specs.Token.{same, wordKind, longestMark, markWidth, tokenKind, widthOf, tokenHere, tokenAt, tokensIn, tokensFrom}
+use Rattle.rule.specs.Token.{same, wordKind, longestMark, markWidth, fraction, tokenKind, widthOf, tokenHere, tokenAt, clauseAt, tokensIn, tokensFrom}
 use Rattle.rule.specs.Name.{code, nameCode}
 use Rattle.rule.specs.Number.{numberValue}
-use Rattle.rule.specs.Spelling.{decimalFrom, decimal}
+use Rattle.rule.specs.Spelling.{decimalFrom, decimal, decimals}
 use Rattle.rule.specs.Machine.{deeper, startFactor, step, finish, run}
 use Rattle.rule.specs.Memory.{position, negated, put, acts}
 use Rattle.rule.specs.Frames.{kindOf}
@@ -76,7 +76,7 @@ abbrev filled : List ℕ
 filled = framesOf5 ++ replicate 472 0
 
 read-latency : readOf (bytes latencyText) (replicate bufferBytes 0) ≡ (reading.frames 5, filled)
-unfolding classOf span same wordKind longestMark markWidth tokenKind widthOf tokenHere tokenAt tokensIn tokensFrom code nameCode decimalFrom decimal numberValue startFactor step finish run deeper position negated put acts judged readOf kindOf referenceCount orderOf sizesFit checkedOf
+unfolding classOf span same wordKind longestMark markWidth fraction tokenKind widthOf tokenHere tokenAt clauseAt tokensIn tokensFrom code nameCode decimalFrom decimal decimals numberValue startFactor step finish run deeper position negated put acts judged readOf kindOf referenceCount orderOf sizesFit checkedOf
 read-latency = refl
 
 -- how far the program has come with so many frames: lines of events 0 and 1, p and the totals, the window's words and their sum, what
@@ -228,7 +228,7 @@ abbrev filled3 : List ℕ
 filled3 = framesOf3 ++ replicate 488 0
 
 read-before : readOf (bytes oneBefore) (replicate bufferBytes 0) ≡ (reading.frames 3, filled3)
-unfolding classOf span same wordKind longestMark markWidth tokenKind widthOf tokenHere tokenAt tokensIn tokensFrom code nameCode decimalFrom decimal numberValue startFactor step finish run deeper position negated put acts judged readOf kindOf referenceCount orderOf sizesFit checkedOf
+unfolding classOf span same wordKind longestMark markWidth fraction tokenKind widthOf tokenHere tokenAt clauseAt tokensIn tokensFrom code nameCode decimalFrom decimal decimals numberValue startFactor step finish run deeper position negated put acts judged readOf kindOf referenceCount orderOf sizesFit checkedOf
 read-before = refl
 
 abbrev minusOne : List ℤ
@@ -286,5 +286,5 @@ unfolding readOf hexOf
 empty-rule log = output-refused [] log 2 0 (replicate bufferBytes 0) refl
 
 pub undeclared-name : (log : List ℕ) → outputOf (bytes "events a; notes t; t(b[i]) > 0") log ≡ lines ("EE040015" ∷ [])
-unfolding classOf span same wordKind longestMark markWidth tokenKind widthOf tokenHere tokenAt tokensIn tokensFrom code nameCode decimalFrom decimal numberValue startFactor step finish run deeper position negated put acts judged readOf kindOf referenceCount orderOf sizesFit checkedOf hexOf
+unfolding classOf span same wordKind longestMark markWidth fraction tokenKind widthOf tokenHere tokenAt clauseAt tokensIn tokensFrom code nameCode decimalFrom decimal decimals numberValue startFactor step finish run deeper position negated put acts judged readOf kindOf referenceCount orderOf sizesFit checkedOf hexOf
 undeclared-name log = output-refused (bytes "events a; notes t; t(b[i]) > 0") log 4 21 (replicate bufferBytes 0) refl

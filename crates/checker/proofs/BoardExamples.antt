@@ -7,6 +7,7 @@ use Prim.Native.Nat.{ℕ, zero, suc, _-_, _*_}
 use lib.IntN.{pos}
 use lib.ListN.{length, replicate}
 use Rattle.rule.specs.Frames.{more, kindOf}
+use Rattle.rule.proofs.Laws.{unscaled}
 use Rattle.rule.specs.Tree.{literal, Cond, relation, not, postfix, bytesOf}
 use Rattle.rule.specs.References.{referenceCount}
 use Rattle.rule.specs.Order.{orderOf}
@@ -32,11 +33,11 @@ nots (suc n) c = not (nots n c)
 
 -- the frames of `! .. ! t(a[i]) > 0`, 3 at the least
 abbrev frames : ℕ → List ℕ
-frames n = bytesOf (postfix (nots (n - 3) (relation more (note 0 0 1 (pos 0)) (literal 0))))
+frames n = bytesOf (postfix (unscaled (nots (n - 3) (relation more (note 0 0 1 (pos 0)) (literal 0 0)))))
 
 -- of `! .. ! 0 > 0`, which has no reference
 abbrev unnamed : ℕ → List ℕ
-unnamed n = bytesOf (postfix (nots (n - 3) (relation more (literal 0) (literal 0))))
+unnamed n = bytesOf (postfix (unscaled (nots (n - 3) (relation more (literal 0 0) (literal 0 0)))))
 
 -- ---- opening
 record Opening : Type 0 where

@@ -6,7 +6,8 @@ use Prim.Native.Nat.{ℕ}
 use lib.IntN.{ℤ, pos, negsuc}
 use lib.ListN.{replicate}
 use Rattle.rule.specs.Frames.{subtract, unequal, less, more, and, kindOf}
-use Rattle.rule.specs.Tree.{Sum, literal, reference, arithmetic, Cond, relation, connective, postfix, bytesOf}
+use Rattle.rule.proofs.Laws.{unscaled}
+use Rattle.rule.specs.Tree.{Sum, literal, reference, arithmetic, relation, connective, RuleTree, postfix, bytesOf}
 use Rattle.rule.specs.References.{referenceCount}
 use Rattle.rule.specs.Order.{orderOf}
 use Rattle.rule.specs.Sizes.{sizesFit}
@@ -40,26 +41,26 @@ abbrev pub note : ℕ → ℕ → ℕ → ℤ → Sum
 note n e factor offset = reference (record { event = e; note = n; factor = factor; offset = offset })
 
 -- t(a[2*i+1]) - t(a[2*i]) < 9: base 2 × p
-abbrev neighbours : Cond
-neighbours = relation less (arithmetic subtract (note 0 0 2 (pos 1)) (note 0 0 2 (pos 0))) (literal 9)
+abbrev neighbours : RuleTree
+neighbours = unscaled (relation less (arithmetic subtract (note 0 0 2 (pos 1)) (note 0 0 2 (pos 0))) (literal 0 9))
 
 -- t(a[2*i]) - t(a[i]) < 9: base p, and the two references are i apart
-abbrev growing : Cond
-growing = relation less (arithmetic subtract (note 0 0 2 (pos 0)) (note 0 0 1 (pos 0))) (literal 9)
+abbrev growing : RuleTree
+growing = unscaled (relation less (arithmetic subtract (note 0 0 2 (pos 0)) (note 0 0 1 (pos 0))) (literal 0 9))
 
 -- t(b[i-2]) > 0 && { t(a[i]) > 5 && t(a[i+1]) != 0 }
-abbrev three : Cond
+abbrev three : RuleTree
 three =
-    connective and (relation more (note 0 1 1 (negsuc 1)) (literal 0))
-    (connective and (relation more (note 0 0 1 (pos 0)) (literal 5)) (relation unequal (note 0 0 1 (pos 1)) (literal 0)))
+    unscaled (connective and (relation more (note 0 1 1 (negsuc 1)) (literal 0 0))
+    (connective and (relation more (note 0 0 1 (pos 0)) (literal 0 5)) (relation unequal (note 0 0 1 (pos 1)) (literal 0 0))))
 
 -- t(a[2*i-3]) > 0: verdicts begin at instance 2 (document 02, point 2), and base is 2 × p - 3
-abbrev late : Cond
-late = relation more (note 0 0 2 (negsuc 2)) (literal 0)
+abbrev late : RuleTree
+late = unscaled (relation more (note 0 0 2 (negsuc 2)) (literal 0 0))
 
 -- u(b[2*i+1]) < 9: base 2 × p + 1
-abbrev odd : Cond
-odd = relation less (note 1 1 2 (pos 1)) (literal 9)
+abbrev odd : RuleTree
+odd = unscaled (relation less (note 1 1 2 (pos 1)) (literal 0 9))
 
 -- ---- calls and what they give
 -- a line of event b whose notes have these bits
@@ -122,7 +123,7 @@ words4 = pos 0x41 ∷ pos 0x42 ∷ pos 0x43 ∷ pos 0x44 ∷ []
 
 -- ---- the table
 pub record CallExample : Type 0 where
-  pub rule : Cond
+  pub rule : RuleTree
   pub width : ℕ
   pub calls : List Call
   -- what the calls give

@@ -16,7 +16,7 @@ use lib.ListN.{length, getD, set, take, replicate, length-set}
 use lib.Seq.{getD-set-same, getD-set-other}
 use Rattle.rule.specs.Limits.{eventLimit, offsetLimit}
 use Rattle.rule.specs.Frames.{Bytes, frameAt, frameCount}
-use Rattle.rule.specs.Tree.{Reference, Cond, LimitsR, IsRule, references}
+use Rattle.rule.specs.Tree.{Reference, RuleTree, LimitsR, IsRule, references}
 use Rattle.rule.specs.Build.{treeOf}
 use Rattle.rule.specs.Check.{checkedOf}
 use Rattle.rule.specs.CheckTold as checking
@@ -50,13 +50,13 @@ accepted-rule b e = let p = frames-exactly b .0 e in record { tree = p .tree; li
 pub within-in : {s : List ℕ} → Bytes s → checkedOf s ≡ checking.accepted → AllWithin (references (treeOf s))
 within-in {s} b e =
     let r : IsRule s = accepted-rule b e in
-    subst (λ (t : Cond). AllWithin (references t)) (sym (tree-of r)) (references-within (r .tree) (r .limits))
+    subst (λ (t : RuleTree). AllWithin (references t)) (sym (tree-of r)) (references-within (r .tree) (r .limits))
 
 -- ---- the steps of the pass
 pub startable : (s : List ℕ) (p k : ℕ) → Passable s p → k < frameCount s → (x : Frame) → x ≡ frameAt s k → Startable p x
 startable s p k h l x e =
     subst (λ (y : Frame). Startable p y) (sym e)
-    (record { instance-in = h .instance-in; limits = λ q. reference-at s k l (passed s (h .accepted) .order) q })
+    (record { instance-in = h .instance-in; limits = λ q. reference-at s k l (passed s (h .accepted)) q })
 
 -- what it holds after the first k frames
 pub record PassHolds (s : List ℕ) (p k : ℕ) (bases : List ℕ) (first : ℕ) : Type 0 where
@@ -179,7 +179,7 @@ base-is {s} b q p e h l =
     let ls : List ℕ = replicate eventLimit noBase in
     let refs : List Reference = references (treeOf s) in
     let over : basesOf s p ≡ overReferences (lowered p) refs ls =
-    over-references (lowered p) r ls ∙ ap (λ (t : Cond). overReferences (lowered p) (references t) ls) (sym (tree-of r)) in
+    over-references (lowered p) r ls ∙ ap (λ (t : RuleTree). overReferences (lowered p) (references t) ls) (sym (tree-of r)) in
     low-by p (getD (basesOf s p) e 0) (ofEvent e refs) (event-within e refs (within-in b q)) h
     (ap (λ (x : List ℕ). getD x e 0) over ∙ low-over p e refs ls l ∙ ap (λ (n : ℕ). minOver n (map (startAt p) (ofEvent e refs))) (eights e l))
 
@@ -213,7 +213,7 @@ first-is {s} b q =
     let some : references (treeOf s) ≢ [] = λ z. frames-exactly b .0 q .named (ap references (sym (tree-of r)) ∙ z) in
     over-references sooner r offsetLimit
     ∙ first-over (references (r .tree)) offsetLimit
-    ∙ ap (λ (t : Cond). minOver offsetLimit (map firstOf (references t))) (sym (tree-of r))
+    ∙ ap (λ (t : RuleTree). minOver offsetLimit (map firstOf (references t))) (sym (tree-of r))
     ∙ first-from (references (treeOf s)) some (within-in b q)
 
 -- what it holds in the end

@@ -10,6 +10,7 @@ use lib.IntN.{ℤ}
 use lib.ListN.{length}
 use Rattle.numbers.proofs.Bools.{and-true}
 use Rattle.rule.specs.Frames.{frameCount}
+use Rattle.rule.specs.Scale.{noteDecimals, literalDecimals, headFrames, scaleOf, headFine, body}
 use Rattle.rule.specs.Order.{orderOf}
 use Rattle.rule.specs.Sizes.{sizesFit}
 use Rattle.rule.specs.Check.{wholeFrames, afterOrder, checkedOf}
@@ -80,15 +81,19 @@ abbrev pub FrameNumber : CheckAnswer → Type 0
 FrameNumber checking.accepted = Unit {0}
 FrameNumber (checking.refused number place) = (7 ≤ number) × (number ≤ 10)
 
-order-number : (s : List ℕ) (x : Ordered) → FrameNumber (afterOrder s x)
-order-number s (At p) = (omega arith, omega arith)
-order-number s (Fine m) =
+order-number : (h scale : ℕ) (s : List ℕ) (x : Ordered) → FrameNumber (afterOrder h scale s x)
+order-number h scale s (At p) = (omega arith, omega arith)
+order-number h scale s (Fine m) =
     cond-case FrameNumber (eqb m 0) _ _ (λ _. (omega arith, omega arith))
-    (λ _. cond-case FrameNumber (sizesFit s) _ _ (λ _. tt) (λ _. (omega arith, omega arith)))
+    (λ _. cond-case FrameNumber (sizesFit scale s) _ _ (λ _. tt) (λ _. (omega arith, omega arith)))
 
 pub check-number : (s : List ℕ) → FrameNumber (checkedOf s)
 unfolding checkedOf
-check-number s = cond-case FrameNumber (wholeFrames (length s)) _ _ (λ _. order-number s (orderOf s)) (λ _. (omega arith, omega arith))
+check-number s =
+    cond-case FrameNumber (wholeFrames (length s)) _ _
+    (λ _. cond-case FrameNumber (headFine s) _ _
+    (λ _. order-number (headFrames (scaleOf s)) (noteDecimals (scaleOf s)) (body s) (orderOf (literalDecimals (scaleOf s)) (body s))) (λ _. (omega arith, omega arith)))
+    (λ _. (omega arith, omega arith))
 
 -- so where it refuses, opening does
 pub decided-frames : (profile : Profile) (frames : List ℕ) (w : ℕ) (win : List ℤ) (why : Refusal) → checkedOf frames ≡ checking.refused (why .number) (why .place)

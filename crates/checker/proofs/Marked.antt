@@ -9,15 +9,15 @@ use lib.Dec.{ltb}
 use lib.IntN.{ℤ, pos, negsuc}
 use lib.ListN.{length, replicate}
 use Rattle.rule.specs.Class.{classOf, span}
-use Rattle.rule.specs.Token.{same, wordKind, longestMark, markWidth, widthOf, tokenHere, tokenAt, tokensIn, tokensFrom}
+use Rattle.rule.specs.Token.{same, wordKind, longestMark, markWidth, fraction, widthOf, tokenHere, tokenAt, clauseAt, tokensIn, tokensFrom}
 use Rattle.rule.specs.Token.{tokenKind}
 use Rattle.rule.specs.Name.{code, nameCode}
 use Rattle.rule.specs.Number.{numberValue}
-use Rattle.rule.specs.Spelling.{decimalFrom, decimal}
+use Rattle.rule.specs.Spelling.{decimalFrom, decimal, decimals}
 use Rattle.rule.specs.Machine.{deeper, startFactor, step, finish, run}
 use Rattle.rule.specs.Memory.{position, negated, put, acts}
 use Rattle.rule.specs.Frames.{add, multiply, equal, less, more, or, kindOf}
-use Rattle.rule.specs.Tree.{Sum, literal, reference, arithmetic, abs, Cond, relation, connective, postfix, bytesOf}
+use Rattle.rule.specs.Tree.{Sum, literal, reference, arithmetic, abs, relation, connective, RuleTree, postfix, bytesOf}
 use Rattle.rule.specs.References.{referenceCount}
 use Rattle.rule.specs.Order.{orderOf}
 use Rattle.rule.specs.Sizes.{sizesFit}
@@ -27,7 +27,7 @@ use Rattle.rule.specs.Limits.{bufferBytes}
 use Rattle.rule.specs.Reading.{judged, readOf}
 use Rattle.rule.specs.ReadTold.{ReadAnswer}
 use Rattle.rule.specs.ReadTold as reading
-use Rattle.rule.proofs.Laws.{latency, latencyText, bytes}
+use Rattle.rule.proofs.Laws.{unscaled, latency, latencyText, bytes}
 use Rattle.log.specs.Digit.{digitValue}
 use Rattle.log.specs.Line.{digitsAtFront, badPlace, lineOf}
 use Rattle.verdict.specs.declared.Verdict.the-variants.{True, False, Unknown}
@@ -56,29 +56,29 @@ t e o = reference (record { event = e; note = 0; factor = 1; offset = o })
 abbrev after003Text : String
 after003Text = "events a b; notes t; t(a[i+10]) > 100 || t(b[i-5]) < 300"
 
-abbrev after003 : Cond
-after003 = connective or (relation more (t 0 (pos 10)) (literal 100)) (relation less (t 1 (negsuc 4)) (literal 300))
+abbrev after003 : RuleTree
+after003 = unscaled (connective or (relation more (t 0 (pos 10)) (literal 0 100)) (relation less (t 1 (negsuc 4)) (literal 0 300)))
 
 -- M8
 abbrev twoBeforeText : String
 twoBeforeText = "events a b; notes t; t(a[i-2]) > 0"
 
-abbrev twoBefore : Cond
-twoBefore = relation more (t 0 (negsuc 1)) (literal 0)
+abbrev twoBefore : RuleTree
+twoBefore = unscaled (relation more (t 0 (negsuc 1)) (literal 0 0))
 
 -- M9
 abbrev orTrueText : String
 orTrueText = "events a b; notes t; t(a[i]) > 0 || 0 = 0"
 
-abbrev orTrue : Cond
-orTrue = connective or (relation more (t 0 (pos 0)) (literal 0)) (relation equal (literal 0) (literal 0))
+abbrev orTrue : RuleTree
+orTrue = unscaled (connective or (relation more (t 0 (pos 0)) (literal 0 0)) (relation equal (literal 0 0) (literal 0 0)))
 
 -- M10
 abbrev greatestText : String
 greatestText = "events a b; notes t; abs(t(a[i])) > 2147483647"
 
-abbrev greatest : Cond
-greatest = relation more (abs (t 0 (pos 0))) (literal 2147483647)
+abbrev greatest : RuleTree
+greatest = unscaled (relation more (abs (t 0 (pos 0))) (literal 0 2147483647))
 
 -- M11: "a product of two notes", in a relation with 0, and the same plus 1
 abbrev productText : String
@@ -110,7 +110,7 @@ next = pull (replicate reportLeast 7)
 pub record Example : Type 0 where
   pub text : String
   pub reading : ReadAnswer
-  pub rule : Cond
+  pub rule : RuleTree
   pub width : ℕ
   pub calls : List Call
   pub opening : Answer
@@ -222,7 +222,7 @@ table =
     ∷ record {
       text = productText;
       reading = reading.frames 5;
-      rule = relation more product (literal 0);
+      rule = unscaled (relation more product (literal 0 0));
       width = 4;
       opening = opened;
       calls = [];
@@ -231,7 +231,7 @@ table =
     ∷ record {
       text = plusOneText;
       reading = reading.refused 8 0;
-      rule = relation more (arithmetic add product (literal 1)) (literal 0);
+      rule = unscaled (relation more (arithmetic add product (literal 0 1)) (literal 0 0));
       width = 4;
       opening = refused 8 0;
       calls = [];
@@ -280,7 +280,7 @@ pub record Shown (xs : List Example) : Type 0 where
   pub checker : map byChecker xs ≡ map (λ x. x .answers) xs
 
 pub marked : Shown table
-unfolding classOf span same wordKind longestMark markWidth tokenKind widthOf tokenHere tokenAt tokensIn tokensFrom code nameCode decimalFrom decimal numberValue startFactor step finish run deeper position negated put acts judged readOf kindOf referenceCount orderOf sizesFit treeOf checkedOf digitValue digitsAtFront badPlace lineOf ofEvent referenced smallest base someNotVoid firstFrom firstInstance freshState withTally withSum stored kept addedUp sumOf openDef rulePasses countPasses allTo tallyPasses statePasses admission feedEvent feedDef reportBytes pullRead pullDef outs tabulated joined moved
+unfolding classOf span same wordKind longestMark markWidth fraction tokenKind widthOf tokenHere tokenAt clauseAt tokensIn tokensFrom code nameCode decimalFrom decimal decimals numberValue startFactor step finish run deeper position negated put acts judged readOf kindOf referenceCount orderOf sizesFit treeOf checkedOf digitValue digitsAtFront badPlace lineOf ofEvent referenced smallest base someNotVoid firstFrom firstInstance freshState withTally withSum stored kept addedUp sumOf openDef rulePasses countPasses allTo tallyPasses statePasses admission feedEvent feedDef reportBytes pullRead pullDef outs tabulated joined moved
 marked = record { reading = refl; opening = refl; machine = refl; checker = refl }
 
 -- ---- the report of the bench program's example: instance 0 false, two references, 40 and 10; later bytes keep

@@ -52,7 +52,7 @@ pub few-frames : (s : List ℕ) → checkedOf s ≡ checking.accepted → frameC
 few-frames s e = omega (arith, passed s e .whole .most)
 
 pub limited : (s : List ℕ) (k : ℕ) (x : Frame) → checkedOf s ≡ checking.accepted → k < frameCount s → x ≡ frameAt s k → Limited x
-limited s k x a h e = subst (λ (y : Frame). Limited y) (sym e) (reference-at s k h (passed s a .order))
+limited s k x a h e = subst (λ (y : Frame). Limited y) (sym e) (reference-at s k h (passed s a))
 
 pub looked-next : (s : List ℕ) (found : Reference → Found) (marks : List ℕ) (notes : List ℤ) (k : ℕ) → LookedTo s found marks notes k → k < 64
     → (x : Frame) → x ≡ frameAt s k → (m : ℕ) (z : ℤ) → (x .kind ≡ referenceByte → Shows (found (referenceOf x)) m z)

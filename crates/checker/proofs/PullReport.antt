@@ -12,7 +12,7 @@ use lib.ListN.{length, getD, take, drop, length-append, length-drop, length-map,
 use native.Mathlib.Numerals.{add-one}
 use lib.Seq.{sets, sets-eq, length-sets, take-at, length-take-le, take-append-seam, drop-append-add, drop-drop}
 use Rattle.rule.specs.Frames.{frameAt, frameCount, Bytes}
-use Rattle.rule.specs.Tree.{Reference, Cond, IsRule, references}
+use Rattle.rule.specs.Tree.{Reference, RuleTree, IsRule, references}
 use Rattle.rule.specs.Build.{treeOf}
 use Rattle.rule.specs.References.{referenceByte, referenceOf, referencesTo, oneMore, referenceCount}
 use Rattle.rule.specs.Check.{checkedOf}
@@ -142,7 +142,7 @@ module _ (found : Reference → Found) where
       ∙ over-references adds r (headerOf p (referenceCount s))
       ∙ over-adds rs (headerOf p (referenceCount s))
       ∙ ap (λ (m : ℕ). headerOf p m ++ entries (map found rs)) n
-      ∙ ap (λ (t : Cond). reportBytes p (map found (references t))) (sym (tree-of r))
+      ∙ ap (λ (t : RuleTree). reportBytes p (map found (references t))) (sym (tree-of r))
 
 -- ---- the loop's start and end
 pub report-start : (l : List ℕ) → 6 ≤ length l → l ≡ written (take 6 l) l

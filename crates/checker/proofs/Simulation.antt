@@ -10,7 +10,7 @@ use lib.Dec.{ltb, leb, eqb}
 use lib.IntN.{ℤ, pos}
 use lib.ListN.{length, getD, set, length-append, List·getD-append}
 use lib.Seq.{getD-append-seam}
-use Rattle.rule.specs.Tree.{Reference, Cond, references, LimitsR}
+use Rattle.rule.specs.Tree.{Reference, RuleTree, references, LimitsR}
 use Rattle.rule.specs.Build.{treeOf}
 use Rattle.rule.specs.Check.{checkedOf}
 use Rattle.rule.specs.CheckTold as checking
@@ -165,7 +165,7 @@ one-pending : (rs : List Reference) (found : Reference → Found) → (rs ≡ []
 one-pending [] found l h = absurd (l refl)
 one-pending (x ∷ xs) found l h = rw (h x (List·Memᴰ·head refl))
 
-pub all-pending : (rule : Cond) (g : Given) → (references rule ≡ [] → ⊥) → ((r : Reference) → List·Memᴰ r (references rule) → g .found r ≡ pending)
+pub all-pending : (rule : RuleTree) (g : Given) → (references rule ≡ [] → ⊥) → ((r : Reference) → List·Memᴰ r (references rule) → g .found r ≡ pending)
     → judgement g rule ≡ Unsettled
 all-pending rule g l h =
     ap₂ (λ (a b : Bool). cond (settledBy a b (value g rule)) (settling.verdict (settling.verdictOf (value g rule))) Unsettled)
@@ -183,18 +183,18 @@ verdict-settled Verdict.False q = true-false (sym (ap isUnsettled q))
 verdict-settled Verdict.Unknown q = true-false (sym (ap isUnsettled q))
 
 -- what is known of a verdict that is given
-abbrev pub Gave : Cond → Given → PullRead → Type 0
+abbrev pub Gave : RuleTree → Given → PullRead → Type 0
 Gave rule g short = Unit {0}
 Gave rule g waits = Unit {0}
 Gave rule g (gave v) = judgement g rule ≡ settling.verdict v
 
-gave-by : (rule : Cond) (g : Given) (j : Judgement) → judgement g rule ≡ j → Gave rule g (offered j)
+gave-by : (rule : RuleTree) (g : Given) (j : Judgement) → judgement g rule ≡ j → Gave rule g (offered j)
 gave-by rule g Unsettled q = tt
 gave-by rule g True q = q
 gave-by rule g False q = q
 gave-by rule g Unknown q = q
 
-pub gave-judged : (rule : Cond) (g : Given) (n : ℕ) → Gave rule g (pullRead rule g n)
+pub gave-judged : (rule : RuleTree) (g : Given) (n : ℕ) → Gave rule g (pullRead rule g n)
 unfolding pullRead
 gave-judged rule g n =
     cond-case (Gave rule g) (ltb n reportLeast) short (offered (judgement g rule)) (λ _. tt) (λ _. gave-by rule g (judgement g rule) refl)
@@ -285,14 +285,14 @@ module _ (frames : List ℕ) (w : ℕ) (ok : Fine frames w) where
         found-same (byWindow w (tallyOf m .counts) (k .words)) (byLists (m .lists)) (r .event) (r .note) (count-of m (r .event) (ok .limits r h .event)) (meant (m .next) r)
         (λ o q l. b .sim .live (r .event) (o .0) (r .note) (ok .limits r h .event) (omega (arith, base-le (references (treeOf frames)) (m .next) r h, ap orZero q)) l (ok .limits r h .note))
 
-    abbrev resultOf : Cond → Given → List ℕ → PullRead → PullResult
+    abbrev resultOf : RuleTree → Given → List ℕ → PullRead → PullResult
     resultOf t g buffer x =
         record { answer = pullAnswer x; state = stateAfter (k .state) x; report = pullReport (g .instance) (references t) (g .found) buffer x }
 
-    abbrev resultAt : Cond → Given → List ℕ → PullResult
+    abbrev resultAt : RuleTree → Given → List ℕ → PullResult
     resultAt t g buffer = resultOf t g buffer (pullRead t g (length buffer))
 
-    report-own : (p : ℕ) (t : Cond) (found found′ : Reference → Found) (buffer : List ℕ) → SameOn (references t) found found′ → (x : PullRead)
+    report-own : (p : ℕ) (t : RuleTree) (found found′ : Reference → Found) (buffer : List ℕ) → SameOn (references t) found found′ → (x : PullRead)
         → pullReport p (references t) found buffer x ≡ pullReport p (references t) found′ buffer x
     report-own p t found found′ buffer s short = refl
     report-own p t found found′ buffer s waits = refl
@@ -300,11 +300,11 @@ module _ (frames : List ℕ) (w : ℕ) (ok : Fine frames w) where
     report-own p t found found′ buffer s (gave Verdict.False) = rw (map-own found found′ (references t) s)
     report-own p t found found′ buffer s (gave Verdict.Unknown) = refl
 
-    read-own : (t : Cond) (g : Given) (found : Reference → Found) (n : ℕ) → SameOn (references t) (g .found) found → pullRead t g n ≡ pullRead t (withFound g found) n
+    read-own : (t : RuleTree) (g : Given) (found : Reference → Found) (n : ℕ) → SameOn (references t) (g .found) found → pullRead t g n ≡ pullRead t (withFound g found) n
     unfolding pullRead
     read-own t g found n s = ap (λ (j : Judgement). cond (ltb n reportLeast) short (offered j)) (own-references g found t s)
 
-    result-own : (t : Cond) (g : Given) (found : Reference → Found) (buffer : List ℕ) → SameOn (references t) (g .found) found → resultAt t g buffer ≡ resultAt t (withFound g found) buffer
+    result-own : (t : RuleTree) (g : Given) (found : Reference → Found) (buffer : List ℕ) → SameOn (references t) (g .found) found → resultAt t g buffer ≡ resultAt t (withFound g found) buffer
     result-own t g found buffer s =
         let x = pullRead t (withFound g found) (length buffer) in
         ap (resultOf t g buffer) (read-own t g found (length buffer) s)

@@ -10,7 +10,7 @@ use lib.IntN.{ℤ}
 use lib.ListN.{length}
 use Rattle.numbers.proofs.Bools.{and-true, true-and}
 use Rattle.rule.specs.Frames.{Bytes}
-use Rattle.rule.specs.Tree.{Reference, Cond, references, LimitsR}
+use Rattle.rule.specs.Tree.{Reference, RuleTree, references, LimitsR}
 use Rattle.rule.specs.Build.{treeOf}
 use Rattle.rule.specs.Opening.{Proper}
 use Rattle.rule.proofs.Main.{frames-exactly, tree-of}
@@ -88,7 +88,7 @@ module _ (s : State) (g : statePasses s ≡ true) where
     some-in e =
         let p : Proper (stateFrames s) = frames-exactly b .0 (good-facts s g .accepted) in
         let t : treeOf (stateFrames s) ≡ p .tree = tree-of (record { tree = p .tree; limits = p .limits; bytes = p .bytes }) in
-        p .named (subst (λ (x : Cond). references x ≡ []) t e)
+        p .named (subst (λ (x : RuleTree). references x ≡ []) t e)
 
     -- an instance with a verdict is not the last
     low-in : (win : List ℤ) (v : Verdict) → judgement (givenHere s win) (ruleIn s) ≡ settling.verdict v → s .next .0 < instanceLimit

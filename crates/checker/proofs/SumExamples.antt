@@ -8,6 +8,7 @@ use lib.IntN.{ℤ, pos, negsuc}
 use lib.ListN.{replicate}
 use Rattle.rule.specs.Limits.{frameLimit, frameBytes}
 use Rattle.rule.specs.Frames.{more, kindOf}
+use Rattle.rule.proofs.Laws.{unscaled}
 use Rattle.rule.specs.Tree.{literal, relation, postfix, bytesOf}
 use Rattle.rule.specs.References.{referenceCount}
 use Rattle.rule.specs.Order.{orderOf}
@@ -68,7 +69,7 @@ sums-shown = refl
 
 -- ---- a checker of the rule t(a[i]) > 5 with W 1
 abbrev frames : List ℕ
-frames = bytesOf (postfix (relation more (note 0 0 1 (pos 0)) (literal 5)))
+frames = bytesOf (postfix (unscaled (relation more (note 0 0 1 (pos 0)) (literal 0 5))))
 
 -- with so many lines of a, this sum and these words
 abbrev holding : ℕ → ℕ → List ℤ → Checker

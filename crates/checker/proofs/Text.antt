@@ -8,7 +8,7 @@ use lib.ListN.{length, take, getD}
 use Rattle.rule.specs.Limits.{frameBytes}
 use Rattle.rule.specs.Token.{tokens}
 use Rattle.rule.specs.Grammar.{Rule, yield, words}
-use Rattle.rule.specs.Tree.{Cond}
+use Rattle.rule.specs.Tree.{RuleTree}
 use Rattle.rule.specs.Meaning.{meaning}
 use Rattle.rule.specs.Reading.{readOf}
 use Rattle.rule.specs.ReadTold as reading
@@ -32,4 +32,4 @@ module _ (text buffer filled : List ℕ) (n : ℕ) (r : readOf text buffer ≡ (
       ≡ verdictOf (value (givenIn (machineAfter (take (n * frameBytes) filled) w cs .lists) (firstFor (take (n * frameBytes) filled) + i)) (meaning text x))
   text-to-verdict profile w win o cs i h =
       value-of (record { bytes = read-bytes text buffer n filled r; answer = o }) cs i h
-      ∙ ap (λ (t : Cond). verdictOf (value (givenIn (machineAfter (take (n * frameBytes) filled) w cs .lists) (firstFor (take (n * frameBytes) filled) + i)) t)) (read-tree text buffer n filled r x spelled)
+      ∙ ap (λ (t : RuleTree). verdictOf (value (givenIn (machineAfter (take (n * frameBytes) filled) w cs .lists) (firstFor (take (n * frameBytes) filled) + i)) t)) (read-tree text buffer n filled r x spelled)

@@ -8,7 +8,7 @@ use borrow.Author.Tests.{le-ltb, ltb-false}
 use lib.Dec.{ltb}
 use lib.IntN.{ℤ}
 use lib.ListN.{length, getD, drop, length-append, length-drop}
-use Rattle.rule.specs.Tree.{Reference, Cond, references}
+use Rattle.rule.specs.Tree.{Reference, RuleTree, references}
 use Rattle.rule.specs.Build.{treeOf}
 use Rattle.verdict.specs.Found.{Found, foundIn, Given, givenIn}
 use Rattle.verdict.specs.Settled.{judgement}
@@ -62,7 +62,7 @@ enough-offered n h True = h
 enough-offered n h False = h
 enough-offered n h Unknown = h
 
-enough : (rule : Cond) (g : Given) (n : ℕ) → Enough n (pullRead rule g n)
+enough : (rule : RuleTree) (g : Given) (n : ℕ) → Enough n (pullRead rule g n)
 unfolding pullRead
 enough rule g n =
     cond-case (Enough n) (ltb n reportLeast) short (offered (judgement g rule))

@@ -6,7 +6,7 @@ use mathlib.Core.List.{List, map}
 use Prim.Native.Nat.{ℕ}
 use lib.Dec.{eqb}
 use lib.IntN.{ℤ}
-use Rattle.rule.specs.Tree.{Cond, references}
+use Rattle.rule.specs.Tree.{RuleTree, references}
 use Rattle.rule.specs.Build.{treeOf}
 use Rattle.log.specs.Earlier.{oldLineOf, done, turned, raisedDef}
 use Rattle.log.specs.Earlier as log
@@ -19,7 +19,7 @@ use Rattle.checker.specs.Demand.{fresh, verdicts, checkerAfter, handedOu
 use Rattle.checker.specs.declared.Profile.{Profile}
 
 -- ---- the plain machine over old lines
-module _ (rule : Cond) (w : ℕ) where
+module _ (rule : RuleTree) (w : ℕ) where
   -- as document 01 has feeding, with old lines for lines and 23 for 15: "event, three notes .. the fourth note 0"
   abbrev pub oldFeed : Machine → List ℕ → FeedRead
   oldFeed m line = feedRead (references rule) w (tallyOf m) (oldLineOf line)

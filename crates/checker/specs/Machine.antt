@@ -6,7 +6,7 @@ use lib.Dec.{eqb}
 use lib.IntN.{ℤ}
 use lib.ListN.{length}
 use Rattle.rule.specs.Limits.{eventLimit}
-use Rattle.rule.specs.Tree.{Cond, references}
+use Rattle.rule.specs.Tree.{RuleTree, references}
 use Rattle.rule.specs.Build.{treeOf}
 use Rattle.log.specs.Line.{lineOf}
 use Rattle.verdict.specs.Found.{Given, givenIn}
@@ -60,7 +60,7 @@ afterPull m waits = m
 afterPull m (gave v) = moved m v
 
 -- "It has the rule and W that opening was given", and is fed the line of each feed and the report buffer of each pull
-module _ (rule : Cond) (w : ℕ) where
+module _ (rule : RuleTree) (w : ℕ) where
   -- "Feeding: a line that 15 names is refused .. Any other line is accepted"
   abbrev pub machineFeed : Machine → List ℕ → FeedRead
   machineFeed m line = feedRead (references rule) w (tallyOf m) (lineOf line)

@@ -6,7 +6,7 @@ use Prim.Native.Nat.{ℕ}
 use lib.Dec.{ltb}
 use lib.IntN.{ℤ}
 use lib.ListN.{length}
-use Rattle.rule.specs.Tree.{Reference, Cond}
+use Rattle.rule.specs.Tree.{Reference, RuleTree}
 use Rattle.verdict.specs.Found.{Found, Given}
 use Rattle.verdict.specs.Settled.{judgement}
 use Rattle.verdict.specs.declared.Verdict.{Verdict}
@@ -35,7 +35,7 @@ offered False = gave Verdict.False
 offered Unknown = gave Verdict.Unknown
 
 -- "a buffer that 14 names is refused with 14": n is the buffer's length; by what is given of the instance
-unfoldable pub pullRead : Cond → Given → ℕ → PullRead
+unfoldable pub pullRead : RuleTree → Given → ℕ → PullRead
 pullRead rule g n = cond (ltb n reportLeast) short (offered (judgement g rule))
 
 -- "is refused with 14 .. the answer is its verdict .. Else the answer is 'waiting'"

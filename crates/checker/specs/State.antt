@@ -5,7 +5,7 @@ use mathlib.Core.List.{List, _++_}
 use Prim.Native.Nat.{ℕ, _+_, _*_, _-_, _/_}
 use lib.ListN.{length, getD, set, take, replicate}
 use Rattle.rule.specs.Limits.{eventLimit, frameLimit, frameBytes}
-use Rattle.rule.specs.Tree.{Reference, Cond, references}
+use Rattle.rule.specs.Tree.{Reference, RuleTree, references}
 use Rattle.rule.specs.Build.{treeOf}
 use Rattle.verdict.specs.declared.Verdict.{Verdict}
 use Rattle.verdict.specs.declared.Verdict.the-variants.{True, False, Unknown}
@@ -96,7 +96,7 @@ abbrev pub stateFrames : State → List ℕ
 stateFrames s = take (s .len * frameBytes) (s .frames)
 
 -- "the rule .. that opening was given", as a tree
-abbrev pub ruleIn : State → Cond
+abbrev pub ruleIn : State → RuleTree
 ruleIn s = treeOf (stateFrames s)
 
 -- the rule's references, "in frame order"

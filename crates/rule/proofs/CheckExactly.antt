@@ -7,7 +7,8 @@ use native.Mathlib.Omega.{arith}
 use lib.ListN.{length, length-append}
 use Rattle.rule.specs.Limits.{frameLimit}
 use Rattle.rule.specs.Frames.{Kind, bare, Bytes}
-use Rattle.rule.specs.Tree.{Cond, relation, not, connective, postfixS, postfix, IsRule}
+use Rattle.rule.specs.Tree.{Cond, relation, not, connective, RuleTree, postfixS, postfixC, postfix, IsRule}
+use Rattle.rule.specs.Scale.{headOf}
 use Rattle.rule.specs.References.{referenceCount}
 use Rattle.rule.specs.Check.{checkedOf}
 use Rattle.rule.proofs.CheckNumbers.{numberOf, placeOf}
@@ -22,10 +23,13 @@ use Rattle.rule.proofs.CheckAnswers.{opening-iff}
 last-frame : (xs : List Frame) (x : Frame) → 1 ≤ length (xs ++ (x ∷ []))
 last-frame xs x = rw (length-append xs (x ∷ [])) (omega arith)
 
-some-frame : (t : Cond) → 1 ≤ length (postfix t)
-some-frame (relation r a b) = last-frame (postfixS a ++ postfixS b) (bare (Kind.relation r))
-some-frame (not p) = last-frame (postfix p) (bare Kind.negation)
-some-frame (connective j p q) = last-frame (postfix p ++ postfix q) (bare (Kind.connective j))
+some-cond : (t : Cond) → 1 ≤ length (postfixC t)
+some-cond (relation r a b) = last-frame (postfixS a ++ postfixS b) (bare (Kind.relation r))
+some-cond (not p) = last-frame (postfixC p) (bare Kind.negation)
+some-cond (connective j p q) = last-frame (postfixC p ++ postfixC q) (bare (Kind.connective j))
+
+some-frame : (t : RuleTree) → 1 ≤ length (postfix t)
+some-frame t = rw (length-append (headOf (t .scale)) (postfixC (t .condition))) (let h = some-cond (t .condition) in omega arith)
 
 pub whole-of : {s : List ℕ} (r : IsRule s) → length (postfix (r .tree)) ≤ frameLimit → Whole (length s)
 whole-of {s} r h =

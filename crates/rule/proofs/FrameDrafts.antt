@@ -10,21 +10,22 @@ use lib.IntN.{pos, negℤ, natAbs}
 use lib.ListN.{length}
 use borrow.Author.Tests.{ltb-false, eqb-false}
 use Rattle.numbers.proofs.Ints.{natAbs-neg}
-use Rattle.rule.specs.Limits.{eventLimit, noteLimit, factorLimit, offsetLimit, literalLimit}
-use Rattle.rule.specs.Frames.{Source, Kind, kindByte, frame, bare}
+use Rattle.rule.specs.Limits.{eventLimit, noteLimit, factorLimit, offsetLimit, literalLimit, decimalLimit}
+use Rattle.rule.specs.Frames.{Source, Kind, kindByte, scaleByte, frame, bare}
 use Rattle.rule.specs.Grammar.{index}
 use Rattle.rule.specs.Tree.{LimitsR}
-use Rattle.rule.specs.Draft.{Draft, lit, index-var, ref, plain}
-use Rattle.rule.specs.Measure.{Named, declared, used, Sized, sized-by, scaleNumbers, shiftNumbers, namesOf, numbersOf}
+use Rattle.rule.specs.Draft.{Draft, head, lit, index-var, ref, plain}
+use Rattle.rule.specs.Measure.{Named, declared, used, Sized, sized-by, multipleNumbers, shiftNumbers, namesOf, numbersOf}
 use Rattle.rule.specs.Spelling.{beyond}
 use Rattle.rule.specs.Meaning.{factorAt, offsetAt, referenceAt}
 use Rattle.rule.specs.declared.Frame.{Frame}
 use Rattle.rule.specs.declared.parts.Place.{Place}
 use Rattle.rule.specs.declared.parts.Role.{Role}
 use Rattle.rule.specs.declared.parts.Role.the-variants.{Event, Note}
+use Rattle.rule.specs.declared.parts.Limit.the-variants.{OfClause, OfLiteral, OfFactor, OfOffset}
 use Rattle.rule.specs.declared.parts.Sign.the-variants.{Plus, Minus}
-use Rattle.rule.specs.declared.parts.Scale.{Scale}
-use Rattle.rule.specs.declared.parts.Scale.the-variants.{Once, Times}
+use Rattle.rule.specs.declared.parts.Multiple.{Multiple}
+use Rattle.rule.specs.declared.parts.Multiple.the-variants.{Once, Times}
 use Rattle.rule.specs.declared.parts.Shift.{Shift}
 use Rattle.rule.specs.declared.parts.Shift.the-variants.{Unshifted, By}
 use Rattle.rule.proofs.ReaderFrames.{each}
@@ -61,21 +62,30 @@ Used (declared r p) = ⊥
 Used (used r p) = Unit {0}
 
 pub names-used : (d : Draft) → All Used (namesOf d)
+names-used (head p) = tt
 names-used (lit p) = tt
 names-used index-var = tt
 names-used (ref n e f o) = (tt, (tt, tt))
 names-used (plain k) = tt
 
--- a number within its limit
-abbrev pub Fine : (Place → ℕ) → Sized → Type 0
-Fine value (sized-by l p) = beyond l (value p) ≡ false
+-- decimals within their limits: at most 6 in the clause, at most z in a literal
+abbrev pub DecimalsFit : (value decimals : Place → ℕ) → ℕ → Sized → Type 0
+DecimalsFit value decimals z (sized-by OfClause p) = value p ≤ decimalLimit
+DecimalsFit value decimals z (sized-by OfLiteral p) = decimals p ≤ z
+DecimalsFit value decimals z (sized-by OfFactor p) = Unit {0}
+DecimalsFit value decimals z (sized-by OfOffset p) = Unit {0}
 
-module _ (eventOf noteOf value : Place → ℕ) where
+-- a number within its limits
+abbrev pub Fine : (value decimals : Place → ℕ) → ℕ → Sized → Type 0
+Fine value decimals z (sized-by l p) = (beyond l (value p) ≡ false) × DecimalsFit value decimals z (sized-by l p)
+
+module _ (eventOf noteOf value decimals : Place → ℕ) where
   -- a frame with its names and numbers looked up
   abbrev pub frameOf : Draft → Frame
-  frameOf (lit p) = frame (kindByte (Kind.operand Source.literal)) 0 0 0 (pos (value p))
+  frameOf (head p) = frame scaleByte (value p) 0 0 (pos 0)
+  frameOf (lit p) = frame (kindByte (Kind.operand Source.literal)) (decimals p) 0 0 (pos (value p))
   frameOf index-var = bare (Kind.operand Source.instance)
-  frameOf (ref n e f o) = frame (kindByte (Kind.operand Source.reference)) (eventOf e) (noteOf n) (factorAt eventOf noteOf value f) (offsetAt eventOf noteOf value o)
+  frameOf (ref n e f o) = frame (kindByte (Kind.operand Source.reference)) (eventOf e) (noteOf n) (factorAt eventOf noteOf value decimals f) (offsetAt eventOf noteOf value decimals o)
   frameOf (plain k) = frame k 0 0 0 (pos 0)
 
   -- a name that has a number
@@ -84,16 +94,19 @@ module _ (eventOf noteOf value : Place → ℕ) where
   NameFits (used Event p) = eventOf p < eventLimit
   NameFits (used Note p) = noteOf p < noteLimit
 
-  -- a frame within the limits: its names and numbers are
-  abbrev pub LimitsD : Draft → Type 0
-  LimitsD d = All NameFits (namesOf d) × All (Fine value) (numbersOf d)
+  -- a frame within the limits: its names and numbers are; z is the most decimals that a literal may have
+  abbrev pub LimitsD : ℕ → Draft → Type 0
+  LimitsD z d = All NameFits (namesOf d) × All (Fine value decimals z) (numbersOf d)
 
-  pub literal-fits : (p : Place) → LimitsD (lit p) → value p ≤ literalLimit
-  literal-fits p l = ltb-false literalLimit (value p) (l .1 .0)
+  pub head-fits : (z : ℕ) (p : Place) → LimitsD z (head p) → value p ≤ decimalLimit
+  head-fits z p l = l .1 .0 .1
 
-  factor-fits : (f : Scale) → All (Fine value) (scaleNumbers f) → (1 ≤ factorAt eventOf noteOf value f) × (factorAt eventOf noteOf value f ≤ factorLimit)
-  factor-fits Once h = (omega arith, omega arith)
-  factor-fits (Times p) h = go (eqb (value p) 0) refl (h .0)
+  pub literal-fits : (z : ℕ) (p : Place) → LimitsD z (lit p) → (decimals p ≤ z) × (value p ≤ literalLimit)
+  literal-fits z p l = (l .1 .0 .1, ltb-false literalLimit (value p) (l .1 .0 .0))
+
+  factor-fits : (z : ℕ) (f : Multiple) → All (Fine value decimals z) (multipleNumbers f) → (1 ≤ factorAt eventOf noteOf value decimals f) × (factorAt eventOf noteOf value decimals f ≤ factorLimit)
+  factor-fits z Once h = (omega arith, omega arith)
+  factor-fits z (Times p) h = go (eqb (value p) 0) refl (h .0 .0)
     where
       go : (b : Bool) → eqb (value p) 0 ≡ b → cond b true (ltb factorLimit (value p)) ≡ false → (1 ≤ value p) × (value p ≤ factorLimit)
       go true e f = let z : _≡_ {A = ℕ} 0 1 = cc in absurd (omega arith)
@@ -103,19 +116,19 @@ module _ (eventOf noteOf value : Place → ℕ) where
           some-value zero h = absurd (h refl)
           some-value (suc v) h = omega arith
 
-  offset-fits : (o : Shift) → All (Fine value) (shiftNumbers o) → natAbs (offsetAt eventOf noteOf value o) ≤ offsetLimit
-  offset-fits Unshifted h = omega arith
-  offset-fits (By Plus p) h = ltb-false offsetLimit (value p) (h .0)
-  offset-fits (By Minus p) h = rw natAbs-neg (ltb-false offsetLimit (value p) (h .0))
+  offset-fits : (z : ℕ) (o : Shift) → All (Fine value decimals z) (shiftNumbers o) → natAbs (offsetAt eventOf noteOf value decimals o) ≤ offsetLimit
+  offset-fits z Unshifted h = omega arith
+  offset-fits z (By Plus p) h = ltb-false offsetLimit (value p) (h .0 .0)
+  offset-fits z (By Minus p) h = rw natAbs-neg (ltb-false offsetLimit (value p) (h .0 .0))
 
-  pub reference-fits : (n e : Place) (f : Scale) (o : Shift) → LimitsD (ref n e f o) → LimitsR (referenceAt eventOf noteOf value n e (index f o))
-  reference-fits n e f o l =
-      let h = factor-fits f (all-left (Fine value) (scaleNumbers f) (shiftNumbers o) (l .1)) in
-      let k = offset-fits o (all-right (Fine value) (scaleNumbers f) (shiftNumbers o) (l .1)) in
+  pub reference-fits : (z : ℕ) (n e : Place) (f : Multiple) (o : Shift) → LimitsD z (ref n e f o) → LimitsR (referenceAt eventOf noteOf value decimals n e (index f o))
+  reference-fits z n e f o l =
+      let h = factor-fits z f (all-left (Fine value decimals z) (multipleNumbers f) (shiftNumbers o) (l .1)) in
+      let k = offset-fits z o (all-right (Fine value decimals z) (multipleNumbers f) (shiftNumbers o) (l .1)) in
       record { event = l .0 .1 .0; note = l .0 .0; least = h .0; factor = h .1; offset = k }
 
--- ---- two ways to number names and to value numbers, which agree on those that the tree has
-module _ (number number′ : Role → Place → ℕ) (value value′ : Place → ℕ) where
+-- ---- two ways to number names and to value numbers, with one count of decimals, which agree on those that the tree has
+module _ (number number′ : Role → Place → ℕ) (value value′ decimals : Place → ℕ) where
   abbrev pub Numbered : Named → Type 0
   Numbered (declared r p) = Unit {0}
   Numbered (used r p) = number r p ≡ number′ r p
@@ -123,25 +136,26 @@ module _ (number number′ : Role → Place → ℕ) (value value′ : Place →
   abbrev pub Valued : Sized → Type 0
   Valued (sized-by l p) = value p ≡ value′ p
 
-  factor-alike : (f : Scale) → All Valued (scaleNumbers f) → factorAt (number Event) (number Note) value f ≡ factorAt (number′ Event) (number′ Note) value′ f
+  factor-alike : (f : Multiple) → All Valued (multipleNumbers f) → factorAt (number Event) (number Note) value decimals f ≡ factorAt (number′ Event) (number′ Note) value′ decimals f
   factor-alike Once k = refl
   factor-alike (Times p) k = k .0
 
-  offset-alike : (o : Shift) → All Valued (shiftNumbers o) → offsetAt (number Event) (number Note) value o ≡ offsetAt (number′ Event) (number′ Note) value′ o
+  offset-alike : (o : Shift) → All Valued (shiftNumbers o) → offsetAt (number Event) (number Note) value decimals o ≡ offsetAt (number′ Event) (number′ Note) value′ decimals o
   offset-alike Unshifted k = refl
   offset-alike (By Plus p) k = ap pos (k .0)
   offset-alike (By Minus p) k = ap (λ (v : ℕ). negℤ (pos v)) (k .0)
 
   -- each frame is one frame by both
   abbrev pub Alike : Draft → Type 0
-  Alike d = frameOf (number Event) (number Note) value d ≡ frameOf (number′ Event) (number′ Note) value′ d
+  Alike d = frameOf (number Event) (number Note) value decimals d ≡ frameOf (number′ Event) (number′ Note) value′ decimals d
 
   pub alike : (d : Draft) → All Numbered (namesOf d) → All Valued (numbersOf d) → Alike d
-  alike (lit p) h k = ap (λ (v : ℕ). frame (kindByte (Kind.operand Source.literal)) 0 0 0 (pos v)) (k .0)
+  alike (head p) h k = ap (λ (v : ℕ). frame scaleByte v 0 0 (pos 0)) (k .0)
+  alike (lit p) h k = ap (λ (v : ℕ). frame (kindByte (Kind.operand Source.literal)) (decimals p) 0 0 (pos v)) (k .0)
   alike index-var h k = refl
-  alike (ref n e f o) h k = rw (h .0, h .1 .0, factor-alike f (all-left Valued (scaleNumbers f) (shiftNumbers o) k), offset-alike o (all-right Valued (scaleNumbers f) (shiftNumbers o) k))
+  alike (ref n e f o) h k = rw (h .0, h .1 .0, factor-alike f (all-left Valued (multipleNumbers f) (shiftNumbers o) k), offset-alike o (all-right Valued (multipleNumbers f) (shiftNumbers o) k))
   alike (plain k) h l = refl
 
-  pub all-alike : (ds : List Draft) → All Alike ds → each (frameOf (number Event) (number Note) value) ds ≡ each (frameOf (number′ Event) (number′ Note) value′) ds
+  pub all-alike : (ds : List Draft) → All Alike ds → each (frameOf (number Event) (number Note) value decimals) ds ≡ each (frameOf (number′ Event) (number′ Note) value′ decimals) ds
   all-alike [] h = refl
   all-alike (d ∷ ds) h = ap₂ (λ (x : Frame) (l : List Frame). x ∷ l) (h .0) (all-alike ds (h .1))

@@ -147,25 +147,6 @@ module _ (b : ℕ) where
   unfolding kindOf
   keeping-27 = tested (λ x. isKeeping (kindOf x)) 39 217 b tt
 
--- ---- a kind that is neither a literal nor a reference has no fields
-bare-fields : (k : Kind) (x : Frame) → (kindByte k ≡ 1 → ⊥) → (kindByte k ≡ 3 → ⊥) → fieldsOf k x ≡ bareFields x
-bare-fields (operand literal) x p q = absurd (p refl)
-bare-fields (operand instance) x p q = refl
-bare-fields (operand reference) x p q = absurd (q refl)
-bare-fields (arithmetic o) x p q = refl
-bare-fields absolute x p q = refl
-bare-fields (relation r) x p q = refl
-bare-fields negation x p q = refl
-bare-fields (connective j) x p q = refl
-bare-fields none x p q = refl
-
-bare-by : (b : ℕ) (x : Frame) → (b ≡ 1 → ⊥) → (b ≡ 3 → ⊥) → (kindOf b ≡ none) ⊎ (b ≡ kindByte (kindOf b)) → fieldsOf (kindOf b) x ≡ bareFields x
-bare-by b x p q (inl e) = rw e
-bare-by b x p q (inr e) = bare-fields (kindOf b) x (λ h. p (e ∙ h)) (λ h. q (e ∙ h))
-
-pub bare-kind : (b : ℕ) (x : Frame) → (b ≡ 1 → ⊥) → (b ≡ 3 → ⊥) → fieldsOf (kindOf b) x ≡ bareFields x
-bare-kind b x p q = bare-by b x p q (byte-kind b)
-
 -- ---- a kind's byte is a byte
 pub kind-octet : (k : Kind) → kindByte k < 256
 kind-octet (operand literal) = omega arith
@@ -186,3 +167,23 @@ kind-octet (connective and) = omega arith
 kind-octet (connective or) = omega arith
 kind-octet (connective implies) = omega arith
 kind-octet none = omega arith
+
+module _ (most : ℕ) where
+  -- ---- a kind that is neither a literal nor a reference has no fields
+  bare-fields : (k : Kind) (x : Frame) → (kindByte k ≡ 1 → ⊥) → (kindByte k ≡ 3 → ⊥) → fieldsOf most k x ≡ bareFields x
+  bare-fields (operand literal) x p q = absurd (p refl)
+  bare-fields (operand instance) x p q = refl
+  bare-fields (operand reference) x p q = absurd (q refl)
+  bare-fields (arithmetic o) x p q = refl
+  bare-fields absolute x p q = refl
+  bare-fields (relation r) x p q = refl
+  bare-fields negation x p q = refl
+  bare-fields (connective j) x p q = refl
+  bare-fields none x p q = refl
+
+  bare-by : (b : ℕ) (x : Frame) → (b ≡ 1 → ⊥) → (b ≡ 3 → ⊥) → (kindOf b ≡ none) ⊎ (b ≡ kindByte (kindOf b)) → fieldsOf most (kindOf b) x ≡ bareFields x
+  bare-by b x p q (inl e) = rw e
+  bare-by b x p q (inr e) = bare-fields (kindOf b) x (λ h. p (e ∙ h)) (λ h. q (e ∙ h))
+
+  pub bare-kind : (b : ℕ) (x : Frame) → (b ≡ 1 → ⊥) → (b ≡ 3 → ⊥) → fieldsOf most (kindOf b) x ≡ bareFields x
+  bare-kind b x p q = bare-by b x p q (byte-kind b)

@@ -49,7 +49,7 @@ module _ (k e n f a b c d : ℕ) (s : List ℕ) where
   past : (x y : ℕ) → x ≡ suc (suc (suc (suc (suc (suc (suc (suc y))))))) → getD long x 0 ≡ getD s y 0
   past x y h = rw h
 
-  frame-past : (i : ℕ) → frameAt long (suc i) ≡ frameAt s i
+  pub frame-past : (i : ℕ) → frameAt long (suc i) ≡ frameAt s i
   frame-past i =
       rw (
         past (suc i * 8) (i * 8) (omega arith),

@@ -1,11 +1,15 @@
 -- The frames of what a tree means are the tree's frames with names and numbers looked up, in the same order; and it is within
 -- the limits where they are. Assumes nothing.
 use mathlib.Core.Path.{_≡_, refl, ap, ap₂, sym, subst, _∙_}
+use mathlib.Core.Option.{Option, none, some}
 use mathlib.Core.List.{List, [], _∷_, _++_}
 use Prim.Native.Nat.{ℕ}
-use Rattle.rule.specs.Frames.{Arithmetic, Connective, Kind, bare}
+use lib.IntN.{pos}
+use Rattle.rule.specs.Frames.{Arithmetic, Connective, Kind, scaleByte, frame, bare}
 use Rattle.rule.specs.Grammar
-use Rattle.rule.specs.Tree.{LimitsS, Limits, postfixS, postfix}
+use Rattle.rule.specs.Tree.{LimitsS, LimitsC, Limits, postfixS, postfixC, postfix}
+use Rattle.rule.specs.Limits.{decimalLimit}
+use Rattle.rule.specs.Scale.{literalDecimals}
 use Rattle.rule.specs.Draft.{Draft, alone, relationOf, signOf}
 use Rattle.rule.specs.Items.{Item, enters, puts, inside, operates}
 use Rattle.rule.specs.Items.{itemsCond, itemsDisj, itemsConj, itemsUnit, itemsSum, itemsProd, itemsFactor}
@@ -14,7 +18,7 @@ use Rattle.rule.specs.Meaning.{meaningSum, meaningProd, meaningFactor, m
 use Rattle.rule.specs.declared.Frame.{Frame}
 use Rattle.rule.specs.declared.parts.Place.{Place}
 use Rattle.rule.proofs.ReaderFrames.{each}
-use Rattle.rule.proofs.FrameDrafts.{each-append, All, all-left, all-right, frameOf, LimitsD, literal-fits, reference-fits}
+use Rattle.rule.proofs.FrameDrafts.{each-append, All, all-left, all-right, frameOf, LimitsD, head-fits, literal-fits, reference-fits}
 
 -- ---- the frames of items
 frames-append : (a b : List Item) → framesIn (a ++ b) ≡ framesIn a ++ framesIn b
@@ -28,12 +32,17 @@ frames-in [] = refl
 frames-in (enters d ∷ a) = frames-in a
 frames-in (puts f ∷ a) = ap (λ (l : List Draft). f ∷ l) (frames-in a)
 
-module _ (eventOf noteOf value : Place → ℕ) where
+-- the most decimals that a literal of a rule may have
+abbrev pub mostDecimals : Grammar.Rule → ℕ
+mostDecimals (Grammar.rule e es n ns none c) = 0
+mostDecimals (Grammar.rule e es n ns (some p) c) = decimalLimit
+
+module _ (eventOf noteOf value decimals : Place → ℕ) (z : Option ℕ) where
   abbrev looked-up : Draft → Frame
-  looked-up d = frameOf eventOf noteOf value d
+  looked-up d = frameOf eventOf noteOf value decimals d
 
   abbrev Fits : Draft → Type 0
-  Fits d = LimitsD eventOf noteOf value d
+  Fits d = LimitsD eventOf noteOf value decimals (literalDecimals z) d
 
   -- ---- t is what the items mean: it has their frames, and is within the limits where they are
   record Means {T : Type 0} (post : T → List Frame) (Lim : T → Type 0) (l : List Item) (t : T) : Type 0 where
@@ -66,41 +75,46 @@ module _ (eventOf noteOf value : Place → ℕ) where
             }
 
   mutual
-    in-sum : (x : Grammar.Sum) → Means postfixS LimitsS (itemsSum x) (meaningSum eventOf noteOf value x)
+    in-sum : (x : Grammar.Sum) → Means postfixS (LimitsS z) (itemsSum x) (meaningSum eventOf noteOf value decimals x)
     in-sum (Grammar.a-prod x) = in-prod x
     in-sum (Grammar.add x g y) = two (itemsSum x) (itemsProd y) (Kind.arithmetic (signOf g)) (in-sum x) (in-prod y) refl (λ h. h)
 
-    in-prod : (x : Grammar.Prod) → Means postfixS LimitsS (itemsProd x) (meaningProd eventOf noteOf value x)
+    in-prod : (x : Grammar.Prod) → Means postfixS (LimitsS z) (itemsProd x) (meaningProd eventOf noteOf value decimals x)
     in-prod (Grammar.a-factor x) = in-factor x
     in-prod (Grammar.multiply x y) = two (itemsProd x) (itemsFactor y) (Kind.arithmetic Arithmetic.multiply) (in-prod x) (in-factor y) refl (λ h. h)
 
-    in-factor : (x : Grammar.Factor) → Means postfixS LimitsS (itemsFactor x) (meaningFactor eventOf noteOf value x)
-    in-factor (Grammar.literal p) = record { its-frames = refl; its-limits = λ h. literal-fits eventOf noteOf value p (h .0) }
+    in-factor : (x : Grammar.Factor) → Means postfixS (LimitsS z) (itemsFactor x) (meaningFactor eventOf noteOf value decimals x)
+    in-factor (Grammar.literal p) = record { its-frames = refl; its-limits = λ h. literal-fits eventOf noteOf value decimals (literalDecimals z) p (h .0) }
+    in-factor (Grammar.Factor.decimal p) = record { its-frames = refl; its-limits = λ h. literal-fits eventOf noteOf value decimals (literalDecimals z) p (h .0) }
     in-factor Grammar.var = record { its-frames = refl; its-limits = λ h. tt }
     in-factor (Grammar.parens x) = within (itemsSum x) (in-sum x)
     in-factor (Grammar.absolute x) = one (inside (itemsSum x)) Kind.absolute (within (itemsSum x) (in-sum x)) refl (λ h. h)
-    in-factor (Grammar.reference n e (Grammar.index f o)) = record { its-frames = refl; its-limits = λ h. reference-fits eventOf noteOf value n e f o (h .0) }
+    in-factor (Grammar.reference n e (Grammar.index f o)) = record { its-frames = refl; its-limits = λ h. reference-fits eventOf noteOf value decimals (literalDecimals z) n e f o (h .0) }
 
   mutual
-    in-cond : (x : Grammar.Cond) → Means postfix Limits (itemsCond x) (meaningCond eventOf noteOf value x)
+    in-cond : (x : Grammar.Cond) → Means postfixC (LimitsC z) (itemsCond x) (meaningCond eventOf noteOf value decimals x)
     in-cond (Grammar.a-disj x) = in-disj x
     in-cond (Grammar.implies x y) = two (itemsDisj x) (inside (itemsCond y)) (Kind.connective Connective.implies) (in-disj x) (within (itemsCond y) (in-cond y)) refl (λ h. h)
 
-    in-disj : (x : Grammar.Disj) → Means postfix Limits (itemsDisj x) (meaningDisj eventOf noteOf value x)
+    in-disj : (x : Grammar.Disj) → Means postfixC (LimitsC z) (itemsDisj x) (meaningDisj eventOf noteOf value decimals x)
     in-disj (Grammar.a-conj x) = in-conj x
     in-disj (Grammar.or x y) = two (itemsDisj x) (itemsConj y) (Kind.connective Connective.or) (in-disj x) (in-conj y) refl (λ h. h)
 
-    in-conj : (x : Grammar.Conj) → Means postfix Limits (itemsConj x) (meaningConj eventOf noteOf value x)
+    in-conj : (x : Grammar.Conj) → Means postfixC (LimitsC z) (itemsConj x) (meaningConj eventOf noteOf value decimals x)
     in-conj (Grammar.a-unit x) = in-unit x
     in-conj (Grammar.and x y) = two (itemsConj x) (itemsUnit y) (Kind.connective Connective.and) (in-conj x) (in-unit y) refl (λ h. h)
 
-    in-unit : (x : Grammar.CUnit) → Means postfix Limits (itemsUnit x) (meaningUnit eventOf noteOf value x)
+    in-unit : (x : Grammar.CUnit) → Means postfixC (LimitsC z) (itemsUnit x) (meaningUnit eventOf noteOf value decimals x)
     in-unit (Grammar.not x) = one (inside (itemsUnit x)) Kind.negation (within (itemsUnit x) (in-unit x)) refl (λ h. h)
     in-unit (Grammar.group x) = within (itemsCond x) (in-cond x)
     in-unit (Grammar.relation x c y) = two (itemsSum x) (itemsSum y) (Kind.relation (relationOf c)) (in-sum x) (in-sum y) refl (λ h. h)
 
-  pub postfix-frames : (x : Grammar.Rule) → postfix (meaningOf eventOf noteOf value x) ≡ each (frameOf eventOf noteOf value) (frames x)
-  postfix-frames (Grammar.rule e es n ns c) = in-cond c .its-frames
+module _ (eventOf noteOf value decimals : Place → ℕ) where
+  pub postfix-frames : (x : Grammar.Rule) → postfix (meaningOf eventOf noteOf value decimals x) ≡ each (frameOf eventOf noteOf value decimals) (frames x)
+  postfix-frames (Grammar.rule e es n ns none c) = in-cond eventOf noteOf value decimals none c .its-frames
+  postfix-frames (Grammar.rule e es n ns (some p) c) = ap (λ (l : List Frame). frame scaleByte (value p) 0 0 (pos 0) ∷ l) (in-cond eventOf noteOf value decimals none c .its-frames)
 
-  pub limits-frames : (x : Grammar.Rule) → All (LimitsD eventOf noteOf value) (frames x) → Limits (meaningOf eventOf noteOf value x)
-  limits-frames (Grammar.rule e es n ns c) = in-cond c .its-limits
+  pub limits-frames : (x : Grammar.Rule) → All (LimitsD eventOf noteOf value decimals (mostDecimals x)) (frames x) → Limits (meaningOf eventOf noteOf value decimals x)
+  limits-frames (Grammar.rule e es n ns none c) h = (tt, in-cond eventOf noteOf value decimals none c .its-limits h)
+  limits-frames (Grammar.rule e es n ns (some p) c) h =
+      (head-fits eventOf noteOf value decimals decimalLimit p (h .0), in-cond eventOf noteOf value decimals (some (value p)) c .its-limits (h .1))

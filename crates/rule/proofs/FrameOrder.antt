@@ -48,15 +48,6 @@ tested-total : (i : ℕ) (t : Bool) (h : Shape) (m : ℕ) → total (orderAt i h
 tested-total i true h m l = l
 tested-total i false h m l = zero-le
 
-next-total : (i : ℕ) (x : Frame) (p : Prefix) (m : ℕ) → total p ≤ m → total (orderNext i x p) ≤ suc m
-next-total i x (viable c k) m h =
-    tested-total i (fieldsOf (kindOf (x .kind)) x) (stepBy (kindOf (x .kind)) c k) (suc m) (step-total i (effect (kindOf (x .kind))) c k m h)
-next-total i x (stuck p) m h = zero-le
-
-prefix-total : (s : List ℕ) (i : ℕ) → total (prefixAt s i) ≤ i
-prefix-total s zero = zero-le
-prefix-total s (suc i) = next-total i (frameAt s i) (prefixAt s i) i (prefix-total s i)
-
 sums-in : (p : Prefix) → sumsOf p ≤ total p
 sums-in (viable c k) = omega arith
 sums-in (stuck p) = zero-le
@@ -65,39 +56,9 @@ conds-in : (p : Prefix) → condsOf p ≤ total p
 conds-in (viable c k) = omega arith
 conds-in (stuck p) = zero-le
 
-pub sums-le : (s : List ℕ) (i : ℕ) → sumsOf (prefixAt s i) ≤ i
-sums-le s i = le-trans (sums-in (prefixAt s i)) (prefix-total s i)
-
-pub conds-le : (s : List ℕ) (i : ℕ) → condsOf (prefixAt s i) ≤ i
-conds-le s i = le-trans (conds-in (prefixAt s i)) (prefix-total s i)
-
--- ---- for the loop
-module _ (s : List ℕ) (i c k : ℕ) (e : prefixAt s i ≡ viable c k) where
-  pub prefix-next : (x : Frame) → x ≡ frameAt s i → (r : Shape) → r ≡ frameStep x c k → prefixAt s (i + 1) ≡ orderAt i r
-  prefix-next x h r g = rw add-one (ap (orderNext i (frameAt s i)) e ∙ ap (λ (y : Frame). orderAt i (frameStep y c k)) (sym h) ∙ ap (orderAt i) (sym g))
-
-  pub counts : c + k ≤ i
-  counts = subst (λ (p : Prefix). total p ≤ i) e (prefix-total s i)
-
-stays : (s : List ℕ) (i p d : ℕ) → prefixAt s i ≡ stuck p → prefixAt s (i + d) ≡ stuck p
-stays s i p zero e = rw add-zero e
-stays s i p (suc d) e = rw (add-suc i d) (ap (orderNext (i + d) (frameAt s (i + d))) (stays s i p d e))
-
-pub stuck-at : (s : List ℕ) (i n p : ℕ) → i ≤ n → prefixAt s i ≡ stuck p → prefixAt s n ≡ stuck p
-stuck-at s i n p h e = let q : i + (n - i) ≡ n = omega arith in rw q at (stays s i p (n - i) e)
-
 -- ---- every prefix of frames in order is viable
 fine-at : {m p : ℕ} → At p ≡ Fine m → ⊥
 fine-at e = let z : _≡_ {A = ℕ} 0 1 = cc in omega arith
-
-live-by : (s : List ℕ) (i : ℕ) (p : Prefix) → prefixAt s i ≡ p → i ≤ frameCount s → InOrder s → Live p
-unfolding orderOf
-live-by s i (viable c k) e h f = tt
-live-by s i (stuck p) e h f =
-    fine-at (sym (ap (ended (frameCount s) (referenceCount s)) (stuck-at s i (frameCount s) p h e)) ∙ f)
-
-pub live : (s : List ℕ) (i : ℕ) → i ≤ frameCount s → InOrder s → Live (prefixAt s i)
-live s i h f = live-by s i (prefixAt s i) refl h f
 
 -- and one condition and no sum are left
 one-cond : (n m c k : ℕ) (t : Bool) → (eqb c 1 && eqb k 0) ≡ t → cond t (Fine m) (At n) ≡ Fine m → (c ≡ 1) × (k ≡ 0)
@@ -108,10 +69,6 @@ one-by : (n m : ℕ) (p : Prefix) → ended n m p ≡ Fine m → p ≡ viable 1 
 one-by n m (viable c k) f = let q = one-cond n m c k (eqb c 1 && eqb k 0) refl f in rw (q .0, q .1)
 one-by n m (stuck q) f = absurd (fine-at f)
 
-pub one-left : (s : List ℕ) → InOrder s → prefixAt s (frameCount s) ≡ viable 1 0
-unfolding orderOf
-one-left s f = one-by (frameCount s) (referenceCount s) (prefixAt s (frameCount s)) f
-
 -- ---- the answer's number of references, and its place
 fine-cond : (n m l : ℕ) (t : Bool) → cond t (Fine m) (At n) ≡ Fine l → l ≡ m
 fine-cond n m l true e = cc
@@ -121,13 +78,6 @@ fine-by : (n m l : ℕ) (p : Prefix) → ended n m p ≡ Fine l → l ≡ m
 fine-by n m l (viable c k) e = fine-cond n m l (eqb c 1 && eqb k 0) e
 fine-by n m l (stuck q) e = absurd (fine-at e)
 
-pub fine-count : (s : List ℕ) (m : ℕ) → orderOf s ≡ Fine m → m ≡ referenceCount s
-unfolding orderOf
-fine-count s m e = fine-by (frameCount s) (referenceCount s) m (prefixAt s (frameCount s)) e
-
-pub fine-order : (s : List ℕ) (m : ℕ) → orderOf s ≡ Fine m → InOrder s
-fine-order s m e = e ∙ ap Fine (fine-count s m e)
-
 abbrev Below : ℕ → Prefix → Type 0
 Below i (viable c k) = Unit {0}
 Below i (stuck p) = p < i
@@ -136,14 +86,6 @@ below-order-at : (i : ℕ) (h : Shape) → Below (suc i) (orderAt i h)
 below-order-at i (Good c k) = tt
 below-order-at i Bad = le-refl (suc i)
 
-below-next : (i : ℕ) (x : Frame) (p : Prefix) → Below i p → Below (suc i) (orderNext i x p)
-below-next i x (viable c k) h = below-order-at i (frameStep x c k)
-below-next i x (stuck p) h = omega arith
-
-below : (s : List ℕ) (i : ℕ) → Below i (prefixAt s i)
-below s zero = tt
-below s (suc i) = below-next i (frameAt s i) (prefixAt s i) (below s i)
-
 place-cond : (n m p : ℕ) (t : Bool) → cond t (Fine m) (At n) ≡ At p → p ≤ n
 place-cond n m p true e = absurd (fine-at (sym e))
 place-cond n m p false e = let z : n ≡ p = cc in omega arith
@@ -151,10 +93,6 @@ place-cond n m p false e = let z : n ≡ p = cc in omega arith
 place-by : (n m p : ℕ) (q : Prefix) → Below n q → ended n m q ≡ At p → p ≤ n
 place-by n m p (viable c k) b e = place-cond n m p (eqb c 1 && eqb k 0) e
 place-by n m p (stuck q) b e = let z : q ≡ p = cc in omega arith
-
-pub place-le : (s : List ℕ) (p : ℕ) → orderOf s ≡ At p → p ≤ frameCount s
-unfolding orderOf
-place-le s p e = place-by (frameCount s) (referenceCount s) p (prefixAt s (frameCount s)) (below s (frameCount s)) e
 
 -- ---- counting references
 pub count-next : (s : List ℕ) (i m : ℕ) → referencesTo oneMore s 0 i ≡ m → (b : ℕ) → b ≡ frameAt s i .kind → (r : ℕ) → r ≡ cond (eqb b referenceByte) (m + 1) m
@@ -170,3 +108,66 @@ count-cond false m i h = omega arith
 pub count-le : (s : List ℕ) (i : ℕ) → referencesTo oneMore s 0 i ≤ i
 count-le s zero = zero-le
 count-le s (suc i) = count-cond (eqb (frameAt s i .kind) referenceByte) (referencesTo oneMore s 0 i) i (count-le s i)
+
+module _ (most : ℕ) where
+  next-total : (i : ℕ) (x : Frame) (p : Prefix) (m : ℕ) → total p ≤ m → total (orderNext most i x p) ≤ suc m
+  next-total i x (viable c k) m h =
+      tested-total i (fieldsOf most (kindOf (x .kind)) x) (stepBy (kindOf (x .kind)) c k) (suc m) (step-total i (effect (kindOf (x .kind))) c k m h)
+  next-total i x (stuck p) m h = zero-le
+
+  prefix-total : (s : List ℕ) (i : ℕ) → total (prefixAt most s i) ≤ i
+  prefix-total s zero = zero-le
+  prefix-total s (suc i) = next-total i (frameAt s i) (prefixAt most s i) i (prefix-total s i)
+
+  pub sums-le : (s : List ℕ) (i : ℕ) → sumsOf (prefixAt most s i) ≤ i
+  sums-le s i = le-trans (sums-in (prefixAt most s i)) (prefix-total s i)
+
+  pub conds-le : (s : List ℕ) (i : ℕ) → condsOf (prefixAt most s i) ≤ i
+  conds-le s i = le-trans (conds-in (prefixAt most s i)) (prefix-total s i)
+
+  -- ---- for the loop
+  module _ (s : List ℕ) (i c k : ℕ) (e : prefixAt most s i ≡ viable c k) where
+    pub prefix-next : (x : Frame) → x ≡ frameAt s i → (r : Shape) → r ≡ frameStep most x c k → prefixAt most s (i + 1) ≡ orderAt i r
+    prefix-next x h r g = rw add-one (ap (orderNext most i (frameAt s i)) e ∙ ap (λ (y : Frame). orderAt i (frameStep most y c k)) (sym h) ∙ ap (orderAt i) (sym g))
+
+    pub counts : c + k ≤ i
+    counts = subst (λ (p : Prefix). total p ≤ i) e (prefix-total s i)
+
+  stays : (s : List ℕ) (i p d : ℕ) → prefixAt most s i ≡ stuck p → prefixAt most s (i + d) ≡ stuck p
+  stays s i p zero e = rw add-zero e
+  stays s i p (suc d) e = rw (add-suc i d) (ap (orderNext most (i + d) (frameAt s (i + d))) (stays s i p d e))
+
+  pub stuck-at : (s : List ℕ) (i n p : ℕ) → i ≤ n → prefixAt most s i ≡ stuck p → prefixAt most s n ≡ stuck p
+  stuck-at s i n p h e = let q : i + (n - i) ≡ n = omega arith in rw q at (stays s i p (n - i) e)
+
+  live-by : (s : List ℕ) (i : ℕ) (p : Prefix) → prefixAt most s i ≡ p → i ≤ frameCount s → InOrder most s → Live p
+  unfolding orderOf
+  live-by s i (viable c k) e h f = tt
+  live-by s i (stuck p) e h f =
+      fine-at (sym (ap (ended (frameCount s) (referenceCount s)) (stuck-at s i (frameCount s) p h e)) ∙ f)
+
+  pub live : (s : List ℕ) (i : ℕ) → i ≤ frameCount s → InOrder most s → Live (prefixAt most s i)
+  live s i h f = live-by s i (prefixAt most s i) refl h f
+
+  pub one-left : (s : List ℕ) → InOrder most s → prefixAt most s (frameCount s) ≡ viable 1 0
+  unfolding orderOf
+  one-left s f = one-by (frameCount s) (referenceCount s) (prefixAt most s (frameCount s)) f
+
+  pub fine-count : (s : List ℕ) (m : ℕ) → orderOf most s ≡ Fine m → m ≡ referenceCount s
+  unfolding orderOf
+  fine-count s m e = fine-by (frameCount s) (referenceCount s) m (prefixAt most s (frameCount s)) e
+
+  pub fine-order : (s : List ℕ) (m : ℕ) → orderOf most s ≡ Fine m → InOrder most s
+  fine-order s m e = e ∙ ap Fine (fine-count s m e)
+
+  below-next : (i : ℕ) (x : Frame) (p : Prefix) → Below i p → Below (suc i) (orderNext most i x p)
+  below-next i x (viable c k) h = below-order-at i (frameStep most x c k)
+  below-next i x (stuck p) h = omega arith
+
+  below : (s : List ℕ) (i : ℕ) → Below i (prefixAt most s i)
+  below s zero = tt
+  below s (suc i) = below-next i (frameAt s i) (prefixAt most s i) (below s i)
+
+  pub place-le : (s : List ℕ) (p : ℕ) → orderOf most s ≡ At p → p ≤ frameCount s
+  unfolding orderOf
+  place-le s p e = place-by (frameCount s) (referenceCount s) p (prefixAt most s (frameCount s)) (below s (frameCount s)) e

@@ -1,6 +1,7 @@
 -- A rule's references: those of its frames, in frame order, and at most half of the frames. Assumes nothing.
 use mathlib.Core.Path.{_≡_, refl, sym, ap, _∙_}
 use mathlib.Core.Bool.{Bool, true, false, cond}
+use mathlib.Core.Option.{Option, none, some}
 use mathlib.Core.List.{List, [], _∷_, _++_, append-nil}
 use Prim.Native.Nat.{ℕ, suc, _+_, _*_, _≤_}
 use native.Mathlib.Omega.{arith}
@@ -9,11 +10,13 @@ use lib.ListN.{length, length-append}
 use borrow.Author.Tests.{eqb-true, eq-eqb, ne-eqb}
 use Rattle.rule.specs.Limits.{frameLimit, frameBytes}
 use Rattle.rule.specs.Frames.{Relation, equal, unequal, less, atMost, more, atLeast, Arithmetic, add, subtract, multiply, Connective, and, or, implies, Kind, kindByte, bare, frameCount}
-use Rattle.rule.specs.Tree.{Reference, Sum, literal, instance, reference, arithmetic, abs, Cond, relation, not, connective, postfixS, postfix, IsRule, referencesS, references}
+use Rattle.rule.specs.Tree.{Reference, Sum, literal, instance, reference, arithmetic, abs, Cond, relation, not, connective, RuleTree, postfixS, postfixC, postfix, IsRule, referencesS, referencesC, references}
+use Rattle.rule.specs.Scale.{headOf}
 use Rattle.rule.specs.References.{referenceByte, referenceOf, referencesTo, oneMore, referenceCount}
 use Rattle.rule.specs.declared.Frame.{Frame}
 use Rattle.rule.proofs.FrameLists.{framesOf, runs, runs-all, bytes-length}
-use Rattle.rule.proofs.FrameRules.{frames-are}
+use Rattle.rule.proofs.FrameRules.{IsBody, frames-are}
+use Rattle.rule.proofs.FrameHeads.{rule-frames}
 
 -- over a rule's references, in frame order
 module _ {S : Type 0} (f : Reference → S → S) where
@@ -29,16 +32,23 @@ same : (xs : List Reference) (fs : List Frame) (x : Frame) → length xs * 2 ≤
 same xs fs x p = rw (length-append fs (x ∷ [])) (omega arith)
 
 halfS : (t : Sum) → length (referencesS t) * 2 ≤ suc (length (postfixS t))
-halfS (literal n) = omega arith
+halfS (literal d n) = omega arith
 halfS instance = omega arith
 halfS (reference r) = omega arith
 halfS (arithmetic o a b) = two (referencesS a) (referencesS b) (postfixS a) (postfixS b) (bare (Kind.arithmetic o)) (halfS a) (halfS b)
 halfS (abs a) = same (referencesS a) (postfixS a) (bare Kind.absolute) (halfS a)
 
-pub half : (t : Cond) → length (references t) * 2 ≤ suc (length (postfix t))
-half (relation r a b) = two (referencesS a) (referencesS b) (postfixS a) (postfixS b) (bare (Kind.relation r)) (halfS a) (halfS b)
-half (not p) = same (references p) (postfix p) (bare Kind.negation) (half p)
-half (connective j p q) = two (references p) (references q) (postfix p) (postfix q) (bare (Kind.connective j)) (half p) (half q)
+halfC : (t : Cond) → length (referencesC t) * 2 ≤ suc (length (postfixC t))
+halfC (relation r a b) = two (referencesS a) (referencesS b) (postfixS a) (postfixS b) (bare (Kind.relation r)) (halfS a) (halfS b)
+halfC (not p) = same (referencesC p) (postfixC p) (bare Kind.negation) (halfC p)
+halfC (connective j p q) = two (referencesC p) (referencesC q) (postfixC p) (postfixC q) (bare (Kind.connective j)) (halfC p) (halfC q)
+
+pub half : (t : RuleTree) → length (references t) * 2 ≤ suc (length (postfix t))
+half t = go (t .scale)
+  where
+    go : (z : Option ℕ) → length (references t) * 2 ≤ suc (length (headOf z ++ postfixC (t .condition)))
+    go none = halfC (t .condition)
+    go (some k) = let h = halfC (t .condition) in omega arith
 
 pub rule-length : {s : List ℕ} (r : IsRule s) → length s ≡ length (postfix (r .tree)) * frameBytes
 rule-length r = ap length (r .bytes) ∙ bytes-length (postfix (r .tree))
@@ -87,16 +97,24 @@ connective-no or = refl
 connective-no implies = refl
 
 refsS : (t : Sum) → refsIn (postfixS t) ≡ referencesS t
-refsS (literal n) = refl
+refsS (literal d n) = refl
 refsS instance = refl
 refsS (reference r) = refl
 refsS (arithmetic o a b) = refs-two (postfixS a) (postfixS b) (Kind.arithmetic o) (referencesS a) (referencesS b) (arithmetic-no o) (refsS a) (refsS b)
 refsS (abs a) = refs-one (postfixS a) Kind.absolute (referencesS a) refl (refsS a)
 
-refsC : (t : Cond) → refsIn (postfix t) ≡ references t
+refsC : (t : Cond) → refsIn (postfixC t) ≡ referencesC t
 refsC (relation r a b) = refs-two (postfixS a) (postfixS b) (Kind.relation r) (referencesS a) (referencesS b) (relation-no r) (refsS a) (refsS b)
-refsC (not p) = refs-one (postfix p) Kind.negation (references p) refl (refsC p)
-refsC (connective j p q) = refs-two (postfix p) (postfix q) (Kind.connective j) (references p) (references q) (connective-no j) (refsC p) (refsC q)
+refsC (not p) = refs-one (postfixC p) Kind.negation (referencesC p) refl (refsC p)
+refsC (connective j p q) = refs-two (postfixC p) (postfixC q) (Kind.connective j) (referencesC p) (referencesC q) (connective-no j) (refsC p) (refsC q)
+
+-- the head is none
+refs-rule : (t : RuleTree) → refsIn (postfix t) ≡ references t
+refs-rule t = go (t .scale)
+  where
+    go : (z : Option ℕ) → refsIn (headOf z ++ postfixC (t .condition)) ≡ references t
+    go none = refsC (t .condition)
+    go (some k) = refsC (t .condition)
 
 -- ---- a pass that looks at references only is one over the rule's references
 module _ {S : Type 0} (f : Reference → S → S) where
@@ -113,10 +131,12 @@ module _ {S : Type 0} (f : Reference → S → S) where
       runs-refs fs (cond (eqb (x .kind) referenceByte) (f (referenceOf x) z) z)
       ∙ cond-over (eqb (x .kind) referenceByte) (referenceOf x) (refsIn fs) z
 
+  over-frames : (s : List ℕ) (rs : List Reference) (z : S) → refsIn (framesOf s) ≡ rs → referencesTo f s z (frameCount s) ≡ overReferences f rs z
+  over-frames s rs z e =
+      runs-all looked s (referencesTo f s z) (λ i. refl) ∙ runs-refs (framesOf s) z ∙ ap (λ (l : List Reference). overReferences f l z) e
+
   pub over-references : {s : List ℕ} (r : IsRule s) (z : S) → referencesTo f s z (frameCount s) ≡ overReferences f (references (r .tree)) z
-  over-references {s} r z =
-      runs-all looked s (referencesTo f s z) (λ i. refl) ∙ runs-refs (framesOf s) z
-      ∙ ap (λ (l : List Reference). overReferences f l z) (ap refsIn (frames-are r) ∙ refsC (r .tree))
+  over-references {s} r z = over-frames s (references (r .tree)) z (ap refsIn (rule-frames r) ∙ refs-rule (r .tree))
 
 over-count : (rs : List Reference) (n : ℕ) → overReferences oneMore rs n ≡ n + length rs
 over-count [] n = omega arith
@@ -126,16 +146,21 @@ pub count-of : {s : List ℕ} (r : IsRule s) → referenceCount s ≡ length (re
 unfolding referenceCount
 count-of r = over-references oneMore r 0 ∙ over-count (references (r .tree)) 0 ∙ omega arith
 
+-- of a body
+pub body-count : {z : Option ℕ} {s : List ℕ} (r : IsBody z s) → referenceCount s ≡ length (referencesC (r .tree))
+unfolding referenceCount
+body-count {z} {s} r = over-frames oneMore s (referencesC (r .tree)) 0 (ap refsIn (frames-are z r) ∙ refsC (r .tree)) ∙ over-count (referencesC (r .tree)) 0 ∙ omega arith
+
 -- ---- none, or some
 none-by : (rs : List Reference) → length rs ≡ 0 → rs ≡ []
 none-by [] e = refl
 none-by (r ∷ rs) e = absurd (let h : suc (length rs) ≡ 0 = e in omega arith)
 
-pub no-reference : {s : List ℕ} (r : IsRule s) → eqb (referenceCount s) 0 ≡ true → references (r .tree) ≡ []
-no-reference {s} r e = none-by (references (r .tree)) (sym (count-of r) ∙ eqb-true (referenceCount s) 0 e)
+pub no-reference : {z : Option ℕ} {s : List ℕ} (r : IsBody z s) → eqb (referenceCount s) 0 ≡ true → referencesC (r .tree) ≡ []
+no-reference {s = s} r e = none-by (referencesC (r .tree)) (sym (body-count r) ∙ eqb-true (referenceCount s) 0 e)
 
-pub reference-none : {s : List ℕ} (r : IsRule s) → references (r .tree) ≡ [] → eqb (referenceCount s) 0 ≡ true
-reference-none {s} r e = eq-eqb (referenceCount s) 0 (count-of r ∙ ap length e)
+pub reference-none : {z : Option ℕ} {s : List ℕ} (r : IsBody z s) → referencesC (r .tree) ≡ [] → eqb (referenceCount s) 0 ≡ true
+reference-none {s = s} r e = eq-eqb (referenceCount s) 0 (body-count r ∙ ap length e)
 
-pub reference-some : {s : List ℕ} (r : IsRule s) → (references (r .tree) ≡ [] → ⊥) → eqb (referenceCount s) 0 ≡ false
-reference-some {s} r h = ne-eqb (referenceCount s) 0 (λ e. h (none-by (references (r .tree)) (sym (count-of r) ∙ e)))
+pub reference-some : {z : Option ℕ} {s : List ℕ} (r : IsBody z s) → (referencesC (r .tree) ≡ [] → ⊥) → eqb (referenceCount s) 0 ≡ false
+reference-some {s = s} r h = ne-eqb (referenceCount s) 0 (λ e. h (none-by (referencesC (r .tree)) (sym (body-count r) ∙ e)))

@@ -6,7 +6,8 @@ use native.Mathlib.Numerals.{add-one}
 use native.Mathlib.Omega.{arith}
 use lib.ListN.{length, getD, set}
 use lib.Seq.{getD-set-same, getD-set-other}
-use Rattle.rule.specs.Stack.{stackOf}
+use Rattle.rule.specs.Decimals.{Term, term}
+use Rattle.rule.specs.Stack.{stackOf, termsOf}
 
 module _ {A : Type 0} (d : A) (cells : List A) where
   pub stack-length : (k : ℕ) → length (stackOf d cells k) ≡ k
@@ -40,3 +41,49 @@ module _ {A : Type 0} (d : A) (cells : List A) where
   stack-top k v h g =
       let e : k ≡ (k - 1) + 1 = omega arith in
       ap (stackOf d (set cells (k - 1) v)) e ∙ stack-push (k - 1) v (omega arith)
+
+-- ---- terms, in two arrays
+module _ {A : Type 0} (d : A) (cells : List A) (counts : List ℕ) where
+  -- the term at a place
+  abbrev pub termAt : ℕ → Term A
+  termAt p = term (getD cells p d) (getD counts p 0)
+
+  pub terms-length : (k : ℕ) → length (termsOf d cells counts k) ≡ k
+  terms-length zero = refl
+  terms-length (suc k) = ap suc (terms-length k)
+
+  pub terms-one : (k : ℕ) → 1 ≤ k → termsOf d cells counts k ≡ termAt (k - 1) ∷ termsOf d cells counts (k - 1)
+  terms-one k h = let e : k ≡ suc (k - 1) = omega arith in ap (termsOf d cells counts) e
+
+  pub terms-two : (k : ℕ) → 2 ≤ k → termsOf d cells counts k ≡ termAt (k - 1) ∷ (termAt (k - 2) ∷ termsOf d cells counts (k - 2))
+  terms-two k h =
+      let e : k - 1 ≡ suc (k - 2) = omega arith in
+      terms-one k (omega arith) ∙ ap (λ (x : ℕ). termAt (k - 1) ∷ termsOf d cells counts x) e
+
+  -- stores above the terms leave them
+  pub terms-above : (j : ℕ) (v : A) (c p : ℕ) → p ≤ j → termsOf d (set cells j v) (set counts j c) p ≡ termsOf d cells counts p
+  terms-above j v c zero h = refl
+  terms-above j v c (suc p) h =
+      rw (getD-set-other cells j p v d (λ e. omega arith), getD-set-other counts j p c 0 (λ e. omega arith), terms-above j v c p (omega arith))
+
+  pub terms-push : (k : ℕ) (v : A) (c : ℕ) → k < length cells → k < length counts
+      → termsOf d (set cells k v) (set counts k c) (k + 1) ≡ term v c ∷ termsOf d cells counts k
+  terms-push k v c h g = rw (add-one k, getD-set-same cells k v d h, getD-set-same counts k c 0 g, terms-above k v c k (omega arith))
+
+  -- stores two below the top, with one cell fewer
+  pub terms-fold : (k : ℕ) (v : A) (c : ℕ) → 2 ≤ k → k ≤ length cells → k ≤ length counts
+      → termsOf d (set cells (k - 2) v) (set counts (k - 2) c) (k - 1) ≡ term v c ∷ termsOf d cells counts (k - 2)
+  terms-fold k v c h g f =
+      let e : k - 1 ≡ (k - 2) + 1 = omega arith in
+      ap (termsOf d (set cells (k - 2) v) (set counts (k - 2) c)) e ∙ terms-push (k - 2) v c (omega arith) (omega arith)
+
+  -- a store of the amount at the top
+  pub terms-top : (k : ℕ) (v : A) → 1 ≤ k → k ≤ length cells
+      → termsOf d (set cells (k - 1) v) counts k ≡ term v (getD counts (k - 1) 0) ∷ termsOf d cells counts (k - 1)
+  terms-top k v h g =
+      let e : k ≡ suc (k - 1) = omega arith in
+      ap (termsOf d (set cells (k - 1) v) counts) e ∙ rw (getD-set-same cells (k - 1) v d (omega arith), below (k - 1) v (k - 1) (omega arith))
+    where
+      below : (j : ℕ) (v : A) (p : ℕ) → p ≤ j → termsOf d (set cells j v) counts p ≡ termsOf d cells counts p
+      below j v zero h = refl
+      below j v (suc p) h = rw (getD-set-other cells j p v d (λ e. omega arith), below j v p (omega arith))

@@ -8,65 +8,62 @@ use lib.Dec.{eqb}
 use Rattle.rule.specs.declared.parts.Place.{Place}
 use Rattle.rule.specs.declared.parts.Role.{Role}
 use Rattle.rule.specs.declared.parts.Role.the-variants.{Event, Note}
-use Rattle.rule.specs.declared.parts.Limit.the-variants.{OfLiteral, OfFactor, OfOffset}
+use Rattle.rule.specs.declared.parts.Limit.the-variants.{OfClause, OfLiteral, OfFactor, OfOffset}
 use Rattle.rule.specs.declared.parts.Sign.{Sign}
 use Rattle.rule.specs.declared.parts.Sign.the-variants.{Plus, Minus}
-use Rattle.rule.specs.declared.parts.Scale.{Scale}
-use Rattle.rule.specs.declared.parts.Scale.the-variants.{Once, Times}
+use Rattle.rule.specs.declared.parts.Multiple.{Multiple}
+use Rattle.rule.specs.declared.parts.Multiple.the-variants.{Once, Times}
 use Rattle.rule.specs.declared.parts.Shift.the-variants.{Unshifted, By}
-use Rattle.rule.specs.Token.{indexKind, barsKind, ampersandsKind, arrowKind, absKind, nameKind, numberKind, unequalKind, atMostKind, atLeastKind}
-use Rattle.rule.specs.Class.{openBracket, openParen, star, bang, closeParen, openBrace, closeBrace, closeBracket, equalMark, lessMark, minusMark, moreMark, plusMark}
+use Rattle.rule.specs.Token.{indexKind, barsKind, ampersandsKind, arrowKind, absKind, nameKind, numberKind, decimalKind, scaleKind, unequalKind, atMostKind, atLeastKind}
+use Rattle.rule.specs.Class.{openBracket, openParen, star, bang, closeParen, openBrace, closeBrace, closeBracket, equalMark, lessMark, minusMark, moreMark, plusMark, semicolon}
 use Rattle.rule.specs.Grammar.{Word, mark, name, number, Rel, equal, unequal, less, at-most, more, at-least, relMark, signMark, wordOf}
 use Rattle.rule.specs.Frames.{Arithmetic, Connective, Kind}
-use Rattle.rule.specs.Draft.{lit, index-var, ref, alone, relationOf, signOf}
-use Rattle.rule.specs.Machine.{Act, declare, uses, sized, enter, out, deeper, Sym, unit, ands, ors, arrow, factor, muls, adds, rel, want, name-of, names-of, ref-event, ref-index, ref-shift, ref-by, doing, prod, sum, conj, condition, start, Next, stuck, on, startFactor, step}
+use Rattle.rule.specs.Draft.{head, lit, index-var, ref, alone, relationOf, signOf}
+use Rattle.rule.specs.Machine.{Act, declare, uses, sized, enter, out, deeper, Sym, unit, ands, ors, arrow, factor, muls, adds, rel, want, name-of, names-of, clause, clause-number, ref-event, ref-index, ref-shift, ref-by, doing, prod, sum, conj, condition, start, Next, stuck, on, startFactor, step}
 
 abbrev pub isLeaf : ℕ → Bool
-isLeaf k = cond (eqb k nameKind) true (eqb k numberKind)
+isLeaf k = cond (eqb k nameKind) true (cond (eqb k numberKind) true (eqb k decimalKind))
 
 -- ---- words and kinds
 abbrev Marks : Word → ℕ → Type 0
 Marks (mark j) k = k ≡ j
 Marks (name q) k = ⊥
 Marks (number q) k = ⊥
+Marks (Word.decimal q) k = ⊥
 
 abbrev Matches : Word → ℕ → Place → Type 0
 Matches (mark j) k p = k ≡ j
 Matches (name q) k p = (k ≡ nameKind) × (p ≡ q)
 Matches (number q) k p = (k ≡ numberKind) × (p ≡ q)
+Matches (Word.decimal q) k p = (k ≡ decimalKind) × (p ≡ q)
 
 matches-own : (k : ℕ) (p : Place) → Matches (wordOf k p) k p
-matches-own k p = go (eqb k nameKind) (eqb k numberKind) refl refl
+matches-own k p = go (eqb k nameKind) (eqb k numberKind) (eqb k decimalKind) refl refl refl
   where
-    go : (x y : Bool) → eqb k nameKind ≡ x → eqb k numberKind ≡ y → Matches (cond x (name p) (cond y (number p) (mark k))) k p
-    go true y e f = (eqb-true _ _ e, refl)
-    go false true e f = (eqb-true _ _ f, refl)
-    go false false e f = refl
+    go : (x y z : Bool) → eqb k nameKind ≡ x → eqb k numberKind ≡ y → eqb k decimalKind ≡ z → Matches (cond x (name p) (cond y (number p) (cond z (Word.decimal p) (mark k)))) k p
+    go true y z e f g = (eqb-true _ _ e, refl)
+    go false true z e f g = (eqb-true _ _ f, refl)
+    go false false true e f g = (eqb-true _ _ g, refl)
+    go false false false e f g = refl
 
 matches : (k : ℕ) (p : Place) {w : Word} → wordOf k p ≡ w → Matches w k p
 matches k p e = subst (λ (x : Word). Matches x k p) e (matches-own k p)
 
 plain-word : (k : ℕ) (p : Place) → isLeaf k ≡ false → wordOf k p ≡ mark k
-plain-word k p e = go (eqb k nameKind) (eqb k numberKind) e
+plain-word k p e = go (eqb k nameKind) (eqb k numberKind) (eqb k decimalKind) e
   where
-    go : (x y : Bool) → cond x true y ≡ false → cond x (name p) (cond y (number p) (mark k)) ≡ mark k
-    go true y e = absurd (no-way e)
-      where
-        Is : Bool → Type 0
-        Is true = Unit {0}
-        Is false = ⊥
+    Is : Bool → Type 0
+    Is true = Unit {0}
+    Is false = ⊥
 
-        no-way : true ≡ false → ⊥
-        no-way e = subst Is e tt
-    go false true e = absurd (no-way e)
-      where
-        Is : Bool → Type 0
-        Is true = Unit {0}
-        Is false = ⊥
+    no-way : true ≡ false → ⊥
+    no-way e = subst Is e tt
 
-        no-way : true ≡ false → ⊥
-        no-way e = subst Is e tt
-    go false false e = refl
+    go : (x y z : Bool) → cond x true (cond y true z) ≡ false → cond x (name p) (cond y (number p) (cond z (Word.decimal p) (mark k))) ≡ mark k
+    go true y z e = absurd (no-way e)
+    go false true z e = absurd (no-way e)
+    go false false true e = absurd (no-way e)
+    go false false false e = refl
 
 -- a choice by a test on the kind
 pub choose : {N : Type 0} (P : N → Type 0) (k j : ℕ) {a b : N} → (k ≡ j → P a) → P b → P (cond (eqb k j) a b)
@@ -97,19 +94,23 @@ module _ (M : Type 0) (act : Act → M → M) where
     mul-more : {d : ℕ} {s : List Sym} {m m′ : M} {ws : List Word} → Derives (factor d ∷ doing (out (alone (Kind.arithmetic Arithmetic.multiply))) ∷ muls d ∷ s) m ws m′ → Derives (muls d ∷ s) m (mark star ∷ ws) m′
     mul-none : {d : ℕ} {s : List Sym} {m m′ : M} {ws : List Word} → Derives s m ws m′ → Derives (muls d ∷ s) m ws m′
     literal : {d : ℕ} {s : List Sym} {m m′ : M} {ws : List Word} (p : Place) → Derives s (act (out (lit p)) (act (sized OfLiteral p) m)) ws m′ → Derives (factor d ∷ s) m (number p ∷ ws) m′
+    decimal : {d : ℕ} {s : List Sym} {m m′ : M} {ws : List Word} (p : Place) → Derives s (act (out (lit p)) (act (sized OfLiteral p) m)) ws m′ → Derives (factor d ∷ s) m (Word.decimal p ∷ ws) m′
     var : {d : ℕ} {s : List Sym} {m m′ : M} {ws : List Word} → Derives s (act (out index-var) m) ws m′ → Derives (factor d ∷ s) m (mark indexKind ∷ ws) m′
     parens : {d : ℕ} {s : List Sym} {m m′ : M} {ws : List Word} → Derives (sum (deeper d) (want closeParen ∷ s)) (act (enter (deeper d)) m) ws m′ → Derives (factor d ∷ s) m (mark openParen ∷ ws) m′
     absolute : {d : ℕ} {s : List Sym} {m m′ : M} {ws : List Word} → Derives (want openParen ∷ sum (deeper d) (want closeParen ∷ doing (out (alone Kind.absolute)) ∷ s)) (act (enter (deeper d)) m) ws m′ → Derives (factor d ∷ s) m (mark absKind ∷ ws) m′
     reference : {d : ℕ} {s : List Sym} {m m′ : M} {ws : List Word} (p : Place) → Derives (want openParen ∷ ref-event p ∷ s) (act (uses Note p) m) ws m′ → Derives (factor d ∷ s) m (name p ∷ ws) m′
     event : {n : Place} {s : List Sym} {m m′ : M} {ws : List Word} (p : Place) → Derives (want openBracket ∷ ref-index n p ∷ want closeBracket ∷ want closeParen ∷ s) (act (uses Event p) m) ws m′ → Derives (ref-event n ∷ s) m (name p ∷ ws) m′
-    scaled : {n e : Place} {s : List Sym} {m m′ : M} {ws : List Word} (p : Place) → Derives (want star ∷ want indexKind ∷ ref-shift n e (Times p) ∷ s) (act (sized OfFactor p) m) ws m′ → Derives (ref-index n e ∷ s) m (number p ∷ ws) m′
-    unscaled : {n e : Place} {s : List Sym} {m m′ : M} {ws : List Word} → Derives (ref-shift n e Once ∷ s) m ws m′ → Derives (ref-index n e ∷ s) m (mark indexKind ∷ ws) m′
-    shifted : {n e : Place} {f : Scale} {s : List Sym} {m m′ : M} {ws : List Word} (g : Sign) → Derives (ref-by n e f g ∷ s) m ws m′ → Derives (ref-shift n e f ∷ s) m (mark (signMark g) ∷ ws) m′
-    shift-none : {n e : Place} {f : Scale} {s : List Sym} {m m′ : M} {ws : List Word} → Derives s (act (out (ref n e f Unshifted)) m) ws m′ → Derives (ref-shift n e f ∷ s) m ws m′
-    by-number : {n e : Place} {f : Scale} {g : Sign} {s : List Sym} {m m′ : M} {ws : List Word} (p : Place) → Derives s (act (out (ref n e f (By g p))) (act (sized OfOffset p) m)) ws m′ → Derives (ref-by n e f g ∷ s) m (number p ∷ ws) m′
+    multiplied : {n e : Place} {s : List Sym} {m m′ : M} {ws : List Word} (p : Place) → Derives (want star ∷ want indexKind ∷ ref-shift n e (Times p) ∷ s) (act (sized OfFactor p) m) ws m′ → Derives (ref-index n e ∷ s) m (number p ∷ ws) m′
+    unmultiplied : {n e : Place} {s : List Sym} {m m′ : M} {ws : List Word} → Derives (ref-shift n e Once ∷ s) m ws m′ → Derives (ref-index n e ∷ s) m (mark indexKind ∷ ws) m′
+    shifted : {n e : Place} {f : Multiple} {s : List Sym} {m m′ : M} {ws : List Word} (g : Sign) → Derives (ref-by n e f g ∷ s) m ws m′ → Derives (ref-shift n e f ∷ s) m (mark (signMark g) ∷ ws) m′
+    shift-none : {n e : Place} {f : Multiple} {s : List Sym} {m m′ : M} {ws : List Word} → Derives s (act (out (ref n e f Unshifted)) m) ws m′ → Derives (ref-shift n e f ∷ s) m ws m′
+    by-number : {n e : Place} {f : Multiple} {g : Sign} {s : List Sym} {m m′ : M} {ws : List Word} (p : Place) → Derives s (act (out (ref n e f (By g p))) (act (sized OfOffset p) m)) ws m′ → Derives (ref-by n e f g ∷ s) m (number p ∷ ws) m′
     named : {r : Role} {s : List Sym} {m m′ : M} {ws : List Word} (p : Place) → Derives s (act (declare r p) m) ws m′ → Derives (name-of r ∷ s) m (name p ∷ ws) m′
     name-more : {r : Role} {s : List Sym} {m m′ : M} {ws : List Word} (p : Place) → Derives (names-of r ∷ s) (act (declare r p) m) ws m′ → Derives (names-of r ∷ s) m (name p ∷ ws) m′
     name-none : {r : Role} {s : List Sym} {m m′ : M} {ws : List Word} → Derives s m ws m′ → Derives (names-of r ∷ s) m ws m′
+    scaled : {s : List Sym} {m m′ : M} {ws : List Word} → Derives (clause-number ∷ want semicolon ∷ s) m ws m′ → Derives (clause ∷ s) m (mark scaleKind ∷ ws) m′
+    unscaled : {s : List Sym} {m m′ : M} {ws : List Word} → Derives s m ws m′ → Derives (clause ∷ s) m ws m′
+    scale-number : {s : List Sym} {m m′ : M} {ws : List Word} (p : Place) → Derives s (act (out (head p)) (act (sized OfClause p) m)) ws m′ → Derives (clause-number ∷ s) m (number p ∷ ws) m′
 
   -- ---- each stack derives something
   nowhere : Place
@@ -131,8 +132,10 @@ module _ (M : Type 0) (act : Act → M → M) where
   some (want k ∷ s) m = let (ws, m′, g) = some s m in (_, m′, token g)
   some (name-of r ∷ s) m = let (ws, m′, g) = some s _ in (_, m′, named nowhere g)
   some (names-of r ∷ s) m = let (ws, m′, g) = some s m in (_, m′, name-none g)
-  some (ref-event n ∷ s) m = let (ws, m′, g) = some s _ in (_, m′, event nowhere (token (unscaled (shift-none (token (token g))))))
-  some (ref-index n e ∷ s) m = let (ws, m′, g) = some s _ in (_, m′, unscaled (shift-none g))
+  some (clause ∷ s) m = let (ws, m′, g) = some s m in (_, m′, unscaled g)
+  some (clause-number ∷ s) m = let (ws, m′, g) = some s _ in (_, m′, scale-number nowhere g)
+  some (ref-event n ∷ s) m = let (ws, m′, g) = some s _ in (_, m′, event nowhere (token (unmultiplied (shift-none (token (token g))))))
+  some (ref-index n e ∷ s) m = let (ws, m′, g) = some s _ in (_, m′, unmultiplied (shift-none g))
   some (ref-shift n e f ∷ s) m = let (ws, m′, g) = some s _ in (_, m′, shift-none g)
   some (ref-by n e f g ∷ s) m = let (ws, m′, h) = some s _ in (_, m′, by-number nowhere h)
   some (doing a ∷ s) m = let (ws, m′, g) = some s _ in (_, m′, does g)
@@ -157,6 +160,8 @@ module _ (M : Type 0) (act : Act → M → M) where
   Good (want k ∷ s) = (isLeaf k ≡ false) × Good s
   Good (name-of r ∷ s) = Good s
   Good (names-of r ∷ s) = Clear 1 s × Good s
+  Good (clause ∷ s) = Clear 8 s × Good s
+  Good (clause-number ∷ s) = Good s
   Good (ref-event n ∷ s) = Good s
   Good (ref-index n e ∷ s) = Clear 43 s × Clear 45 s × Good s
   Good (ref-shift n e f ∷ s) = Clear 43 s × Clear 45 s × Good s
@@ -205,10 +210,11 @@ module _ (M : Type 0) (act : Act → M → M) where
   unfolding startFactor step
   fine-factor d s m k p =
       choose F k numberKind (λ e g. (g, λ ws m′ h. rw e (literal p h)))
+      (choose F k decimalKind (λ e g. (g, λ ws m′ h. rw e (decimal p h)))
       (choose F k indexKind (λ e g. (g, λ ws m′ h. rw e (var h)))
       (choose F k openParen (λ e g. (good-sum (deeper d) (want closeParen ∷ s) ((λ m p. refl), (λ m p. refl), (λ m p. refl)) (refl, g), λ ws m′ h. rw e (parens h)))
       (choose F k absKind (λ e g. ((refl, good-sum (deeper d) (want closeParen ∷ doing (out (alone Kind.absolute)) ∷ s) ((λ m p. refl), (λ m p. refl), (λ m p. refl)) (refl, g)), λ ws m′ h. rw e (absolute h)))
-      (choose F k nameKind (λ e g. ((refl, g), λ ws m′ h. rw e (reference p h))) tt))))
+      (choose F k nameKind (λ e g. ((refl, g), λ ws m′ h. rw e (reference p h))) tt)))))
     where
       F : Next M → Type 0
       F = Fine (factor d ∷ s) m k p
@@ -258,10 +264,14 @@ module _ (M : Type 0) (act : Act → M → M) where
   fine (names-of r ∷ s) m k p =
       choose (Fine (names-of r ∷ s) m k p) k nameKind (λ e g. (g, λ ws m′ h. rw e (name-more p h)))
       (pass (names-of r ∷ s) s m m k p (step M act s m k p) (λ g. g .1) (λ ws m′ h. name-none h) (fine s m k p))
+  fine (clause ∷ s) m k p =
+      choose (Fine (clause ∷ s) m k p) k scaleKind (λ e g. ((refl, g .1), λ ws m′ h. rw e (scaled h)))
+      (pass (clause ∷ s) s m m k p (step M act s m k p) (λ g. g .1) (λ ws m′ h. unscaled h) (fine s m k p))
+  fine (clause-number ∷ s) m k p = choose (Fine (clause-number ∷ s) m k p) k numberKind (λ e g. (g, λ ws m′ h. rw e (scale-number p h))) tt
   fine (ref-event n ∷ s) m k p = choose (Fine (ref-event n ∷ s) m k p) k nameKind (λ e g. ((refl, ((λ m p. refl), (λ m p. refl), (refl, (refl, g)))), λ ws m′ h. rw e (event p h))) tt
   fine (ref-index n x ∷ s) m k p =
-      choose (Fine (ref-index n x ∷ s) m k p) k numberKind (λ e g. ((refl, (refl, g)), λ ws m′ h. rw e (scaled p h)))
-      (choose (Fine (ref-index n x ∷ s) m k p) k indexKind (λ e g. (g, λ ws m′ h. rw e (unscaled h))) tt)
+      choose (Fine (ref-index n x ∷ s) m k p) k numberKind (λ e g. ((refl, (refl, g)), λ ws m′ h. rw e (multiplied p h)))
+      (choose (Fine (ref-index n x ∷ s) m k p) k indexKind (λ e g. (g, λ ws m′ h. rw e (unmultiplied h))) tt)
   fine (ref-shift n x f ∷ s) m k p =
       choose (Fine (ref-shift n x f ∷ s) m k p) k plusMark (λ e g. (g .2, λ ws m′ h. rw e (shifted Plus h)))
       (choose (Fine (ref-shift n x f ∷ s) m k p) k minusMark (λ e g. (g .2, λ ws m′ h. rw e (shifted Minus h)))
@@ -311,13 +321,14 @@ module _ (M : Type 0) (act : Act → M → M) where
   complete (mul-more g) gd k p e = rw (matches k p e) g
   complete {m = m} {m′ = m′} {ws = ws} (mul-none {s = s} g) gd k p e = over (taking ws m′) (λ x. x) k 42 _ (clear k 42 s m p (gd .0)) (complete g (gd .1) k p e)
   complete (literal q g) gd k p e = let (a, b) = matches k p e in rw (a, b) g
+  complete (decimal q g) gd k p e = let (a, b) = matches k p e in rw (a, b) g
   complete (var g) gd k p e = rw (matches k p e) g
   complete (parens g) gd k p e = rw (matches k p e) g
   complete (absolute g) gd k p e = rw (matches k p e) g
   complete (reference q g) gd k p e = let (a, b) = matches k p e in rw (a, b) g
   complete (event q g) gd k p e = let (a, b) = matches k p e in rw (a, b) g
-  complete (scaled q g) gd k p e = let (a, b) = matches k p e in rw (a, b) g
-  complete (unscaled g) gd k p e = rw (matches k p e) g
+  complete (multiplied q g) gd k p e = let (a, b) = matches k p e in rw (a, b) g
+  complete (unmultiplied g) gd k p e = rw (matches k p e) g
   complete (shifted Plus g) gd k p e = rw (matches k p e) g
   complete (shifted Minus g) gd k p e = rw (matches k p e) g
   complete {m = m} {m′ = m′} {ws = ws} (shift-none {s = s} g) gd k p e =
@@ -326,11 +337,14 @@ module _ (M : Type 0) (act : Act → M → M) where
   complete (named q g) gd k p e = let (a, b) = matches k p e in rw (a, b) g
   complete (name-more q g) gd k p e = let (a, b) = matches k p e in rw (a, b) g
   complete {m = m} {m′ = m′} {ws = ws} (name-none {s = s} g) gd k p e = over (taking ws m′) (λ x. x) k 1 _ (clear k 1 s m p (gd .0)) (complete g (gd .1) k p e)
+  complete (scaled g) gd k p e = rw (matches k p e) g
+  complete {m = m} {m′ = m′} {ws = ws} (unscaled {s = s} g) gd k p e = over (taking ws m′) (λ x. x) k 8 _ (clear k 8 s m p (gd .0)) (complete g (gd .1) k p e)
+  complete (scale-number q g) gd k p e = let (a, b) = matches k p e in rw (a, b) g
 
   pub good-start : Good start
   unfolding step startFactor
   good-start =
-      (refl, ((λ m p. refl), (refl, (refl, ((λ m p. refl), (refl, good-cond 0 [] ((λ m p. refl), (λ m p. refl), (λ m p. refl)) (λ m p. refl) (λ m p. refl) (λ m p. refl) tt))))))
+      (refl, ((λ m p. refl), (refl, (refl, ((λ m p. refl), (refl, ((λ m p. refl), good-cond 0 [] ((λ m p. refl), (λ m p. refl), (λ m p. refl)) (λ m p. refl) (λ m p. refl) (λ m p. refl) tt)))))))
 
   pub good-cond-only : (d : ℕ) → Good (condition d [])
   unfolding step startFactor

@@ -1,26 +1,35 @@
 -- What the acts at each token keep, the machine's answer keeps. Assumes nothing.
 use mathlib.Core.Path.{_≡_, refl}
+use mathlib.Core.Logic.{_⊎_, inl, inr}
 use mathlib.Core.List.{List, [], _∷_}
 use Prim.Native.Nat.{ℕ}
 use Rattle.rule.specs.Frames.{Kind}
-use Rattle.rule.specs.Token.{nameKind, numberKind, indexKind, absKind, arrowKind, barsKind, ampersandsKind}
+use Rattle.rule.specs.Token.{nameKind, numberKind, decimalKind, scaleKind, indexKind, absKind, arrowKind, barsKind, ampersandsKind}
 use Rattle.rule.specs.Class.{bang, openBrace, openParen, star}
 use Rattle.rule.specs.Grammar.{relMark, rels, signMark, signs, byMark, place}
-use Rattle.rule.specs.Draft.{Draft, lit, index-var, ref, alone, relationOf, signOf}
-use Rattle.rule.specs.Machine.{Act, declare, uses, sized, enter, out, deeper, Sym, unit, ands, ors, arrow, factor, muls, adds, rel, want, name-of, names-of, ref-event, ref-index, ref-shift, ref-by, doing, prod, sum, Next, stuck, on, MachineAnswer, accepted, refused, resume, startFactor, step, finish, run}
+use Rattle.rule.specs.Draft.{Draft, head, lit, index-var, ref, alone, relationOf, signOf}
+use Rattle.rule.specs.Machine.{Act, declare, uses, sized, enter, out, deeper, Sym, unit, ands, ors, arrow, factor, muls, adds, rel, want, name-of, names-of, clause, clause-number, ref-event, ref-index, ref-shift, ref-by, doing, prod, sum, Next, stuck, on, MachineAnswer, accepted, refused, resume, startFactor, step, finish, run}
 use Rattle.rule.specs.declared.Token.{Token}
 use Rattle.rule.specs.declared.parts.Place.{Place}
 use Rattle.rule.specs.declared.parts.Role.the-variants.{Event, Note}
-use Rattle.rule.specs.declared.parts.Limit.the-variants.{OfLiteral, OfFactor, OfOffset}
+use Rattle.rule.specs.declared.parts.Limit.{Limit}
+use Rattle.rule.specs.declared.parts.Limit.the-variants.{OfClause, OfLiteral, OfFactor, OfOffset}
 use Rattle.rule.specs.declared.parts.Shift.the-variants.{Unshifted, By}
 use Rattle.rule.proofs.GrammarDerivations.{choose}
 use Rattle.rule.proofs.FrameDrafts.{All}
+
+-- the kinds of token that a number may be: a literal may be a decimal
+abbrev pub Numeral : Limit → ℕ → Type 0
+Numeral OfClause k = k ≡ numberKind
+Numeral OfLiteral k = (k ≡ numberKind) ⊎ (k ≡ decimalKind)
+Numeral OfFactor k = k ≡ numberKind
+Numeral OfOffset k = k ≡ numberKind
 
 -- the acts that a token of kind k, at p, may lead to: a name or a number is that token
 abbrev pub At : ℕ → Place → Act → Type 0
 At k p (declare r q) = (k ≡ nameKind) × (q ≡ p)
 At k p (uses r q) = (k ≡ nameKind) × (q ≡ p)
-At k p (sized l q) = (k ≡ numberKind) × (q ≡ p)
+At k p (sized l q) = Numeral l k × (q ≡ p)
 At k p (enter d) = Unit
 At k p (out f) = Unit
 
@@ -48,6 +57,8 @@ Outs (rel d ∷ s) = Outs s
 Outs (want k ∷ s) = Outs s
 Outs (name-of r ∷ s) = Outs s
 Outs (names-of r ∷ s) = Outs s
+Outs (clause ∷ s) = Outs s
+Outs (clause-number ∷ s) = Outs s
 Outs (ref-event e ∷ s) = Outs s
 Outs (ref-index e i ∷ s) = Outs s
 Outs (ref-shift e i f ∷ s) = Outs s
@@ -68,11 +79,12 @@ module _ (M : Type 0) (act : Act → M → M) (P : M → Type 0) where
     factor-keeps : (d : ℕ) (s : List Sym) (m : M) → Outs s → P m → Ok (startFactor M act d m k p s)
     unfolding startFactor
     factor-keeps d s m o h =
-        choose Ok k numberKind (λ e. (o, keep (out (lit p)) tt _ (keep (sized OfLiteral p) (e, refl) m h)))
+        choose Ok k numberKind (λ e. (o, keep (out (lit p)) tt _ (keep (sized OfLiteral p) (inl e, refl) m h)))
+        (choose Ok k decimalKind (λ e. (o, keep (out (lit p)) tt _ (keep (sized OfLiteral p) (inr e, refl) m h)))
         (choose Ok k indexKind (λ e. (o, keep (out index-var) tt m h))
         (choose Ok k openParen (λ e. (o, keep (enter (deeper d)) tt m h))
         (choose Ok k absKind (λ e. ((tt, o), keep (enter (deeper d)) tt m h))
-        (choose Ok k nameKind (λ e. (o, keep (uses Note p) (e, refl) m h)) tt))))
+        (choose Ok k nameKind (λ e. (o, keep (uses Note p) (e, refl) m h)) tt)))))
 
     step-keeps : (s : List Sym) (m : M) → Outs s → P m → Ok (step M act s m k p)
     unfolding step
@@ -91,6 +103,8 @@ module _ (M : Type 0) (act : Act → M → M) (P : M → Type 0) where
     step-keeps (want x ∷ s) m o h = choose Ok k x (λ e. (o, h)) tt
     step-keeps (name-of r ∷ s) m o h = choose Ok k nameKind (λ e. (o, keep (declare r p) (e, refl) m h)) tt
     step-keeps (names-of r ∷ s) m o h = choose Ok k nameKind (λ e. (o, keep (declare r p) (e, refl) m h)) (step-keeps s m o h)
+    step-keeps (clause ∷ s) m o h = choose Ok k scaleKind (λ e. (o, h)) (step-keeps s m o h)
+    step-keeps (clause-number ∷ s) m o h = choose Ok k numberKind (λ e. (o, keep (out (head p)) tt _ (keep (sized OfClause p) (e, refl) m h))) tt
     step-keeps (ref-event e ∷ s) m o h = choose Ok k nameKind (λ q. (o, keep (uses Event p) (q, refl) m h)) tt
     step-keeps (ref-index e i ∷ s) m o h = choose Ok k numberKind (λ q. (o, keep (sized OfFactor p) (q, refl) m h)) (choose Ok k indexKind (λ q. (o, h)) tt)
     step-keeps (ref-shift e i f ∷ s) m o h =
@@ -122,6 +136,8 @@ module _ (M : Type 0) (act : Act → M → M) (P : M → Type 0) where
     finish-keeps (want x ∷ s) m o h = at-end
     finish-keeps (name-of r ∷ s) m o h = at-end
     finish-keeps (names-of r ∷ s) m o h = finish-keeps s m o h
+    finish-keeps (clause ∷ s) m o h = finish-keeps s m o h
+    finish-keeps (clause-number ∷ s) m o h = at-end
     finish-keeps (ref-event e ∷ s) m o h = at-end
     finish-keeps (ref-index e i ∷ s) m o h = at-end
     finish-keeps (ref-shift e i f ∷ s) m o h = finish-keeps s _ o (puts (ref e i f Unshifted) m h)

@@ -4,8 +4,8 @@ use mathlib.Core.List.{List, [], _∷_, _++_}
 use Prim.Native.Nat.{ℕ, _+_}
 use Rattle.rule.specs.declared.Token.{Token}
 use Rattle.rule.specs.Grammar.{Word, place, wordOf, words}
-use Rattle.rule.specs.Machine.{Act, Sym, unit, ands, ors, arrow, factor, muls, adds, rel, want, name-of, names-of, ref-event, ref-index, ref-shift, ref-by, doing, Next, stuck, on, MachineAnswer, accepted, refused, resume, step, finish, run}
-use Rattle.rule.proofs.GrammarDerivations.{Derives, done, does, relation, and-none, or-none, implies-none, add-none, mul-none, shift-none, name-none, some, Good, Fine, fine, Takes, complete}
+use Rattle.rule.specs.Machine.{Act, Sym, unit, ands, ors, arrow, factor, muls, adds, rel, want, name-of, names-of, clause, clause-number, ref-event, ref-index, ref-shift, ref-by, doing, Next, stuck, on, MachineAnswer, accepted, refused, resume, step, finish, run}
+use Rattle.rule.proofs.GrammarDerivations.{Derives, done, does, relation, and-none, or-none, implies-none, add-none, mul-none, shift-none, name-none, unscaled, some, Good, Fine, fine, Takes, complete}
 
 module _ (M : Type 0) (act : Act → M → M) where
   -- ---- at the end
@@ -34,6 +34,7 @@ module _ (M : Type 0) (act : Act → M → M) where
   gen-ends n (mul-none g) = gen-ends n g
   gen-ends n (shift-none g) = gen-ends n g
   gen-ends n (name-none g) = gen-ends n g
+  gen-ends n (unscaled g) = gen-ends n g
 
   abbrev Ends : ℕ → List Sym → M → MachineAnswer M → Type 0
   Ends n s m (accepted m′) = Derives M act s m [] m′
@@ -57,6 +58,8 @@ module _ (M : Type 0) (act : Act → M → M) where
   ends n (want x ∷ s) m = refl
   ends n (name-of r ∷ s) m = refl
   ends n (names-of r ∷ s) m = down n (names-of r ∷ s) s m m (finish M act n s m) (λ m′ g. name-none g) (ends n s m)
+  ends n (clause ∷ s) m = down n (clause ∷ s) s m m (finish M act n s m) (λ m′ g. unscaled g) (ends n s m)
+  ends n (clause-number ∷ s) m = refl
   ends n (ref-event e ∷ s) m = refl
   ends n (ref-index e i ∷ s) m = refl
   ends n (ref-shift e i f ∷ s) m = down n (ref-shift e i f ∷ s) s m _ (finish M act n s _) (λ m′ g. shift-none g) (ends n s _)

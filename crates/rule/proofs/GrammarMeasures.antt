@@ -13,7 +13,7 @@ use Rattle.rule.specs.declared.parts.Limit.{Limit}
 use Rattle.rule.specs.ReadLimits.{depthLimit}
 use Rattle.rule.specs.Grammar.{Rule, rule}
 use Rattle.rule.specs.Draft.{Draft}
-use Rattle.rule.specs.Items.{Item, enters, puts, itemsCond}
+use Rattle.rule.specs.Items.{Item, enters, puts, items}
 use Rattle.rule.specs.Measure.{deepest, depth, framesIn, frames, Named, declared, used, Sized, sized-by, flat, namesOf, numbersOf}
 use Rattle.rule.specs.Measure.{declares, names, numbers}
 use Rattle.rule.specs.Machine.{Act, declare, uses, sized, enter, out, deeper}
@@ -86,9 +86,9 @@ pub frames-items : (d : ℕ) (is : List Item) (l : List Draft) → readItems (Li
 frames-items d is l = noted note-frame own (λ k m. refl) adds-frame d is l ∙ ap (λ (m : List Draft). l ++ m) (flat-own (framesIn is))
 
 pub frames-read : (x : Rule) → readRule (List Draft) note-frame x [] ≡ frames x
-frames-read (rule e es n ns c) =
-    frames-items 0 (itemsCond c) _
-    ∙ ap (λ (l : List Draft). l ++ framesIn (itemsCond c)) (no-name-frame (declares Note (n ∷ ns)) _ ∙ no-name-frame (declares Event (e ∷ es)) [])
+frames-read (rule e es n ns k c) =
+    frames-items 0 (items (rule e es n ns k c)) _
+    ∙ ap (λ (l : List Draft). l ++ framesIn (items (rule e es n ns k c))) (no-name-frame (declares Note (n ∷ ns)) _ ∙ no-name-frame (declares Event (e ∷ es)) [])
 
 -- names
 names-listed : (ns l : List Named) → readEach (readName (List Named) note-name) ns l ≡ l ++ ns
@@ -100,9 +100,9 @@ adds-names : (f : Draft) (l : List Named) → readDraft (List Named) note-name f
 adds-names f l = idle-numbers note-name (λ b p m. refl) (numbersOf f) _ ∙ names-listed (namesOf f) l
 
 pub names-read : (x : Rule) → readRule (List Named) note-name x [] ≡ names x
-names-read (rule e es n ns c) =
-    noted note-name namesOf (λ k m. refl) adds-names 0 (itemsCond c) _
-    ∙ ap (λ (l : List Named). l ++ flat namesOf (framesIn (itemsCond c)))
+names-read (rule e es n ns k c) =
+    noted note-name namesOf (λ k m. refl) adds-names 0 (items (rule e es n ns k c)) _
+    ∙ ap (λ (l : List Named). l ++ flat namesOf (framesIn (items (rule e es n ns k c))))
     (names-listed (declares Note (n ∷ ns)) (readNames (List Named) note-name Event (e ∷ es) [])
     ∙ ap (λ (l : List Named). l ++ declares Note (n ∷ ns)) (names-listed (declares Event (e ∷ es)) []))
 
@@ -118,9 +118,9 @@ adds-numbers : (f : Draft) (l : List Sized) → readDraft (List Sized) note-numb
 adds-numbers f l = numbers-listed (numbersOf f) _ ∙ ap (λ (m : List Sized). m ++ numbersOf f) (no-name-number (namesOf f) l)
 
 pub numbers-read : (x : Rule) → readRule (List Sized) note-number x [] ≡ numbers x
-numbers-read (rule e es n ns c) =
-    noted note-number numbersOf (λ k m. refl) adds-numbers 0 (itemsCond c) _
-    ∙ ap (λ (l : List Sized). l ++ flat numbersOf (framesIn (itemsCond c))) (no-name-number (declares Note (n ∷ ns)) _ ∙ no-name-number (declares Event (e ∷ es)) [])
+numbers-read (rule e es n ns k c) =
+    noted note-number numbersOf (λ k m. refl) adds-numbers 0 (items (rule e es n ns k c)) _
+    ∙ ap (λ (l : List Sized). l ++ flat numbersOf (framesIn (items (rule e es n ns k c)))) (no-name-number (declares Note (n ∷ ns)) _ ∙ no-name-number (declares Event (e ∷ es)) [])
 
 -- ---- depth: the register stops at 17
 deeper-is : (d : ℕ) → d ≤ 17 → deeper d ≡ min 17 (d + 1)
@@ -156,5 +156,5 @@ depth-items (puts f ∷ is) t = rw (keeps-depth f t) (depth-items is t)
 
 -- the greatest depth entered, which stops at 17, is the tree's
 pub depth-read : (x : Rule) → readRule ℕ note-depth x 0 ≡ min 17 (depth x)
-depth-read (rule e es n ns c) =
-    rw (no-name-depth (declares Event (e ∷ es)) 0, no-name-depth (declares Note (n ∷ ns)) 0) (let q = depth-items (itemsCond c) 0 in omega arith)
+depth-read (rule e es n ns k c) =
+    rw (no-name-depth (declares Event (e ∷ es)) 0, no-name-depth (declares Note (n ∷ ns)) 0) (let q = depth-items (items (rule e es n ns k c)) 0 in omega arith)

@@ -2,7 +2,7 @@
 use mathlib.Core.Path.{_≡_, refl, ap, sym, subst, _∙_}
 use mathlib.Core.List.{List, [], _∷_, _++_, List·Memᴰ, List·Memᴰ·head, List·Memᴰ·tail}
 use mathlib.Core.Option.{Option, none, some}
-use Prim.Native.Nat.{ℕ}
+use Prim.Native.Nat.{ℕ, _+_, _*_, _≤_}
 use native.Mathlib.Omega.{arith}
 use Rattle.rule.specs.declared.Token.{Token}
 use Rattle.rule.specs.declared.parts.Place.{Place}
@@ -10,32 +10,32 @@ use Rattle.rule.specs.declared.parts.Role.{Role}
 use Rattle.rule.specs.declared.parts.Role.the-variants.{Event, Note}
 use Rattle.rule.specs.declared.parts.Sign.{Sign}
 use Rattle.rule.specs.declared.parts.Sign.the-variants.{Plus, Minus}
-use Rattle.rule.specs.declared.parts.Scale.the-variants.{Once, Times}
+use Rattle.rule.specs.declared.parts.Multiple.the-variants.{Once, Times}
 use Rattle.rule.specs.declared.parts.Shift.{Shift}
 use Rattle.rule.specs.declared.parts.Shift.the-variants.{Unshifted, By}
-use Rattle.rule.specs.Token.{indexKind, barsKind, ampersandsKind, arrowKind, absKind, notesKind, foreignKind}
+use Rattle.rule.specs.Token.{indexKind, barsKind, ampersandsKind, arrowKind, absKind, notesKind, foreignKind, scaleKind}
 use Rattle.rule.specs.Class.{openBracket, openParen, star, closeParen, bang, openBrace, closeBrace, closeBracket, semicolon}
-use Rattle.rule.specs.Grammar.{Word, mark, name, number, Rel, Index, index, Cond, a-disj, Disj, a-conj, or, Conj, a-unit, and, CUnit, Sum, a-prod, add, Prod, a-factor, multiply, Factor, Rule, rule, yield, relMark, signMark, spellShift, spellIndex, spellCond, spellDisj, spellConj, spellUnit, spellSum, spellProd, spellFactor, spellNames, place, wordOf, words}
+use Rattle.rule.specs.Grammar.{Word, mark, name, number, Rel, Index, index, Cond, a-disj, Disj, a-conj, or, Conj, a-unit, and, CUnit, Sum, a-prod, add, Prod, a-factor, multiply, Factor, Rule, rule, yield, relMark, signMark, spellShift, spellIndex, spellCond, spellDisj, spellConj, spellUnit, spellSum, spellProd, spellFactor, spellNames, spellClause, place, wordOf, words}
 use Rattle.rule.specs.Frames.{Arithmetic, Connective, Kind}
 use Rattle.rule.specs.Draft.{ref, relationOf, signOf}
-use Rattle.rule.specs.Measure.{scaleNumbers, shiftNumbers}
+use Rattle.rule.specs.Measure.{multipleNumbers, shiftNumbers}
 use Rattle.rule.specs.Items.{itemsCond, itemsDisj, itemsConj, itemsUnit, itemsSum, itemsProd, itemsFactor}
-use Rattle.rule.specs.Machine.{Act, out, Sym, unit, ands, ors, arrow, factor, muls, adds, rel, want, name-of, names-of, ref-event, ref-index, ref-shift, ref-by, doing, prod, sum, conj, condition, start}
+use Rattle.rule.specs.Machine.{Act, out, Sym, unit, ands, ors, arrow, factor, muls, adds, rel, want, name-of, names-of, clause, clause-number, ref-event, ref-index, ref-shift, ref-by, doing, prod, sum, conj, condition, start}
 use Rattle.rule.proofs.GrammarWalk.{readEach, readNumber, readItems, readNames, readRule, read-in, read-two, read-one-in, read-two-in}
 use Rattle.rule.specs.Grammar
 use Rattle.rule.proofs.FrameDrafts.{All}
-use Rattle.rule.proofs.GrammarDerivations.{Derives, done, token, does, not, group, relation, compare, and-more, and-none, or-more, or-none, implies, implies-none, add-more, add-none, mul-more, mul-none, literal, var, parens, absolute, reference, event, scaled, unscaled, shifted, shift-none, by-number, named, name-more, name-none}
+use Rattle.rule.proofs.GrammarDerivations.{Derives, done, token, does, not, group, relation, compare, and-more, and-none, or-more, or-none, implies, implies-none, add-more, add-none, mul-more, mul-none, literal, decimal, var, parens, absolute, reference, event, multiplied, unmultiplied, shifted, shift-none, by-number, named, name-more, name-none, scaled, unscaled, scale-number}
 
 module _ (M : Type 0) (act : Act → M → M) where
   abbrev readIndex : Place → Place → Index → M → M
-  readIndex n e (index f o) m = act (out (ref n e f o)) (readEach (readNumber M act) (scaleNumbers f ++ shiftNumbers o) m)
+  readIndex n e (index f o) m = act (out (ref n e f o)) (readEach (readNumber M act) (multipleNumbers f ++ shiftNumbers o) m)
 
   -- ---- each tree has a derivation
   derivesIndex : (x : Index) {n e : Place} {s : List Sym} {m m′ : M} {ws : List Word} → Derives M act s (readIndex n e x m) ws m′ → Derives M act (ref-index n e ∷ s) m (spellIndex x ws) m′
-  derivesIndex (index Once Unshifted) g = unscaled (shift-none g)
-  derivesIndex (index Once (By q p)) g = unscaled (shifted q (by-number p g))
-  derivesIndex (index (Times f) Unshifted) g = scaled f (token (token (shift-none g)))
-  derivesIndex (index (Times f) (By q p)) g = scaled f (token (token (shifted q (by-number p g))))
+  derivesIndex (index Once Unshifted) g = unmultiplied (shift-none g)
+  derivesIndex (index Once (By q p)) g = unmultiplied (shifted q (by-number p g))
+  derivesIndex (index (Times f) Unshifted) g = multiplied f (token (token (shift-none g)))
+  derivesIndex (index (Times f) (By q p)) g = multiplied f (token (token (shifted q (by-number p g))))
 
   -- a derivation from the same memory
   from : {s : List Sym} {m n m′ : M} {ws : List Word} → n ≡ m → Derives M act s n ws m′ → Derives M act s m ws m′
@@ -69,6 +69,7 @@ module _ (M : Type 0) (act : Act → M → M) where
 
     derivesFactor : (x : Factor) {d : ℕ} {s : List Sym} {m m′ : M} {ws : List Word} → Derives M act s (readItems M act d (itemsFactor x) m) ws m′ → Derives M act (factor d ∷ s) m (spellFactor x ws) m′
     derivesFactor (Grammar.literal p) g = literal p g
+    derivesFactor (Factor.decimal p) g = decimal p g
     derivesFactor Grammar.var g = var g
     derivesFactor (Grammar.parens x) {d} {m = m} g = parens (derivesSum x (add-none (token (from (read-in M act d (itemsSum x) m) g))))
     derivesFactor (Grammar.absolute x) {d} {m = m} g = absolute (token (derivesSum x (add-none (token (does (from (read-one-in M act d (itemsSum x) Kind.absolute m) g))))))
@@ -79,7 +80,8 @@ module _ (M : Type 0) (act : Act → M → M) where
   derivesNames r (p ∷ ps) g = name-more p (derivesNames r ps g)
 
   pub derivesRule : (x : Rule) {m : M} → Derives M act start m (yield x) (readRule M act x m)
-  derivesRule (rule e es n ns c) = token (named e (derivesNames Event es (token (token (named n (derivesNames Note ns (token (derivesCond c done))))))))
+  derivesRule (rule e es n ns none c) = token (named e (derivesNames Event es (token (token (named n (derivesNames Note ns (token (unscaled (derivesCond c done)))))))))
+  derivesRule (rule e es n ns (some k) c) = token (named e (derivesNames Event es (token (token (named n (derivesNames Note ns (token (scaled (scale-number k (token (derivesCond c done)))))))))))
 
 -- ---- a repeat read to the right, grouped to the left
 abbrev conj-of : Conj → List CUnit → Conj
@@ -173,6 +175,8 @@ Tree-of (rel d) = Rel × Sum
 Tree-of (want k) = Unit
 Tree-of (name-of r) = Place
 Tree-of (names-of r) = List Place
+Tree-of clause = Option Place
+Tree-of clause-number = Place
 Tree-of (ref-event n) = Place × Index
 Tree-of (ref-index n e) = Index
 Tree-of (ref-shift n e f) = Shift
@@ -195,6 +199,8 @@ spellSym (rel d) t r = mark (relMark (t .0)) ∷ spellSum (t .1) r
 spellSym (want k) t r = mark k ∷ r
 spellSym (name-of x) t r = name t ∷ r
 spellSym (names-of x) t r = spellNames t r
+spellSym clause t r = spellClause t r
+spellSym clause-number t r = number t ∷ r
 spellSym (ref-event n) t r = name (t .0) ∷ mark openBracket ∷ spellIndex (t .1) (mark closeBracket ∷ mark closeParen ∷ r)
 spellSym (ref-index n e) t r = spellIndex t r
 spellSym (ref-shift n e f) t r = spellShift t r
@@ -234,19 +240,23 @@ module _ (M : Type 0) (act : Act → M → M) where
   made (mul-more g) = lift (made g) (λ r. mark star ∷ r) (λ f. (f .0 ∷ f .1 .1 .0, f .1 .1 .1)) (λ f. refl)
   made (mul-none g) = lift (made g) (λ r. r) (λ f. ([], f)) (λ f. refl)
   made (literal p g) = lift (made g) (λ r. number p ∷ r) (λ f. (Grammar.literal p, f)) (λ f. refl)
+  made (decimal p g) = lift (made g) (λ r. Word.decimal p ∷ r) (λ f. (Factor.decimal p, f)) (λ f. refl)
   made (var g) = lift (made g) (λ r. mark indexKind ∷ r) (λ f. (Grammar.var, f)) (λ f. refl)
   made (parens g) = lift (made g) (λ r. mark openParen ∷ r) (λ f. (Grammar.parens (whole-sum (f .0) (f .1 .0) (f .1 .1 .0)), f .1 .1 .1 .1)) (λ f. rw (spell-whole-sum (f .0) (f .1 .0) (f .1 .1 .0) _))
   made (absolute g) = lift (made g) (λ r. mark absKind ∷ r) (λ f. (Grammar.absolute (whole-sum (f .1 .0) (f .1 .1 .0) (f .1 .1 .1 .0)), f .1 .1 .1 .1 .1 .1)) (λ f. rw (spell-whole-sum (f .1 .0) (f .1 .1 .0) (f .1 .1 .1 .0) _))
   made (reference p g) = lift (made g) (λ r. name p ∷ r) (λ f. (Grammar.reference p (f .1 .0 .0) (f .1 .0 .1), f .1 .1)) (λ f. refl)
   made (event p g) = lift (made g) (λ r. name p ∷ r) (λ f. ((p, f .1 .0), f .1 .1 .1 .1)) (λ f. refl)
-  made (scaled p g) = lift (made g) (λ r. number p ∷ r) (λ f. (index (Times p) (f .1 .1 .0), f .1 .1 .1)) (λ f. refl)
-  made (unscaled g) = lift (made g) (λ r. mark indexKind ∷ r) (λ f. (index Once (f .0), f .1)) (λ f. refl)
+  made (multiplied p g) = lift (made g) (λ r. number p ∷ r) (λ f. (index (Times p) (f .1 .1 .0), f .1 .1 .1)) (λ f. refl)
+  made (unmultiplied g) = lift (made g) (λ r. mark indexKind ∷ r) (λ f. (index Once (f .0), f .1)) (λ f. refl)
   made (shifted q g) = lift (made g) (λ r. mark (signMark q) ∷ r) (λ f. (By q (f .0), f .1)) (λ f. refl)
   made (shift-none g) = lift (made g) (λ r. r) (λ f. (Unshifted, f)) (λ f. refl)
   made (by-number p g) = lift (made g) (λ r. number p ∷ r) (λ f. (p, f)) (λ f. refl)
   made (named p g) = lift (made g) (λ r. name p ∷ r) (λ f. (p, f)) (λ f. refl)
   made (name-more p g) = lift (made g) (λ r. name p ∷ r) (λ f. (p ∷ f .0, f .1)) (λ f. refl)
   made (name-none g) = lift (made g) (λ r. r) (λ f. ([], f)) (λ f. refl)
+  made (scaled g) = lift (made g) (λ r. mark scaleKind ∷ r) (λ f. (some (f .0), f .1 .1)) (λ f. refl)
+  made (unscaled g) = lift (made g) (λ r. r) (λ f. (none, f)) (λ f. refl)
+  made (scale-number p g) = lift (made g) (λ r. number p ∷ r) (λ f. (p, f)) (λ f. refl)
 
   -- a derivation of a whole rule comes from a tree
   pub ruled : {m m′ : M} {ws : List Word} → Derives M act start m ws m′ → (x : Rule) × (yield x ≡ ws)
@@ -256,90 +266,115 @@ module _ (M : Type 0) (act : Act → M → M) where
       go q =
           let f = q .trees in
           let h = f .1 .1 .1 .1 in
-          let c = h .1 .1 .1 .1 in
-          (rule (f .1 .0) (f .1 .1 .0) (h .1 .0) (h .1 .1 .0) (whole-cond (c .0) (c .1 .0) (c .1 .1 .0) (c .1 .1 .1 .0)), rw (spell-whole-cond (c .0) (c .1 .0) (c .1 .1 .0) (c .1 .1 .1 .0) []) (sym (q .spelled)))
+          let k = h .1 .1 .1 .1 in
+          let c = k .1 in
+          (rule (f .1 .0) (f .1 .1 .0) (h .1 .0) (h .1 .1 .0) (k .0) (whole-cond (c .0) (c .1 .0) (c .1 .1 .0) (c .1 .1 .1 .0)), rw (spell-whole-cond (c .0) (c .1 .0) (c .1 .1 .0) (c .1 .1 .1 .0) []) (sym (q .spelled)))
 
--- ---- no word of a tree is a token that no rule has
-abbrev Had : Word → Type 0
-Had (mark k) = k ≡ foreignKind → ⊥
-Had (name p) = Unit {0}
-Had (number p) = Unit {0}
+-- ---- no word of a tree is a token that no rule has; and none is the clause's word, where the clause is absent
+-- z is 0 for the clause's word, 1 for a token that no rule has
+module _ (z : ℕ) (two : z ≤ 1) where
+  abbrev none-of : ℕ
+  none-of = scaleKind + 247 * z
 
-rel-had : (c : Rel) → Had (mark (relMark c))
-rel-had Grammar.equal e = omega arith
-rel-had Grammar.unequal e = omega arith
-rel-had Grammar.less e = omega arith
-rel-had Grammar.at-most e = omega arith
-rel-had Grammar.more e = omega arith
-rel-had Grammar.at-least e = omega arith
+  abbrev Had : Word → Type 0
+  Had (mark k) = k ≡ none-of → ⊥
+  Had (name p) = Unit {0}
+  Had (number p) = Unit {0}
+  Had (Word.decimal p) = Unit {0}
 
-sign-had : (g : Sign) → Had (mark (signMark g))
-sign-had Plus e = omega arith
-sign-had Minus e = omega arith
+  rel-had : (c : Rel) → Had (mark (relMark c))
+  rel-had Grammar.equal e = omega (arith, two)
+  rel-had Grammar.unequal e = omega (arith, two)
+  rel-had Grammar.less e = omega (arith, two)
+  rel-had Grammar.at-most e = omega (arith, two)
+  rel-had Grammar.more e = omega (arith, two)
+  rel-had Grammar.at-least e = omega (arith, two)
 
-hadShift : (o : Shift) (r : List Word) → All Had r → All Had (spellShift o r)
-hadShift Unshifted r h = h
-hadShift (By g p) r h = (sign-had g, (tt, h))
+  sign-had : (g : Sign) → Had (mark (signMark g))
+  sign-had Plus e = omega (arith, two)
+  sign-had Minus e = omega (arith, two)
 
-hadIndex : (x : Index) (r : List Word) → All Had r → All Had (spellIndex x r)
-hadIndex (index Once o) r h = ((λ e. omega arith), hadShift o r h)
-hadIndex (index (Times p) o) r h = (tt, ((λ e. omega arith), ((λ e. omega arith), hadShift o r h)))
+  hadShift : (o : Shift) (r : List Word) → All Had r → All Had (spellShift o r)
+  hadShift Unshifted r h = h
+  hadShift (By g p) r h = (sign-had g, (tt, h))
 
-mutual
-  hadCond : (x : Cond) (r : List Word) → All Had r → All Had (spellCond x r)
-  hadCond (a-disj x) r h = hadDisj x r h
-  hadCond (Grammar.implies x y) r h = hadDisj x (mark arrowKind ∷ spellCond y r) ((λ e. omega arith), hadCond y r h)
+  hadIndex : (x : Index) (r : List Word) → All Had r → All Had (spellIndex x r)
+  hadIndex (index Once o) r h = ((λ e. omega (arith, two)), hadShift o r h)
+  hadIndex (index (Times p) o) r h = (tt, ((λ e. omega (arith, two)), ((λ e. omega (arith, two)), hadShift o r h)))
 
-  hadDisj : (x : Disj) (r : List Word) → All Had r → All Had (spellDisj x r)
-  hadDisj (a-conj x) r h = hadConj x r h
-  hadDisj (or x y) r h = hadDisj x (mark barsKind ∷ spellConj y r) ((λ e. omega arith), hadConj y r h)
+  mutual
+    hadCond : (x : Cond) (r : List Word) → All Had r → All Had (spellCond x r)
+    hadCond (a-disj x) r h = hadDisj x r h
+    hadCond (Grammar.implies x y) r h = hadDisj x (mark arrowKind ∷ spellCond y r) ((λ e. omega (arith, two)), hadCond y r h)
 
-  hadConj : (x : Conj) (r : List Word) → All Had r → All Had (spellConj x r)
-  hadConj (a-unit x) r h = hadUnit x r h
-  hadConj (and x y) r h = hadConj x (mark ampersandsKind ∷ spellUnit y r) ((λ e. omega arith), hadUnit y r h)
+    hadDisj : (x : Disj) (r : List Word) → All Had r → All Had (spellDisj x r)
+    hadDisj (a-conj x) r h = hadConj x r h
+    hadDisj (or x y) r h = hadDisj x (mark barsKind ∷ spellConj y r) ((λ e. omega (arith, two)), hadConj y r h)
 
-  hadUnit : (x : CUnit) (r : List Word) → All Had r → All Had (spellUnit x r)
-  hadUnit (Grammar.not x) r h = ((λ e. omega arith), hadUnit x r h)
-  hadUnit (Grammar.group x) r h = ((λ e. omega arith), hadCond x (mark closeBrace ∷ r) ((λ e. omega arith), h))
-  hadUnit (Grammar.relation x c y) r h = hadSum x (mark (relMark c) ∷ spellSum y r) (rel-had c, hadSum y r h)
+    hadConj : (x : Conj) (r : List Word) → All Had r → All Had (spellConj x r)
+    hadConj (a-unit x) r h = hadUnit x r h
+    hadConj (and x y) r h = hadConj x (mark ampersandsKind ∷ spellUnit y r) ((λ e. omega (arith, two)), hadUnit y r h)
 
-  hadSum : (x : Sum) (r : List Word) → All Had r → All Had (spellSum x r)
-  hadSum (a-prod x) r h = hadProd x r h
-  hadSum (add x g y) r h = hadSum x (mark (signMark g) ∷ spellProd y r) (sign-had g, hadProd y r h)
+    hadUnit : (x : CUnit) (r : List Word) → All Had r → All Had (spellUnit x r)
+    hadUnit (Grammar.not x) r h = ((λ e. omega (arith, two)), hadUnit x r h)
+    hadUnit (Grammar.group x) r h = ((λ e. omega (arith, two)), hadCond x (mark closeBrace ∷ r) ((λ e. omega (arith, two)), h))
+    hadUnit (Grammar.relation x c y) r h = hadSum x (mark (relMark c) ∷ spellSum y r) (rel-had c, hadSum y r h)
 
-  hadProd : (x : Prod) (r : List Word) → All Had r → All Had (spellProd x r)
-  hadProd (a-factor x) r h = hadFactor x r h
-  hadProd (multiply x y) r h = hadProd x (mark star ∷ spellFactor y r) ((λ e. omega arith), hadFactor y r h)
+    hadSum : (x : Sum) (r : List Word) → All Had r → All Had (spellSum x r)
+    hadSum (a-prod x) r h = hadProd x r h
+    hadSum (add x g y) r h = hadSum x (mark (signMark g) ∷ spellProd y r) (sign-had g, hadProd y r h)
 
-  hadFactor : (x : Factor) (r : List Word) → All Had r → All Had (spellFactor x r)
-  hadFactor (Grammar.literal p) r h = (tt, h)
-  hadFactor Grammar.var r h = ((λ e. omega arith), h)
-  hadFactor (Grammar.parens x) r h = ((λ e. omega arith), hadSum x (mark closeParen ∷ r) ((λ e. omega arith), h))
-  hadFactor (Grammar.absolute x) r h =
-      ((λ e. omega arith), ((λ e. omega arith), hadSum x (mark closeParen ∷ r) ((λ e. omega arith), h)))
-  hadFactor (Grammar.reference n e x) r h =
-      (tt, ((λ e. omega arith), (tt, ((λ e. omega arith), hadIndex x (mark closeBracket ∷ mark closeParen ∷ r) ((λ e. omega arith), ((λ e. omega arith), h))))))
+    hadProd : (x : Prod) (r : List Word) → All Had r → All Had (spellProd x r)
+    hadProd (a-factor x) r h = hadFactor x r h
+    hadProd (multiply x y) r h = hadProd x (mark star ∷ spellFactor y r) ((λ e. omega (arith, two)), hadFactor y r h)
 
-hadNames : (ps : List Place) (r : List Word) → All Had r → All Had (spellNames ps r)
-hadNames [] r h = h
-hadNames (p ∷ ps) r h = (tt, hadNames ps r h)
+    hadFactor : (x : Factor) (r : List Word) → All Had r → All Had (spellFactor x r)
+    hadFactor (Grammar.literal p) r h = (tt, h)
+    hadFactor (Factor.decimal p) r h = (tt, h)
+    hadFactor Grammar.var r h = ((λ e. omega (arith, two)), h)
+    hadFactor (Grammar.parens x) r h = ((λ e. omega (arith, two)), hadSum x (mark closeParen ∷ r) ((λ e. omega (arith, two)), h))
+    hadFactor (Grammar.absolute x) r h =
+        ((λ e. omega (arith, two)), ((λ e. omega (arith, two)), hadSum x (mark closeParen ∷ r) ((λ e. omega (arith, two)), h)))
+    hadFactor (Grammar.reference n e x) r h =
+        (tt, ((λ e. omega (arith, two)), (tt, ((λ e. omega (arith, two)), hadIndex x (mark closeBracket ∷ mark closeParen ∷ r) ((λ e. omega (arith, two)), ((λ e. omega (arith, two)), h))))))
 
-hadRule : (x : Rule) → All Had (yield x)
-hadRule (rule e es n ns c) = (
-  (λ e. omega arith),
-  (
-    tt,
-    hadNames es (mark semicolon ∷ mark notesKind ∷ name n ∷ spellNames ns (mark semicolon ∷ spellCond c []))
-        ((λ e. omega arith), ((λ e. omega arith), (tt, hadNames ns (mark semicolon ∷ spellCond c []) ((λ e. omega arith), hadCond c [] tt)))),
-  ),
-)
+  hadNames : (ps : List Place) (r : List Word) → All Had r → All Had (spellNames ps r)
+  hadNames [] r h = h
+  hadNames (p ∷ ps) r h = (tt, hadNames ps r h)
+
+  hadRule : (e : Place) (es : List Place) (n : Place) (ns : List Place) (k : Option Place) (c : Cond)
+      → All Had (spellClause k (spellCond c [])) → All Had (yield (rule e es n ns k c))
+  hadRule e es n ns k c h = (
+    (λ e. omega (arith, two)),
+    (
+      tt,
+      hadNames es (mark semicolon ∷ mark notesKind ∷ name n ∷ spellNames ns (mark semicolon ∷ spellClause k (spellCond c [])))
+          ((λ e. omega (arith, two)), ((λ e. omega (arith, two)), (tt, hadNames ns (mark semicolon ∷ spellClause k (spellCond c [])) ((λ e. omega (arith, two)), h)))),
+    ),
+  )
+
+  -- among the tokens whose words have none, none is such
+  absent : ((p : Place) → wordOf none-of p ≡ mark none-of) → (ts : List Token) (ws : List Word) (t : Token) → List·Memᴰ t ts → t .kind ≡ none-of → All Had (words ts ++ ws) → ⊥
+  absent f (u ∷ us) ws t (List·Memᴰ·head i) k h =
+      let q : u .kind ≡ none-of = ap (λ (v : Token). v .kind) (sym i) ∙ k in
+      subst Had (ap (λ (n : ℕ). wordOf n (place u)) q ∙ f (place u)) (h .0) refl
+  absent f (u ∷ us) ws t (List·Memᴰ·tail j) k h = absent f us ws t j k (h .1)
+
+foreign-had : (x : Rule) → All (Had 1 (omega arith)) (yield x)
+foreign-had (rule e es n ns none c) = hadRule 1 (omega arith) e es n ns none c (hadCond 1 (omega arith) c [] tt)
+foreign-had (rule e es n ns (some p) c) =
+    hadRule 1 (omega arith) e es n ns (some p) c ((λ e. omega arith), (tt, ((λ e. omega arith), hadCond 1 (omega arith) c [] tt)))
 
 -- no rule begins with tokens of which one is such
 pub no-rule-has : (x : Rule) (ts : List Token) (ws : List Word) (t : Token) → List·Memᴰ t ts → t .kind ≡ foreignKind → yield x ≡ words ts ++ ws → ⊥
-no-rule-has x ts ws t i k e = go ts i (subst (All Had) e (hadRule x))
-  where
-    go : (us : List Token) → List·Memᴰ t us → All Had (words us ++ ws) → ⊥
-    go (u ∷ us) (List·Memᴰ·head f) h =
-        let q : u .kind ≡ foreignKind = ap (λ (v : Token). v .kind) (sym f) ∙ k in
-        subst (λ (n : ℕ). Had (wordOf n (place u))) q (h .0) refl
-    go (u ∷ us) (List·Memᴰ·tail j) h = go us j (h .1)
+no-rule-has x ts ws t i k e = absent 1 (omega arith) (λ p. refl) ts ws t i k (subst (All (Had 1 (omega arith))) e (foreign-had x))
+
+-- a rule without the clause has no token that is the clause's word
+pub no-clause-has : (e : Place) (es : List Place) (n : Place) (ns : List Place) (c : Cond) (ts : List Token) (ws : List Word) (t : Token)
+    → List·Memᴰ t ts → t .kind ≡ scaleKind → yield (rule e es n ns none c) ≡ words ts ++ ws → ⊥
+no-clause-has e es n ns c ts ws t i k q =
+    absent 0 (omega arith) (λ p. refl) ts ws t i k (subst (All (Had 0 (omega arith))) q (hadRule 0 (omega arith) e es n ns none c (hadCond 0 (omega arith) c [] tt)))
+
+-- a condition does not begin with it
+pub not-clause : (c : Cond) (r : List Word) → spellCond c [] ≡ mark scaleKind ∷ r → ⊥
+not-clause c r e = subst (All (Had 0 (omega arith))) e (hadCond 0 (omega arith) c [] tt) .0 refl

@@ -8,7 +8,7 @@ use Rattle.rule.specs.declared.parts.Role.the-variants.{Event, Note}
 use Rattle.rule.specs.Frames.{Kind}
 use Rattle.rule.specs.Grammar.{Rule, rule}
 use Rattle.rule.specs.Draft.{Draft, alone}
-use Rattle.rule.specs.Items.{Item, enters, puts, deepened, inside, operates, itemsCond}
+use Rattle.rule.specs.Items.{Item, enters, puts, deepened, inside, operates, items}
 use Rattle.rule.specs.Measure.{Named, declared, used, Sized, sized-by, namesOf, numbersOf, declares}
 use Rattle.rule.specs.Machine.{Act, declare, uses, sized, enter, out, deeper}
 
@@ -44,7 +44,7 @@ module _ (M : Type 0) (act : Act → M → M) where
   readNames r ps m = readEach readName (declares r ps) m
 
   abbrev pub readRule : Rule → M → M
-  readRule (rule e es n ns c) m = readItems 0 (itemsCond c) (readNames Note (n ∷ ns) (readNames Event (e ∷ es) m))
+  readRule (rule e es n ns k c) m = readItems 0 (items (rule e es n ns k c)) (readNames Note (n ∷ ns) (readNames Event (e ∷ es) m))
 
   -- items and then others
   read-append : (d : ℕ) (a b : List Item) (m : M) → readItems d (a ++ b) m ≡ readItems d b (readItems d a m)

@@ -1,6 +1,7 @@
 -- Laws by what they show, in a reader's order; Main has the headline statements, Laws what other crates may cite.
 -- Tokens: runs of bytes, words, marks, names and numbers, the tokens of a text.
 mod TokenSpans
+mod TokenFractions
 mod TokenWords
 mod TokenMarks
 mod TokenNext
@@ -9,6 +10,8 @@ mod TokenDecimals
 mod TokenLists
 mod TokenRuns
 mod TokenMatches
+mod TokenModes
+mod TokenClause
 mod TokenExamples
 -- The grammar: what reading a tree does, derivations, and the machine that takes exactly what trees spell.
 mod GrammarWalk
@@ -24,6 +27,7 @@ mod SpellTokens
 mod SpellCodes
 mod SpellNames
 mod SpellNumbers
+mod SpellDecimals
 mod SpellMeaning
 mod SpellTurn
 mod SpellTrees
@@ -41,6 +45,7 @@ mod ReaderEnd
 mod ReaderConclusion
 -- Frames and trees: kinds, stacks, the passes of 9, 10 and 8, frames as a tree and back, what a tree's frames are.
 mod FrameKinds
+mod FramePowers
 mod FrameStack
 mod FrameOrder
 mod FrameMagnitudes
@@ -50,6 +55,7 @@ mod FrameLists
 mod FrameParsing
 mod FrameRules
 mod FramePlaces
+mod FrameHeads
 mod FrameBytePlaces
 mod FrameReferences
 mod FrameSizes

@@ -15,10 +15,10 @@ use Rattle.rule.specs.Measure.{frames}
 use Rattle.rule.specs.Meaning.{meaning}
 use Rattle.rule.specs.Reading.{readOf}
 use Rattle.rule.proofs.ReaderFrames.{treeBytes}
-use Rattle.rule.specs.Answers.{ReadAs, Answered, refused-1, refused-2, refused-3, refused-4, refused-5, refused-6, refused-7, refused-8, accepted}
+use Rattle.rule.specs.Answers.{ReadAs, Answered, refused-1, refused-2, refused-3, refused-4, refused-5, refused-18, refused-6, refused-7, refused-8, accepted}
 use Rattle.rule.specs.ReadTold.{ReadAnswer}
 use Rattle.rule.specs.ReadTold as reading
-use Rattle.rule.proofs.FrameRules.{rule-bytes, tree-of}
+use Rattle.rule.proofs.FrameHeads.{rule-bytes, tree-of}
 use Rattle.rule.proofs.FrameTrees.{meaning-count, meaning-limits, tree-bytes, tree-taken}
 use Rattle.rule.proofs.ReadFrames.{tree-read}
 use Rattle.rule.proofs.ReadAnswers.{answered}
@@ -38,7 +38,8 @@ module _ (text b : List ℕ) (n : ℕ) (s : List ℕ) where
   from-answer a (refused-3 h z w) e = absurd (no-frames e)
   from-answer a (refused-4 h z f) e = absurd (no-frames e)
   from-answer a (refused-5 h z f g) e = absurd (no-frames e)
-  from-answer a (refused-6 h z f g o) e = absurd (no-frames e)
+  from-answer a (refused-18 h z f g i) e = absurd (no-frames e)
+  from-answer a (refused-6 h z f g i o) e = absurd (no-frames e)
   from-answer a (refused-7 h w r) e = absurd (no-frames e)
   from-answer a (refused-8 h w r o) e = absurd (no-frames e)
   from-answer a (accepted {n = m} {s = t} h r) e =

@@ -7,11 +7,11 @@ use Prim.Native.String.{String, [] as nil, _∷_ as cons}
 use lib.ListN.{replicate}
 use Rattle.rule.specs.Limits.{bufferBytes}
 use Rattle.rule.specs.Class.{classOf, span}
-use Rattle.rule.specs.Token.{same, wordKind, longestMark, markWidth, widthOf, tokenHere, tokenAt, tokensIn, tokensFrom}
+use Rattle.rule.specs.Token.{same, wordKind, longestMark, markWidth, fraction, widthOf, tokenHere, tokenAt, clauseAt, tokensIn, tokensFrom}
 use Rattle.rule.specs.Token.{tokenKind}
 use Rattle.rule.specs.Name.{code, nameCode}
 use Rattle.rule.specs.Number.{numberValue}
-use Rattle.rule.specs.Spelling.{decimalFrom, decimal}
+use Rattle.rule.specs.Spelling.{decimalFrom, decimal, decimals}
 use Rattle.rule.specs.Machine.{deeper, startFactor, step, finish, run}
 use Rattle.rule.specs.Memory.{position, negated, put, acts}
 use Rattle.rule.specs.References.{referenceCount}
@@ -162,24 +162,86 @@ others =
     ∷ gives (over-a "t(a[i])*t(a[i])+1 < 1") (refused 8 0)
     ∷ []
 
+-- the same with a scale; the condition begins at 28
+abbrev scaled : String → List ℕ
+scaled s = over-a "scale 1; " ++ bytes s
+
+-- the allowance of 12.5
+abbrev pub allowanceText : String
+allowanceText = "events in out; notes w; scale 1; w(out[i]) - w(in[i]) <= 12.5"
+
+-- a scale of 6 and of 7, "by its value"; 6 and 7 decimals in a literal, zeros too; its "digits without the point keep the old limit"
+abbrev scales : List Example
+scales =
+    gives (bytes allowanceText) (frames 6)
+    ∷ gives (over-a "scale 0; t(a[i]) > 0") (frames 4)
+    ∷ gives (over-a "scale 6; t(a[i]) > 0") (frames 4)
+    ∷ gives (over-a "scale 7; t(a[i]) > 0") (refused 18 25)
+    ∷ gives (over-a "scale 0006; t(a[i]) > 0") (frames 4)
+    ∷ gives (over-a "scale 0007; t(a[i]) > 0") (refused 18 25)
+    ∷ gives (over-a "scale 99999999999; t(a[i]) > 0") (refused 18 25)
+    ∷ gives (scaled "t(a[i]) < 1.123456") (frames 4)
+    ∷ gives (scaled "t(a[i]) < 1.1234567") (refused 18 38)
+    ∷ gives (scaled "t(a[i]) < 1.0000000") (refused 18 38)
+    ∷ gives (scaled "t(a[i]) < 214748364.7") (frames 4)
+    ∷ gives (scaled "t(a[i]) < 214748364.8") (refused 5 38)
+    -- 18 comes after 5, and before 6 and 7; the first of two
+    ∷ gives (over-a "scale 7; t(b[i]) > 0") (refused 4 30)
+    ∷ gives (over-a "scale 7; t(a[i]) < 2147483648") (refused 5 38)
+    ∷ gives (over-a "scale 7; t(a[i]) < 1.1234567") (refused 18 25)
+    ∷ gives (over-a "scale 7; " ++ (times 17 "!" ++ bytes "t(a[i]) > 0")) (refused 18 25)
+    ∷ gives (over-a "scale 7; 0 = 0") (refused 18 25)
+    -- the head counts among the 64
+    ∷ gives (scaled "t(a[i])" ++ (times 30 "+1" ++ bytes " > 0")) (frames 64)
+    ∷ gives (scaled "!t(a[i])" ++ (times 30 "+1" ++ bytes " > 0")) (refused 6 0)
+    ∷ []
+
+-- "The word is the clause only before a number, and stays a name elsewhere"; "any other point is foreign"
+abbrev points : List Example
+points =
+    gives (bytes "events a; notes scale; scale(a[i]) > 0") (frames 3)
+    ∷ gives (bytes "events a; notes scale; scale 2; scale(a[i]) > 0.5") (frames 4)
+    ∷ gives (bytes "events scale; notes t; t(scale[i]) > 0") (frames 3)
+    ∷ gives (over-a "scale") (refused 3 24)
+    ∷ gives (over-a "scale x") (refused 3 25)
+    ∷ gives (over-a "scale; t(a[i]) > 0") (refused 3 24)
+    ∷ gives (bytes "events scale 5") (refused 3 13)
+    ∷ gives (over-a "scale 2.5; t(a[i]) > 0") (refused 3 26)
+    ∷ gives (over-a "t(a[i]) > 1.5") (refused 3 30)
+    ∷ gives (scaled "t(a[i]) > 1.5") (frames 4)
+    ∷ gives (scaled "t(a[i]) > 1.") (refused 3 39)
+    ∷ gives (scaled "t(a[i]) > .5") (refused 3 38)
+    ∷ gives (scaled "t(a[i]) > 1 .5") (refused 3 40)
+    ∷ gives (scaled "t(a[i]) > 1.2.3") (refused 3 41)
+    ∷ gives (scaled "t(a[2.0*i]) > 0") (refused 3 32)
+    ∷ gives (scaled "t(a[i+2.0]) > 0") (refused 3 34)
+    ∷ []
+
 abbrev table : List Example
-table = kinds ++ (lengths ++ (grammar ++ (names ++ (numbers ++ (depths ++ (counts ++ others))))))
+table = kinds ++ (lengths ++ (grammar ++ (names ++ (numbers ++ (depths ++ (counts ++ (others ++ (scales ++ points))))))))
 
 abbrev zeros : List ℕ
 zeros = replicate bufferBytes 0
 
 texts-read : map (λ x. readOf (x .text) zeros .0) table ≡ map (λ x. x .answer) table
-unfolding classOf span same wordKind longestMark markWidth tokenKind widthOf tokenHere tokenAt tokensIn tokensFrom code nameCode decimalFrom decimal numberValue startFactor step finish run deeper position negated put acts judged readOf checkedOf orderOf referenceCount sizesFit frameKind
+unfolding classOf span same wordKind longestMark markWidth fraction tokenKind widthOf tokenHere tokenAt clauseAt tokensIn tokensFrom code nameCode decimalFrom decimal decimals numberValue startFactor step finish run deeper position negated put acts judged readOf checkedOf orderOf referenceCount sizesFit frameKind
 texts-read = refl
 
 -- 1: 512 bytes, whatever the text
 buffers-tested : map (λ n. readOf (over-a "t(a[i]) < 1") (replicate n 7) .0) (0 ∷ 511 ∷ 512 ∷ 513 ∷ []) ≡ refused 1 0 ∷ refused 1 0 ∷ frames 3 ∷ refused 1 0 ∷ []
-unfolding classOf span same wordKind longestMark markWidth tokenKind widthOf tokenHere tokenAt tokensIn tokensFrom code nameCode decimalFrom decimal numberValue startFactor step finish run deeper position negated put acts judged readOf checkedOf orderOf referenceCount sizesFit frameKind
+unfolding classOf span same wordKind longestMark markWidth fraction tokenKind widthOf tokenHere tokenAt clauseAt tokensIn tokensFrom code nameCode decimalFrom decimal decimals numberValue startFactor step finish run deeper position negated put acts judged readOf checkedOf orderOf referenceCount sizesFit frameKind
 buffers-tested = refl
 
 -- the frames of document 01's own rule, and zero after the last
 rule-frames : readOf (bytes latencyText) (replicate bufferBytes 7) .1
     ≡ (3 ∷ 1 ∷ 0 ∷ 1 ∷ 0 ∷ 0 ∷ 0 ∷ 0 ∷ 3 ∷ 0 ∷ 0 ∷ 1 ∷ 0 ∷ 0 ∷ 0 ∷ 0 ∷ 0x12 ∷ 0 ∷ 0 ∷ 0 ∷ 0 ∷ 0 ∷ 0 ∷ 0
     ∷ 1 ∷ 0 ∷ 0 ∷ 0 ∷ 0 ∷ 0 ∷ 0 ∷ 25 ∷ 0x24 ∷ []) ++ replicate 479 0
-unfolding classOf span same wordKind longestMark markWidth tokenKind widthOf tokenHere tokenAt tokensIn tokensFrom code nameCode decimalFrom decimal numberValue startFactor step finish run deeper position negated put acts judged readOf checkedOf orderOf referenceCount sizesFit frameKind
+unfolding classOf span same wordKind longestMark markWidth fraction tokenKind widthOf tokenHere tokenAt clauseAt tokensIn tokensFrom code nameCode decimalFrom decimal decimals numberValue startFactor step finish run deeper position negated put acts judged readOf checkedOf orderOf referenceCount sizesFit frameKind
 rule-frames = refl
+
+-- those of the allowance: the head with the scale in byte 1, and the literal with its decimals there
+allowance-frames : readOf (bytes allowanceText) (replicate bufferBytes 7) .1
+    ≡ (4 ∷ 1 ∷ 0 ∷ 0 ∷ 0 ∷ 0 ∷ 0 ∷ 0 ∷ 3 ∷ 1 ∷ 0 ∷ 1 ∷ 0 ∷ 0 ∷ 0 ∷ 0 ∷ 3 ∷ 0 ∷ 0 ∷ 1 ∷ 0 ∷ 0 ∷ 0 ∷ 0
+    ∷ 0x12 ∷ 0 ∷ 0 ∷ 0 ∷ 0 ∷ 0 ∷ 0 ∷ 0 ∷ 1 ∷ 1 ∷ 0 ∷ 0 ∷ 0 ∷ 0 ∷ 0 ∷ 125 ∷ 0x24 ∷ []) ++ replicate 471 0
+unfolding classOf span same wordKind longestMark markWidth fraction tokenKind widthOf tokenHere tokenAt clauseAt tokensIn tokensFrom code nameCode decimalFrom decimal decimals numberValue startFactor step finish run deeper position negated put acts judged readOf checkedOf orderOf referenceCount sizesFit frameKind
+allowance-frames = refl

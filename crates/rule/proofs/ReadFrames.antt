@@ -1,4 +1,4 @@
--- What `read` answers to a tree that 4, 5 and 6 leave: what the check of its frames says of them. Assumes nothing.
+-- What `read` answers to a tree that 4, 5, 18 and 6 leave: what the check of its frames says of them. Assumes nothing.
 use mathlib.Core.Path.{_≡_, refl, ap, sym, subst, _∙_}
 use mathlib.Core.Bool.{Bool, true, false, cond}
 use mathlib.Core.List.{List, _++_}
@@ -11,7 +11,7 @@ use Rattle.rule.specs.Grammar.{Rule}
 use Rattle.rule.specs.Tree.{postfix, bytesOf}
 use Rattle.rule.specs.Measure.{frames, depth}
 use Rattle.rule.proofs.ReaderRefusals.{Outcome, read-as, telling, outcome}
-use Rattle.rule.specs.Memory.{Mem, fresh, memoryAnswer, codeAt, valueAt, acts}
+use Rattle.rule.specs.Memory.{Mem, fresh, memoryAnswer, codeAt, valueAt, decimalsAt, acts}
 use Rattle.rule.specs.Check.{checkedOf}
 use Rattle.rule.specs.Reading.{afterCheck, concluded, readOf}
 use Rattle.rule.proofs.ReaderFrames.{treeBytes}
@@ -25,22 +25,23 @@ use Rattle.rule.proofs.GrammarWalk.{readRule}
 use Rattle.rule.proofs.ReaderRegisters.{told-right}
 use Rattle.rule.proofs.ReaderBuffer.{bytes-read}
 use Rattle.rule.proofs.ReadText.{in-grammar}
-use Rattle.rule.proofs.FrameTrees.{meaning-count, few-frames, coded-names, coded-numbers, tree-bytes}
+use Rattle.rule.proofs.FrameTrees.{meaning-count, few-frames, coded-names, coded-numbers, coded-decimals, tree-bytes}
 use Rattle.rule.proofs.ReadChecks.{check-accepted}
 
 -- the registers that refuse nothing tell the number of frames
 memory-answer-count : (m : Mem) → memoryAnswer m .0 ≡ 0 → memoryAnswer m .1 ≡ m .count
-memory-answer-count m = go (eqb (m .name) 0) (eqb (m .number) 0) (m .deep) (ltb 64 (m .count))
+memory-answer-count m = go (eqb (m .name) 0) (eqb (m .number) 0) (eqb (m .decimals) 0) (m .deep) (ltb 64 (m .count))
   where
-    tell : Bool → Bool → Bool → Bool → ℕ × ℕ
-    tell a b c d = cond a (cond b (cond c (6, 0) (cond d (6, 0) (0, m .count))) (5, m .number - 1)) (4, m .name - 1)
+    tell : Bool → Bool → Bool → Bool → Bool → ℕ × ℕ
+    tell a b e c d = cond a (cond b (cond e (cond c (6, 0) (cond d (6, 0) (0, m .count))) (18, m .decimals - 1)) (5, m .number - 1)) (4, m .name - 1)
 
-    go : (a b c d : Bool) → tell a b c d .0 ≡ 0 → tell a b c d .1 ≡ m .count
-    go false b c d e = absurd (omega arith)
-    go true false c d e = absurd (omega arith)
-    go true true true d e = absurd (omega arith)
-    go true true false true e = absurd (omega arith)
-    go true true false false e = refl
+    go : (a b e c d : Bool) → tell a b e c d .0 ≡ 0 → tell a b e c d .1 ≡ m .count
+    go false b e c d f = absurd (omega arith)
+    go true false e c d f = absurd (omega arith)
+    go true true false c d f = absurd (omega arith)
+    go true true true true d f = absurd (omega arith)
+    go true true true false true f = absurd (omega arith)
+    go true true true false false f = refl
 
 concluded-frames : (b : List ℕ) (m : Mem) (n : ℕ) (s : List ℕ) → memoryAnswer m ≡ (0, n) → m .bytes ≡ s → (concluded b m ≡ afterCheck b m (checkedOf (take (n * 8) s))) × (m .count ≡ n)
 concluded-frames b m n s e f =
@@ -57,16 +58,16 @@ module _ (text b : List ℕ) (fit : length b ≡ 512) where
     abbrev after : Mem
     after = readRule Mem (acts text) x (fresh (replicate 512 0))
 
-    judged-well : outcome (codeAt text) (valueAt text) x ≡ read-as (frames x)
-    judged-well = rw (coded-names text x w, coded-numbers text x w, le-ltb 16 (depth x) (w .shallow), le-ltb 64 (length (frames x)) (few-frames text x w))
+    judged-well : outcome (codeAt text) (valueAt text) (decimalsAt text) x ≡ read-as (frames x)
+    judged-well = rw (coded-names text x w, coded-numbers text x w, coded-decimals text x w, le-ltb 16 (depth x) (w .shallow), le-ltb 64 (length (frames x)) (few-frames text x w))
 
     told-tree : memoryAnswer after ≡ (0, length (frames x))
     unfolding acts
-    told-tree = told-right (codeAt text) (valueAt text) (replicate 512 0) x ∙ ap (λ (q : Outcome). telling q) judged-well
+    told-tree = told-right (codeAt text) (valueAt text) (decimalsAt text) (replicate 512 0) x ∙ ap (λ (q : Outcome). telling q) judged-well
 
     bytes-tree : after .bytes ≡ treeBytes text x
     unfolding acts
-    bytes-tree = bytes-read (codeAt text) (valueAt text) (replicate 512 0) x (coded-names text x w)
+    bytes-tree = bytes-read (codeAt text) (valueAt text) (decimalsAt text) (replicate 512 0) x (coded-names text x w)
 
     its-answer : (a : CheckAnswer) → checkedOf (take (length (frames x) * 8) (treeBytes text x)) ≡ a → readOf text b ≡ afterCheck b after a
     its-answer a q =

@@ -1,4 +1,4 @@
--- Refusals 3 to 8 of `read`, each both ways, with the places of 3, 4 and 5; and every answer both ways. Assumes nothing.
+-- Refusals 3 to 8 and 18 of `read`, each both ways, with the places of 3, 4, 5 and 18; and every answer both ways. Assumes nothing.
 use mathlib.Core.Path.{_≡_, refl, ap, subst, _∙_}
 use mathlib.Core.Logic.{_↔_, inl, inr}
 use mathlib.Core.Bool.{Bool, true, false, cond}
@@ -10,14 +10,14 @@ use lib.ListN.{length}
 use borrow.Author.Tests.{eqb-true, eqb-false, lt-ltb, ltb-true, ltb-false}
 use Rattle.rule.specs.Token.{tokens}
 use Rattle.rule.specs.Grammar.{Rule, Wrong-at}
-use Rattle.rule.specs.Tree.{references, parts, NoneExceeds}
+use Rattle.rule.specs.Tree.{references, magnitudes, NoneExceeds}
 use Rattle.rule.specs.Measure.{frames, depth}
 use Rattle.rule.proofs.ReaderRefusals.{Outcome, refused-by, outcome}
-use Rattle.rule.specs.Memory.{codeAt, valueAt}
+use Rattle.rule.specs.Memory.{codeAt, valueAt, decimalsAt}
 use Rattle.rule.specs.Meaning.{meaning}
 use Rattle.rule.specs.Reading.{readOf}
 use Rattle.rule.specs.Limits.{bufferBytes}
-use Rattle.rule.specs.Answers.{Spelled, BadName, NamesGood, BadNumber, NumbersGood, Oversized, Within, Answered, refused-1, refused-2, refused-3, refused-4, refused-5, refused-6, refused-7, refused-8, accepted}
+use Rattle.rule.specs.Answers.{Spelled, BadName, NamesGood, BadNumber, NumbersGood, BadDecimals, DecimalsGood, Oversized, Within, Answered, refused-1, refused-2, refused-3, refused-4, refused-5, refused-18, refused-6, refused-7, refused-8, accepted}
 use Rattle.rule.specs.Answers as answers
 use Rattle.rule.specs.ReadTold.{ReadAnswer}
 use Rattle.rule.specs.ReadTold as reading
@@ -27,7 +27,7 @@ use Rattle.rule.proofs.FrameTrees.{meaning-count}
 use Rattle.rule.proofs.ReadChecks.{check-7, check-8}
 use Rattle.rule.proofs.ReadFrames.{tree-refused, tree-read}
 use Rattle.rule.proofs.ReadAnswers.{answered}
-use Rattle.rule.proofs.SpellSame.{first-name-same, first-number-same}
+use Rattle.rule.proofs.SpellSame.{first-name-same, first-number-same, first-decimals-same}
 use Rattle.rule.proofs.SpellTrees.{tree-unique}
 
 -- ---- what is said of the tree of a text is so of every tree that spells it, as there is one only
@@ -39,6 +39,13 @@ module _ (text : List ℕ) (P : Rule → Type 0) where
 abbrev answer-of : ReadAnswer × List ℕ → ReadAnswer
 answer-of a = a .0
 
+-- what is said of the number n alone
+abbrev Only : ℕ → ℕ → Type 0 → Type 0
+Only zero zero A = A
+Only zero (suc k) A = Unit {0}
+Only (suc n) zero A = Unit {0}
+Only (suc n) (suc k) A = Only n k A
+
 -- ---- what an answer says of the text
 module _ (text b : List ℕ) where
   -- 7 and 8 of a tree
@@ -46,7 +53,11 @@ module _ (text b : List ℕ) where
   Unnamed x = Within text x × (references (meaning text x) ≡ [])
 
   abbrev Exceeding : Rule → Type 0
-  Exceeding x = Within text x × (references (meaning text x) ≡ [] → ⊥) × (NoneExceeds (parts (meaning text x)) → ⊥)
+  Exceeding x = Within text x × (references (meaning text x) ≡ [] → ⊥) × (NoneExceeds (magnitudes (meaning text x)) → ⊥)
+
+  -- 18, that comes after 5
+  abbrev Decimals : ℕ → Rule → Type 0
+  Decimals p x = NamesGood text x × NumbersGood text x × BadDecimals text x p
 
   -- by its number and its place
   abbrev Said : ℕ → ℕ → Type 0
@@ -56,10 +67,10 @@ module _ (text b : List ℕ) where
   Said (suc (suc (suc zero))) p = Wrong-at (length text) (tokens text) p
   Said (suc (suc (suc (suc zero)))) p = (x : Rule) → Spelled text x → BadName text x p
   Said (suc (suc (suc (suc (suc zero))))) p = (x : Rule) → Spelled text x → NamesGood text x × BadNumber text x p
-  Said (suc (suc (suc (suc (suc (suc zero)))))) p = (x : Rule) → Spelled text x → NamesGood text x × NumbersGood text x × Oversized text x
+  Said (suc (suc (suc (suc (suc (suc zero)))))) p = (x : Rule) → Spelled text x → NamesGood text x × NumbersGood text x × DecimalsGood text x × Oversized text x
   Said (suc (suc (suc (suc (suc (suc (suc zero))))))) p = (x : Rule) → Spelled text x → Unnamed x
   Said (suc (suc (suc (suc (suc (suc (suc (suc zero)))))))) p = (x : Rule) → Spelled text x → Exceeding x
-  Said (suc (suc (suc (suc (suc (suc (suc (suc (suc k))))))))) p = Unit {0}
+  Said (suc (suc (suc (suc (suc (suc (suc (suc (suc k))))))))) p = Only 9 k ((x : Rule) → Spelled text x → Decimals p x)
 
   abbrev SaidBy : ReadAnswer → Type 0
   SaidBy (reading.frames n) = Unit {0}
@@ -71,7 +82,8 @@ module _ (text b : List ℕ) where
   says (refused-3 h s w) = w
   says (refused-4 {x} {p} h s f) = of-all text (λ y. BadName text y p) x s f
   says (refused-5 {x} {p} h s f g) = of-all text (λ y. NamesGood text y × BadNumber text y p) x s (f, g)
-  says (refused-6 {x} h s f g o) = of-all text (λ y. NamesGood text y × NumbersGood text y × Oversized text y) x s (f, g, o)
+  says (refused-18 {x} {p} h s f g d) = of-all text (Decimals p) x s (f, g, d)
+  says (refused-6 {x} h s f g d o) = of-all text (λ y. NamesGood text y × NumbersGood text y × DecimalsGood text y × Oversized text y) x s (f, g, d, o)
   says (refused-7 {x} h w r) = of-all text Unnamed x (w .spelled) (w, r)
   says (refused-8 {x} h w r o) = of-all text Exceeding x (w .spelled) (w, r, o)
   says (accepted h r) = tt
@@ -89,7 +101,7 @@ module _ (text b : List ℕ) where
     place-3 s p = (said 3 p, λ w. ap answer-of (wrong-token s p w))
 
     module _ (x : Rule) (y : Spelled text x) where
-      judged : (k p : ℕ) → outcome (codeAt text) (valueAt text) x ≡ refused-by k p → (k ≡ 0 → ⊥) → readOf text b ≡ (reading.refused k p, b)
+      judged : (k p : ℕ) → outcome (codeAt text) (valueAt text) (decimalsAt text) x ≡ refused-by k p → (k ≡ 0 → ⊥) → readOf text b ≡ (reading.refused k p, b)
       judged = as-judged text b fit (y .sized .some-bytes) (y .sized .few-bytes) x (y .spells)
 
       -- 4: the first bad name of the tree
@@ -106,27 +118,34 @@ module _ (text b : List ℕ) where
       pub place-5 : (p : ℕ) → (readOf text b .0 ≡ reading.refused 5 p) ↔ (NamesGood text x × BadNumber text x p)
       place-5 p = (λ e. said 5 p e x y, λ (e, f). ap answer-of (bad-number p e f))
 
-      over : NamesGood text x → NumbersGood text x → Oversized text x → outcome (codeAt text) (valueAt text) x ≡ refused-by 6 0
-      over e f (inl h) = rw (first-name-same text x (y .spells) ∙ e, first-number-same text x ∙ f, lt-ltb 16 (depth x) h)
-      over e f (inr h) = rw (first-name-same text x (y .spells) ∙ e, first-number-same text x ∙ f, lt-ltb 64 (length (frames x)) (subst (λ (n : ℕ). 64 < n) (meaning-count text x) h)) (either-way (ltb 16 (depth x)))
+      -- 18: the first of more than 6 decimals, where no name and no number is bad
+      bad-decimals : (p : ℕ) → NamesGood text x → NumbersGood text x → BadDecimals text x p → readOf text b ≡ (reading.refused 18 p, b)
+      bad-decimals p e f g = judged 18 p (rw (first-name-same text x (y .spells) ∙ e, first-number-same text x ∙ f, first-decimals-same text x ∙ g .first, g .starts)) (λ z. omega arith)
+
+      pub place-18 : (p : ℕ) → (readOf text b .0 ≡ reading.refused 18 p) ↔ (NamesGood text x × NumbersGood text x × BadDecimals text x p)
+      place-18 p = (λ e. said 18 p e x y, λ (e, f, g). ap answer-of (bad-decimals p e f g))
+
+      over : NamesGood text x → NumbersGood text x → DecimalsGood text x → Oversized text x → outcome (codeAt text) (valueAt text) (decimalsAt text) x ≡ refused-by 6 0
+      over e f g (inl h) = rw (first-name-same text x (y .spells) ∙ e, first-number-same text x ∙ f, first-decimals-same text x ∙ g, lt-ltb 16 (depth x) h)
+      over e f g (inr h) = rw (first-name-same text x (y .spells) ∙ e, first-number-same text x ∙ f, first-decimals-same text x ∙ g, lt-ltb 64 (length (frames x)) (subst (λ (n : ℕ). 64 < n) (meaning-count text x) h)) (either-way (ltb 16 (depth x)))
         where
           either-way : (q : Bool) → _≡_ {A = Outcome} (cond q (refused-by 6 0) (refused-by 6 0)) (refused-by 6 0)
           either-way true = refl
           either-way false = refl
 
-      -- 6: too deep or too many frames, where no name and no number is bad
-      oversized : NamesGood text x → NumbersGood text x → Oversized text x → readOf text b ≡ (reading.refused 6 0, b)
-      oversized e f o = judged 6 0 (over e f o) (λ z. omega arith)
+      -- 6: too deep or too many frames, where no name, no number and no decimals are bad
+      oversized : NamesGood text x → NumbersGood text x → DecimalsGood text x → Oversized text x → readOf text b ≡ (reading.refused 6 0, b)
+      oversized e f g o = judged 6 0 (over e f g o) (λ z. omega arith)
 
-      pub place-6 : (readOf text b .0 ≡ reading.refused 6 0) ↔ (NamesGood text x × NumbersGood text x × Oversized text x)
-      place-6 = (λ e. said 6 0 e x y, λ (e, f, o). ap answer-of (oversized e f o))
+      pub place-6 : (readOf text b .0 ≡ reading.refused 6 0) ↔ (NamesGood text x × NumbersGood text x × DecimalsGood text x × Oversized text x)
+      place-6 = (λ e. said 6 0 e x y, λ (e, f, g, o). ap answer-of (oversized e f g o))
 
-      -- 7: no reference, where 4, 5 and 6 leave the tree
+      -- 7: no reference, where 4, 5, 18 and 6 leave the tree
       pub place-7 : (readOf text b .0 ≡ reading.refused 7 0) ↔ (Within text x × (references (meaning text x) ≡ []))
       place-7 = (λ e. said 7 0 e x y, λ (w, r). ap answer-of (tree-refused text b fit x w 7 0 (check-7 text x w .1 r)))
 
       -- 8: a magnitude over 2^62, where 4 to 7 leave the tree
-      pub place-8 : (readOf text b .0 ≡ reading.refused 8 0) ↔ (Within text x × (references (meaning text x) ≡ [] → ⊥) × (NoneExceeds (parts (meaning text x)) → ⊥))
+      pub place-8 : (readOf text b .0 ≡ reading.refused 8 0) ↔ (Within text x × (references (meaning text x) ≡ [] → ⊥) × (NoneExceeds (magnitudes (meaning text x)) → ⊥))
       place-8 = (λ e. said 8 0 e x y, λ (w, r, o). ap answer-of (tree-refused text b fit x w 8 0 (check-8 text x w .1 (r, o))))
 
 -- ---- and no other answer has what its case says
@@ -145,7 +164,8 @@ answer {text} {b} (refused-2 h z) = wrong-size text b h z
 answer {text} {b} (refused-3 {p} h s w) = wrong-token text b h s p w
 answer {text} {b} (refused-4 {x} {p} h s f) = bad-name text b h x s p f
 answer {text} {b} (refused-5 {x} {p} h s e f) = bad-number text b h x s p e f
-answer {text} {b} (refused-6 {x} h s e f o) = oversized text b h x s e f o
+answer {text} {b} (refused-18 {x} {p} h s e f g) = bad-decimals text b h x s p e f g
+answer {text} {b} (refused-6 {x} h s e f g o) = oversized text b h x s e f g o
 answer {text} {b} (refused-7 {x} h w r) = tree-refused text b h x w 7 0 (check-7 text x w .1 r)
 answer {text} {b} (refused-8 {x} h w r o) = tree-refused text b h x w 8 0 (check-8 text x w .1 (r, o))
 answer {text} {b} (accepted {n} {s} h r) = tree-read text b h n s r

@@ -11,7 +11,7 @@ use Rattle.rule.specs.Token.{tokens}
 use Rattle.rule.specs.Grammar.{Rule, yield, words, Wrong-at}
 use Rattle.rule.specs.Machine.{MachineAnswer, accepted, refused}
 use Rattle.rule.proofs.ReaderRefusals.{Outcome, refused-by, telling, outcome}
-use Rattle.rule.specs.Memory.{Mem, fresh, memoryAnswer, codeAt, valueAt, acts}
+use Rattle.rule.specs.Memory.{Mem, fresh, memoryAnswer, codeAt, valueAt, decimalsAt, acts}
 use Rattle.rule.specs.Check.{checkedOf}
 use Rattle.rule.specs.Reading.{judged, afterCheck, concluded, afterGrammar, readOf}
 use Rattle.rule.specs.CheckTold.{CheckAnswer}
@@ -102,15 +102,15 @@ module _ (text b : List ℕ) (fit : length b ≡ 512) (some : length text ≡ 0 
   unfolding judged
   in-grammar x e = three text b (accepted (readRule Mem (acts text) x (fresh (replicate 512 0)))) fit some short (taken Mem (acts text) (length text) (fresh (replicate 512 0)) x (tokens text) e)
 
-  told-tree : (x : Rule) → memoryAnswer (readRule Mem (acts text) x (fresh (replicate 512 0))) ≡ telling (outcome (codeAt text) (valueAt text) x)
+  told-tree : (x : Rule) → memoryAnswer (readRule Mem (acts text) x (fresh (replicate 512 0))) ≡ telling (outcome (codeAt text) (valueAt text) (decimalsAt text) x)
   unfolding acts
-  told-tree x = told-right (codeAt text) (valueAt text) (replicate 512 0) x
+  told-tree x = told-right (codeAt text) (valueAt text) (decimalsAt text) (replicate 512 0) x
 
   concluded-refused : (m : Mem) (k p : ℕ) → memoryAnswer m ≡ (k, p) → (k ≡ 0 → ⊥) → concluded b m ≡ (reading.refused k p, b)
   concluded-refused m k p e ne = subst (λ (q : ℕ × ℕ). cond (eqb (q .0) 0) (afterCheck b m (checkedOf (take (m .count * 8) (m .bytes)))) (reading.refused (q .0) (q .1), b) ≡ (reading.refused k p, b)) (sym e) (rw (ne-eqb k 0 ne))
 
-  -- refusals 4, 5 and 6 of a tree, with their places
-  pub as-judged : (x : Rule) → yield x ≡ words (tokens text) → (k p : ℕ) → outcome (codeAt text) (valueAt text) x ≡ refused-by k p → (k ≡ 0 → ⊥) → readOf text b ≡ (reading.refused k p, b)
+  -- refusals 4, 5, 18 and 6 of a tree, with their places
+  pub as-judged : (x : Rule) → yield x ≡ words (tokens text) → (k p : ℕ) → outcome (codeAt text) (valueAt text) (decimalsAt text) x ≡ refused-by k p → (k ≡ 0 → ⊥) → readOf text b ≡ (reading.refused k p, b)
   as-judged x e k p v ne = in-grammar x e ∙ concluded-refused (readRule Mem (acts text) x (fresh (replicate 512 0))) k p (told-tree x ∙ ap (λ (q : Outcome). telling q) v) ne
 
   -- there is no third case

@@ -5,7 +5,7 @@ use mathlib.Core.List.{List}
 use Prim.Native.Nat.{ℕ, _-_, _*_, _≤_, _<_, zero-le}
 use borrow.Author.Tests.{ne-eqb, lt-ltb, le-ltb}
 use lib.ListN.{length, take, replicate}
-use Rattle.rule.specs.Token.{tokens}
+use Rattle.rule.specs.Token.{declares, tokens}
 use Rattle.rule.specs.Machine.{start, MachineAnswer}
 use Rattle.rule.specs.Memory.{Mem, fresh, listed, mem}
 use Rattle.rule.specs.ReadsPart.{runFrom}
@@ -16,7 +16,7 @@ use Rattle.rule.specs.declared.memory.Registers.{Registers}
 use Rattle.rule.proofs.TokenLists.{rising}
 use Rattle.rule.proofs.ReaderEnd.{Kept, OkA, run-ok}
 
--- ---- 4 to 8
+-- ---- 4 to 8 and 18
 module _ (b : List ℕ) (t : Registers) (tb bytes : List ℕ) where
   pub four : (t .name ≡ 0 → ⊥) → concluded b (mem t tb bytes) ≡ (reading.refused 4 (t .name - 1), b)
   unfolding mem
@@ -26,17 +26,21 @@ module _ (b : List ℕ) (t : Registers) (tb bytes : List ℕ) where
   unfolding mem
   five e h = rw (e, ne-eqb (t .number) 0 h)
 
-  pub six-deep : t .name ≡ 0 → t .number ≡ 0 → t .deep ≡ true → concluded b (mem t tb bytes) ≡ (reading.refused 6 0, b)
+  pub eighteen : t .name ≡ 0 → t .number ≡ 0 → (t .decimals ≡ 0 → ⊥) → concluded b (mem t tb bytes) ≡ (reading.refused 18 (t .decimals - 1), b)
   unfolding mem
-  six-deep e f g = rw (e, f, g)
+  eighteen e f h = rw (e, f, ne-eqb (t .decimals) 0 h)
 
-  pub six-frames : t .name ≡ 0 → t .number ≡ 0 → t .deep ≡ false → 64 < t .count → concluded b (mem t tb bytes) ≡ (reading.refused 6 0, b)
+  pub six-deep : t .name ≡ 0 → t .number ≡ 0 → t .decimals ≡ 0 → t .deep ≡ true → concluded b (mem t tb bytes) ≡ (reading.refused 6 0, b)
   unfolding mem
-  six-frames e f g h = rw (e, f, g, lt-ltb 64 (t .count) h)
+  six-deep e f i g = rw (e, f, i, g)
 
-  pub seven-eight : t .name ≡ 0 → t .number ≡ 0 → t .deep ≡ false → t .count ≤ 64 → concluded b (mem t tb bytes) ≡ afterCheck b (mem t tb bytes) (checkedOf (take (t .count * 8) bytes))
+  pub six-frames : t .name ≡ 0 → t .number ≡ 0 → t .decimals ≡ 0 → t .deep ≡ false → 64 < t .count → concluded b (mem t tb bytes) ≡ (reading.refused 6 0, b)
   unfolding mem
-  seven-eight e f g h = rw (e, f, g, le-ltb 64 (t .count) h)
+  six-frames e f i g h = rw (e, f, i, g, lt-ltb 64 (t .count) h)
+
+  pub seven-eight : t .name ≡ 0 → t .number ≡ 0 → t .decimals ≡ 0 → t .deep ≡ false → t .count ≤ 64 → concluded b (mem t tb bytes) ≡ afterCheck b (mem t tb bytes) (checkedOf (take (t .count * 8) bytes))
+  unfolding mem
+  seven-eight e f i g h = rw (e, f, i, g, le-ltb 64 (t .count) h)
 
 -- ---- 1 to 3
 module _ (text b : List ℕ) where
@@ -58,15 +62,15 @@ module _ (text b : List ℕ) where
 
 -- ---- the machine's answer
 -- the code begins with an empty table, whatever its places hold
-pub starts : (text tb : List ℕ) → judged text ≡ runFrom text start (mem unread tb (replicate 512 0)) 0
+pub starts : (text tb : List ℕ) → judged text ≡ runFrom (declares 2) text start (mem unread tb (replicate 512 0)) 0
 unfolding judged runFrom mem listed
 starts text tb = refl
 
 pub judged-ok : (text : List ℕ) → OkA text (length text) (judged text)
 unfolding judged
 judged-ok text =
-    run-ok text (length text) (tokens text) 0 (rising text 0 zero-le) start (fresh (replicate 512 0)) tt
-    (record { name-within = zero-le; number-within = zero-le; long = refl })
+    run-ok text (length text) (tokens text) 0 (rising (declares 2) text 0 zero-le) start (fresh (replicate 512 0)) tt
+    (record { name-within = zero-le; number-within = zero-le; decimals-within = zero-le; long = refl })
 
 module _ (n : ℕ) (t : Registers) (tb b : List ℕ) where
   pub kept-name : Kept n (mem t tb b) → t .name ≤ n
@@ -76,6 +80,10 @@ module _ (n : ℕ) (t : Registers) (tb b : List ℕ) where
   pub kept-number : Kept n (mem t tb b) → t .number ≤ n
   unfolding mem
   kept-number k = k .number-within
+
+  pub kept-decimals : Kept n (mem t tb b) → t .decimals ≤ n
+  unfolding mem
+  kept-decimals k = k .decimals-within
 
   pub kept-long : Kept n (mem t tb b) → length b ≡ 512
   unfolding mem

@@ -6,11 +6,11 @@ use Prim.Native.Nat.{ℕ, _+_, _*_, _/_, _%_, _≤_, _<_}
 use native.Mathlib.Omega.{arith}
 use lib.Dec.{ltb, eqb}
 use lib.ListN.{length, set, length-set}
-use Rattle.rule.specs.Token.{tokenAt, Rising}
+use Rattle.rule.specs.Token.{body, tokenAt, Rising}
 use Rattle.rule.specs.Grammar.{place}
 use Rattle.rule.specs.Measure.{sized-by}
 use Rattle.rule.specs.Machine.{Act, declare, uses, sized, enter, out, Sym, MachineAnswer, accepted, refused, step, finish, run}
-use Rattle.rule.specs.Memory.{Mem, table, first, blame, enlist, put, misnamed, codeAt, valueAt, acts, isDeclared, bad-number}
+use Rattle.rule.specs.Memory.{Mem, table, first, blame, enlist, put, misnamed, codeAt, valueAt, decimalsAt, acts, isDeclared, bad-number, many-decimals}
 use Rattle.rule.specs.ReadsPart.{runFrom}
 use Rattle.rule.specs.declared.Token.{Token}
 use Rattle.rule.specs.declared.parts.Place.{Place}
@@ -21,14 +21,14 @@ use Rattle.rule.proofs.FrameDrafts.{All}
 use Rattle.rule.proofs.GrammarKeeps.{At, Outs, Holds, Keeper, run-keeps}
 use Rattle.rule.proofs.TokenLists.{none-left, one-more}
 
-module _ (text : List ℕ) (at : ℕ) (m : Mem) {t : Token} (is : t ≡ tokenAt text at) where
-  pub nothing-left : t .kind ≡ 0 → runFrom text [] m at ≡ accepted m
+module _ (points : Bool) (text : List ℕ) (at : ℕ) (m : Mem) {t : Token} (is : t ≡ tokenAt points text at) where
+  pub nothing-left : t .kind ≡ 0 → runFrom (body points) text [] m at ≡ accepted m
   unfolding runFrom run finish
-  nothing-left e = rw (none-left text at (sym (ap (λ (q : Token). q .kind) is) ∙ e))
+  nothing-left e = rw (none-left (body points) text at (sym (ap (λ (q : Token). q .kind) is) ∙ e))
 
-  pub something-left : at ≤ length text → (t .kind ≡ 0 → ⊥) → runFrom text [] m at ≡ refused (t .start)
+  pub something-left : at ≤ length text → (t .kind ≡ 0 → ⊥) → runFrom (body points) text [] m at ≡ refused (t .start)
   unfolding runFrom run step
-  something-left h ne = rw (one-more text at h (λ e. ne (ap (λ (q : Token). q .kind) is ∙ e)), ← is)
+  something-left h ne = rw (one-more (body points) text at h (λ e. ne (ap (λ (q : Token). q .kind) is ∙ e)), ← is)
 
 put-long : (b : List ℕ) (k : ℕ) (f : Fields) → length (put b k f) ≡ length b
 unfolding put
@@ -43,6 +43,7 @@ put-long b k f = go (ltb k 64)
 pub record Kept (n : ℕ) (m : Mem) : Type 0 where
   pub name-within : m .name ≤ n
   pub number-within : m .number ≤ n
+  pub decimals-within : m .decimals ≤ n
   pub long : length (m .bytes) ≡ 512
 
 -- a name or a number of an act starts below n
@@ -70,11 +71,11 @@ module _ (text : List ℕ) (n : ℕ) where
       go false = h
 
   blamed : (p : Place) (m : Mem) → p .start < n → Kept n m → Kept n (blame p m)
-  blamed p m l h = record { name-within = first-within (m .name) p (h .name-within) l; number-within = h .number-within; long = h .long }
+  blamed p m l h = record { name-within = first-within (m .name) p (h .name-within) l; number-within = h .number-within; decimals-within = h .decimals-within; long = h .long }
 
   enlisted : (r : Role) (c : ℕ) (m : Mem) → Kept n m → Kept n (enlist r c m)
-  enlisted Event c m h = record { name-within = h .name-within; number-within = h .number-within; long = h .long }
-  enlisted Note c m h = record { name-within = h .name-within; number-within = h .number-within; long = h .long }
+  enlisted Event c m h = record { name-within = h .name-within; number-within = h .number-within; decimals-within = h .decimals-within; long = h .long }
+  enlisted Note c m h = record { name-within = h .name-within; number-within = h .number-within; decimals-within = h .decimals-within; long = h .long }
 
   either : (q : Bool) (x y : Mem) → Kept n x → Kept n y → Kept n (cond q x y)
   either true x y hx hy = hx
@@ -82,15 +83,15 @@ module _ (text : List ℕ) (n : ℕ) where
 
   act-kept : (a : Act) (m : Mem) → Below n a → Kept n m → Kept n (acts text a m)
   unfolding acts
-  act-kept (declare r p) m l h = either (misnamed (codeAt text) (valueAt text) r p m) (blame p m) (enlist r (codeAt text p) m) (blamed p m l h) (enlisted r (codeAt text p) m h)
+  act-kept (declare r p) m l h = either (misnamed (codeAt text) (valueAt text) (decimalsAt text) r p m) (blame p m) (enlist r (codeAt text p) m) (blamed p m l h) (enlisted r (codeAt text p) m h)
   act-kept (uses r p) m l h = either (isDeclared (codeAt text p) (table r m)) m (blame p m) h (blamed p m l h)
-  act-kept (sized b p) m l h = record { name-within = h .name-within; number-within = go (bad-number (codeAt text) (valueAt text) (sized-by b p)); long = h .long }
+  act-kept (sized b p) m l h = record { name-within = h .name-within; number-within = go (m .number) (h .number-within) (bad-number (codeAt text) (valueAt text) (decimalsAt text) (sized-by b p)); decimals-within = go (m .decimals) (h .decimals-within) (many-decimals (codeAt text) (valueAt text) (decimalsAt text) (sized-by b p)); long = h .long }
     where
-      go : (q : Bool) → cond q (first (m .number) p) (m .number) ≤ n
-      go true = first-within (m .number) p (h .number-within) l
-      go false = h .number-within
-  act-kept (enter d) m l h = record { name-within = h .name-within; number-within = h .number-within; long = h .long }
-  act-kept (out f) m l h = record { name-within = h .name-within; number-within = h .number-within; long = put-long (m .bytes) (m .count) _ ∙ h .long }
+      go : (z : ℕ) → z ≤ n → (q : Bool) → cond q (first z p) z ≤ n
+      go z k true = first-within z p k l
+      go z k false = k
+  act-kept (enter d) m l h = record { name-within = h .name-within; number-within = h .number-within; decimals-within = h .decimals-within; long = h .long }
+  act-kept (out f) m l h = record { name-within = h .name-within; number-within = h .number-within; decimals-within = h .decimals-within; long = put-long (m .bytes) (m .count) _ ∙ h .long }
 
   rising-le : (lo : ℕ) (ts : List Token) → Rising lo n ts → lo ≤ n
   rising-le lo [] r = r

@@ -5,7 +5,7 @@ use lib.ListN.{replicate}
 use Rattle.rule.specs.Limits.{bufferBytes}
 use Rattle.rule.specs.Grammar.{Rule}
 use Rattle.rule.specs.Measure.{frames, names}
-use Rattle.rule.specs.Memory.{put, fields, codeAt, valueAt}
+use Rattle.rule.specs.Memory.{put, fields, codeAt, valueAt, decimalsAt}
 use Rattle.rule.specs.declared.parts.Role.the-variants.{Event, Note}
 use Rattle.rule.specs.declared.memory.Fields.{Fields}
 use Rattle.rule.proofs.ReaderRefusals.{codes}
@@ -23,4 +23,4 @@ each g (x ∷ xs) = g x ∷ each g xs
 -- the bytes of a tree's frames, with its names looked up among those that it declares, and zero after the last
 abbrev pub treeBytes : List ℕ → Rule → List ℕ
 treeBytes text x =
-    fill 0 (each (fields (codeAt text) (valueAt text) (codes (codeAt text) (valueAt text) Event (names x)) (codes (codeAt text) (valueAt text) Note (names x))) (frames x)) (replicate bufferBytes 0)
+    fill 0 (each (fields (codeAt text) (valueAt text) (decimalsAt text) (codes (codeAt text) (valueAt text) (decimalsAt text) Event (names x)) (codes (codeAt text) (valueAt text) (decimalsAt text) Note (names x))) (frames x)) (replicate bufferBytes 0)

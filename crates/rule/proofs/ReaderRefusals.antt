@@ -1,5 +1,5 @@
--- Refusals 4 to 6 of a tree in their order, as the reader's memory decides them: code p stands for the letters of the name at p
--- (specs/Name: one number for each name of at most 12 letters), value p for the number at p. specs/Spelling and specs/Answers say
+-- Refusals 4, 5, 18 and 6 of a tree in their order, as the reader's memory decides them: code p stands for the letters of the name at p
+-- (specs/Name: one number for each name of at most 12 letters), value p for the number at p, decimals p for how many it has. specs/Spelling and specs/Answers say
 -- them in the document's words. Assumes nothing: definitions.
 use Prim.Native.Nat.{ℕ}
 use mathlib.Core.Bool.{Bool, true, false, cond}
@@ -14,7 +14,7 @@ use Rattle.rule.specs.Measure.{depth, frames, Named, declared, used, nam
 use Rattle.rule.specs.Spelling.{same-role, room}
 use Rattle.rule.specs.Draft.{Draft}
 use Rattle.rule.specs.Name.{longName}
-use Rattle.rule.specs.Memory.{isDeclared, bad-number}
+use Rattle.rule.specs.Memory.{isDeclared, bad-number, many-decimals}
 use Rattle.rule.specs.declared.parts.Place.{Place}
 use Rattle.rule.specs.declared.parts.Role.{Role}
 
@@ -28,7 +28,12 @@ abbrev pub telling : Outcome → ℕ × ℕ
 telling (refused-by k p) = (k, p)
 telling (read-as fs) = (0, length fs)
 
-module _ (code value : Place → ℕ) where
+-- the place of the first number that is bad
+abbrev pub first-by : (Sized → Bool) → List Sized → Option Place
+first-by bad [] = none
+first-by bad (sized-by l p ∷ xs) = cond (bad (sized-by l p)) (some p) (first-by bad xs)
+
+module _ (code value decimals : Place → ℕ) where
   -- the names declared in a role, of those that stand in the list
   abbrev pub codes : Role → List Named → List ℕ
   codes r [] = []
@@ -50,21 +55,29 @@ module _ (code value : Place → ℕ) where
   first-name before [] = none
   first-name before (x ∷ xs) = cond (bad-name before x) (some (spot x)) (first-name (before ++ x ∷ []) xs)
 
-  -- "place the first"
+  -- 5: "place the first"
   abbrev pub first-number : List Sized → Option Place
-  first-number [] = none
-  first-number (sized-by l p ∷ xs) = cond (bad-number code value (sized-by l p)) (some p) (first-number xs)
+  first-number xs = first-by (bad-number code value decimals) xs
 
-  -- 5, then 6: "depth over 16 or over 64 frames"
+  -- 18: "place the first"
+  abbrev pub first-decimals : List Sized → Option Place
+  first-decimals xs = first-by (many-decimals code value decimals) xs
+
+  -- 18, then 6: "depth over 16 or over 64 frames"
+  abbrev pub after-decimals : Rule → Option Place → Outcome
+  after-decimals x (some p) = refused-by 18 (p .start)
+  after-decimals x none = cond (ltb depthLimit (depth x)) (refused-by 6 0) (cond (ltb frameLimit (length (frames x))) (refused-by 6 0) (read-as (frames x)))
+
+  -- 5, then the rest
   abbrev pub after-number : Rule → Option Place → Outcome
   after-number x (some p) = refused-by 5 (p .start)
-  after-number x none = cond (ltb depthLimit (depth x)) (refused-by 6 0) (cond (ltb frameLimit (length (frames x))) (refused-by 6 0) (read-as (frames x)))
+  after-number x none = after-decimals x (first-decimals (numbers x))
 
   -- 4, then the rest
   abbrev pub after-name : Rule → Option Place → Outcome
   after-name x (some p) = refused-by 4 (p .start)
   after-name x none = after-number x (first-number (numbers x))
 
-  -- 4, then 5, then 6
+  -- 4, then 5, then 18, then 6
   abbrev pub outcome : Rule → Outcome
   outcome x = after-name x (first-name [] (names x))

@@ -101,10 +101,10 @@ few Event m tb b c e = let h = room-left c 8 (listed tb 0 (min 8 (m .events))) e
 few Note m tb b c e = let h = room-left c 4 (listed tb 8 (min 4 (m .notes))) e in let l = length-listed tb 8 (min 4 (m .notes)) in omega arith
 
 abbrev pub with-event : Registers → Registers
-with-event m = record { count = m .count; deep = m .deep; number = m .number; name = m .name; events = m .events + 1; notes = m .notes }
+with-event m = record { count = m .count; deep = m .deep; number = m .number; decimals = m .decimals; name = m .name; events = m .events + 1; notes = m .notes }
 
 abbrev pub with-note : Registers → Registers
-with-note m = record { count = m .count; deep = m .deep; number = m .number; name = m .name; events = m .events; notes = m .notes + 1 }
+with-note m = record { count = m .count; deep = m .deep; number = m .number; decimals = m .decimals; name = m .name; events = m .events; notes = m .notes + 1 }
 
 pub one-event : (m : Registers) (tb b : List ℕ) (c : ℕ) → length tb ≡ 12 → m .events < 8 → mem (with-event m) (set tb (m .events) c) b ≡ enlist Event c (mem m tb b)
 unfolding mem

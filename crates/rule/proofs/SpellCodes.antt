@@ -12,7 +12,7 @@ use Rattle.rule.specs.Name.{longName, nameCode}
 use Rattle.rule.specs.Token.{same}
 use Rattle.rule.specs.Measure.{Named, declared, used}
 use Rattle.rule.proofs.ReaderRefusals.{codes}
-use Rattle.rule.specs.Memory.{codeAt, valueAt, position, isDeclared}
+use Rattle.rule.specs.Memory.{codeAt, valueAt, decimalsAt, position, isDeclared}
 use Rattle.rule.specs.declared.parts.Role.{Role}
 use Rattle.rule.proofs.TokenWords.{same-refl, same-eq}
 use Rattle.rule.proofs.TokenCodes.{long-code, short-below, names-apart}
@@ -48,7 +48,7 @@ ShortIn text (used r p) = Unit {0}
 
 module _ (text : List ℕ) where
   abbrev coded : Role → List Named → List ℕ
-  coded r l = codes (codeAt text) (valueAt text) r l
+  coded r l = codes (codeAt text) (valueAt text) (decimalsAt text) r l
 
   pub count-same : (r : Role) (l : List Named) → length (coded r l) ≡ length (wordsOf text r l)
   count-same r [] = refl

@@ -10,7 +10,7 @@ use lib.Dec.{leb}
 use lib.ListN.{length}
 use Rattle.rule.specs.Measure.{Named, declared, used}
 use Rattle.rule.proofs.ReaderRefusals.{codes, bad-name, first-name}
-use Rattle.rule.specs.Memory.{codeAt, valueAt, position, isDeclared}
+use Rattle.rule.specs.Memory.{codeAt, valueAt, decimalsAt, position, isDeclared}
 use Rattle.rule.specs.declared.parts.Place.{Place}
 use Rattle.rule.specs.declared.parts.Role.{Role}
 use Rattle.rule.proofs.TokenCodes.{long-code}
@@ -29,18 +29,18 @@ module _ (text : List ℕ) where
   short p l e = record { lower = l; few = ltb-false 12 (length (letters text p)) e }
 
   -- bad by codes exactly if bad by letters, after good names
-  bad-same : (before : List Named) (x : Named) → All (ShortIn text) before → Lettered x → bad-name (codeAt text) (valueAt text) before x ≡ badName text before x
+  bad-same : (before : List Named) (x : Named) → All (ShortIn text) before → Lettered x → bad-name (codeAt text) (valueAt text) (decimalsAt text) before x ≡ badName text before x
   bad-same before (declared r p) h l = rw (long-same (letters text p) l) (go (longAt text p) refl)
     where
       go : (t : Bool) → longAt text p ≡ t
-          → cond t true (cond (isDeclared (codeAt text p) (codes (codeAt text) (valueAt text) r before)) true (leb (room r) (length (codes (codeAt text) (valueAt text) r before))))
+          → cond t true (cond (isDeclared (codeAt text p) (codes (codeAt text) (valueAt text) (decimalsAt text) r before)) true (leb (room r) (length (codes (codeAt text) (valueAt text) (decimalsAt text) r before))))
           ≡ cond t true (cond (amongWords (letters text p) (wordsOf text r before)) true (leb (room r) (length (wordsOf text r before))))
       go true e = refl
       go false e = rw (among-same text (letters text p) (short p l e) r before h, count-same text r before)
   bad-same before (used r p) h l = go (longAt text p) refl
     where
       go : (t : Bool) → longAt text p ≡ t
-          → cond (isDeclared (codeAt text p) (codes (codeAt text) (valueAt text) r before)) false true ≡ cond t true (cond (amongWords (letters text p) (wordsOf text r before)) false true)
+          → cond (isDeclared (codeAt text p) (codes (codeAt text) (valueAt text) (decimalsAt text) r before)) false true ≡ cond t true (cond (amongWords (letters text p) (wordsOf text r before)) false true)
       go true e = rw (long-code (letters text p) (ltb-true 12 (length (letters text p)) e), long-absent text r before h)
       go false e = rw (among-same text (letters text p) (short p l e) r before h)
 
@@ -62,13 +62,13 @@ module _ (text : List ℕ) where
   declared-short (used r p) s = tt
 
   -- 4: the same first name
-  pub first-name-same : (before xs : List Named) → All (ShortIn text) before → All Lettered xs → first-name (codeAt text) (valueAt text) before xs ≡ firstName text before xs
+  pub first-name-same : (before xs : List Named) → All (ShortIn text) before → All Lettered xs → first-name (codeAt text) (valueAt text) (decimalsAt text) before xs ≡ firstName text before xs
   first-name-same before [] h l = refl
   first-name-same before (x ∷ xs) h l = rw (bad-same before x h (l .0)) (go (badName text before x) refl (λ g. first-name-same (before ++ x ∷ []) xs g (l .1)))
     where
       go : (t : Bool) → badName text before x ≡ t
-          → (All (ShortIn text) (before ++ x ∷ []) → first-name (codeAt text) (valueAt text) (before ++ x ∷ []) xs ≡ firstName text (before ++ x ∷ []) xs)
-          → cond t (some (nameAt x)) (first-name (codeAt text) (valueAt text) (before ++ x ∷ []) xs) ≡ cond t (some (nameAt x)) (firstName text (before ++ x ∷ []) xs)
+          → (All (ShortIn text) (before ++ x ∷ []) → first-name (codeAt text) (valueAt text) (decimalsAt text) (before ++ x ∷ []) xs ≡ firstName text (before ++ x ∷ []) xs)
+          → cond t (some (nameAt x)) (first-name (codeAt text) (valueAt text) (decimalsAt text) (before ++ x ∷ []) xs) ≡ cond t (some (nameAt x)) (firstName text (before ++ x ∷ []) xs)
       go true e ih = refl
       go false e ih = ih (all-join (ShortIn text) before (x ∷ []) h (declared-short x (good-short before x (l .0) e), tt))
 
@@ -84,8 +84,8 @@ module _ (text : List ℕ) where
 
   -- where no name is bad, the code of each is found among the codes where its letters are among the words
   pub name-number-same : (xs : List Named) → All Lettered xs → firstName text [] xs ≡ none
-      → All (λ n. (r : Role) → position (codeAt text (nameAt n)) (codes (codeAt text) (valueAt text) r xs) ≡ numberIn (letters text (nameAt n)) (wordsOf text r xs)) xs
+      → All (λ n. (r : Role) → position (codeAt text (nameAt n)) (codes (codeAt text) (valueAt text) (decimalsAt text) r xs) ≡ numberIn (letters text (nameAt n)) (wordsOf text r xs)) xs
   name-number-same xs l e =
       let s = all-short [] xs l e in
       let d = all-map (λ n. Short (letters text (nameAt n))) (ShortIn text) xs declared-short s in
-      all-map (λ n. Short (letters text (nameAt n))) (λ n. (r : Role) → position (codeAt text (nameAt n)) (codes (codeAt text) (valueAt text) r xs) ≡ numberIn (letters text (nameAt n)) (wordsOf text r xs)) xs (λ n h r. position-same text (letters text (nameAt n)) h r xs d) s
+      all-map (λ n. Short (letters text (nameAt n))) (λ n. (r : Role) → position (codeAt text (nameAt n)) (codes (codeAt text) (valueAt text) (decimalsAt text) r xs) ≡ numberIn (letters text (nameAt n)) (wordsOf text r xs)) xs (λ n h r. position-same text (letters text (nameAt n)) h r xs d) s

@@ -1,7 +1,8 @@
 -- A text is spelled by one tree only: two trees of one text have one shape, and a tree is read back from its shape and its words,
--- which tell "!" from "{" and "abs" from "(". Assumes nothing.
+-- which tell "!" from "{", "abs" from "(" and a number from a decimal. Assumes nothing.
 use mathlib.Core.Path.{_≡_, refl, ap, ap₂, sym, _∙_}
 use mathlib.Core.Bool.{false, cond}
+use mathlib.Core.Option.{Option, none, some}
 use mathlib.Core.List.{List, [], _∷_}
 use Prim.Native.Nat.{ℕ}
 use native.Mathlib.Omega.{arith}
@@ -9,25 +10,27 @@ use lib.Dec.{eqb}
 use Rattle.rule.specs.declared.Token.{Token}
 use Rattle.rule.specs.declared.parts.Place.{Place}
 use Rattle.rule.specs.declared.parts.Sign.the-variants.{Plus, Minus}
-use Rattle.rule.specs.declared.parts.Scale.{Scale}
-use Rattle.rule.specs.declared.parts.Scale.the-variants.{Once, Times}
+use Rattle.rule.specs.declared.parts.Multiple.{Multiple}
+use Rattle.rule.specs.declared.parts.Multiple.the-variants.{Once, Times}
 use Rattle.rule.specs.declared.parts.Shift.{Shift}
 use Rattle.rule.specs.declared.parts.Shift.the-variants.{Unshifted, By}
 use Rattle.rule.specs.Frames.{Connective}
 use Rattle.rule.specs.Token.{arrowKind, barsKind, ampersandsKind}
 use Rattle.rule.specs.Grammar.{semicolon, bang, closeBrace, openParen, closeParen, closeBracket, star, plusMark, minusMark}
-use Rattle.rule.specs.Grammar.{Word, mark, name, number, Rel, equal, unequal, less, at-most, more, at-least, relMark, rels, signMark, signs, byMark, spellCond, spellDisj, spellConj, spellUnit, spellSum, spellProd, spellFactor, spellNames, yield, words}
+use Rattle.rule.specs.Grammar.{Word, mark, name, number, Rel, equal, unequal, less, at-most, more, at-least, relMark, rels, signMark, signs, byMark, spellCond, spellDisj, spellConj, spellUnit, spellSum, spellProd, spellFactor, spellNames, spellClause, yield, words}
 use Rattle.rule.specs.Grammar.{index, Cond, a-disj, implies, Disj, a-conj, or, Conj, a-unit, and, CUnit, not, group, relation, Sum, a-prod, add, Prod, a-factor, multiply, Factor, literal, var, parens, absolute, reference, Rule, rule}
 use Rattle.rule.specs.Tree
+use Rattle.rule.specs.Scale.{headOf}
 use Rattle.rule.specs.Draft.{Draft}
 use Rattle.rule.specs.Measure.{depth, frames}
 use Rattle.rule.specs.Meaning.{meaningCond, meaningDisj, meaningConj, meaningUnit, meaningSum, meaningProd, meaningFactor, meaningOf}
 use Rattle.rule.proofs.ReaderFrames.{each}
 use Rattle.rule.proofs.GrammarRules.{alike}
+use Rattle.rule.proofs.GrammarTrees.{not-clause}
 use Rattle.rule.proofs.GrammarMeasures.{note-frame, frames-read}
 use Rattle.rule.proofs.FrameDrafts.{frameOf}
 use Rattle.rule.proofs.FrameMeanings.{postfix-frames}
-use Rattle.rule.proofs.FrameParsing.{unique}
+use Rattle.rule.proofs.FrameParsing.{suffix-unique}
 use Rattle.rule.proofs.SpellTurn.{turnCond, turnDisj, turnConj, turnUnit, turnSum, turnProd, turnFactor, turn, turnedTokens, spells-turned}
 
 -- ---- the shape of a tree: what the turned tree means, with 0 for every name and number
@@ -35,35 +38,36 @@ abbrev blank : Place → ℕ
 blank p = 0
 
 abbrev shapeCond : Cond → Tree.Cond
-shapeCond x = meaningCond blank blank blank (turnCond x)
+shapeCond x = meaningCond blank blank blank blank (turnCond x)
 
 abbrev shapeDisj : Disj → Tree.Cond
-shapeDisj x = meaningDisj blank blank blank (turnDisj x)
+shapeDisj x = meaningDisj blank blank blank blank (turnDisj x)
 
 abbrev shapeConj : Conj → Tree.Cond
-shapeConj x = meaningConj blank blank blank (turnConj x)
+shapeConj x = meaningConj blank blank blank blank (turnConj x)
 
 abbrev shapeUnit : CUnit → Tree.Cond
-shapeUnit x = meaningUnit blank blank blank (turnUnit x)
+shapeUnit x = meaningUnit blank blank blank blank (turnUnit x)
 
 abbrev shapeSum : Sum → Tree.Sum
-shapeSum x = meaningSum blank blank blank (turnSum x)
+shapeSum x = meaningSum blank blank blank blank (turnSum x)
 
 abbrev shapeProd : Prod → Tree.Sum
-shapeProd x = meaningProd blank blank blank (turnProd x)
+shapeProd x = meaningProd blank blank blank blank (turnProd x)
 
 abbrev shapeFactor : Factor → Tree.Sum
-shapeFactor x = meaningFactor blank blank blank (turnFactor x)
+shapeFactor x = meaningFactor blank blank blank blank (turnFactor x)
 
 abbrev shape : Rule → Tree.Cond
-shape x = meaningOf blank blank blank (turn x)
+shape x = meaningOf blank blank blank blank (turn x) .condition
 
 -- two trees of one text have the same, since the frames of the turned trees are the same
 shape-same : (x y : Rule) (ts : List Token) → yield x ≡ words ts → yield y ≡ words ts → shape x ≡ shape y
 shape-same x y ts e f =
     let both = alike (List Draft) note-frame 0 [] (turn x) (turn y) (turnedTokens false ts) (spells-turned x ts e) (spells-turned y ts f) in
     let same : frames (turn x) ≡ frames (turn y) = sym (frames-read (turn x)) ∙ (both ∙ frames-read (turn y)) in
-    unique (shape x) (shape y) (postfix-frames blank blank blank (turn x) ∙ (ap (each (frameOf blank blank blank)) same ∙ sym (postfix-frames blank blank blank (turn y))))
+    suffix-unique (headOf (meaningOf blank blank blank blank (turn x) .scale)) (headOf (meaningOf blank blank blank blank (turn y) .scale)) (shape x) (shape y)
+    (postfix-frames blank blank blank blank (turn x) ∙ (ap (each (frameOf blank blank blank blank)) same ∙ sym (postfix-frames blank blank blank blank (turn y))))
 
 -- ---- a tree is read back from its shape and its words: each function gives the tree, and the words after it
 abbrev rest : List Word → List Word
@@ -76,6 +80,7 @@ placeIn [] = record { start = 0; end = 0 }
 placeIn (mark k ∷ ws) = record { start = 0; end = 0 }
 placeIn (name p ∷ ws) = p
 placeIn (number p ∷ ws) = p
+placeIn (Word.decimal p ∷ ws) = p
 
 -- the kind of the first word, 0 for a name or a number or for none
 abbrev markIn : List Word → ℕ
@@ -83,12 +88,14 @@ markIn [] = 0
 markIn (mark k ∷ ws) = k
 markIn (name p ∷ ws) = 0
 markIn (number p ∷ ws) = 0
+markIn (Word.decimal p ∷ ws) = 0
 
-abbrev scaleIn : List Word → Scale × List Word
-scaleIn [] = (Once, [])
-scaleIn (mark k ∷ ws) = (Once, mark k ∷ ws)
-scaleIn (name p ∷ ws) = (Once, ws)
-scaleIn (number p ∷ ws) = (Times p, rest ws)
+abbrev multipleIn : List Word → Multiple × List Word
+multipleIn [] = (Once, [])
+multipleIn (mark k ∷ ws) = (Once, mark k ∷ ws)
+multipleIn (name p ∷ ws) = (Once, ws)
+multipleIn (number p ∷ ws) = (Times p, rest ws)
+multipleIn (Word.decimal p ∷ ws) = (Once, ws)
 
 abbrev shiftIn : List Word → Shift × List Word
 shiftIn ws = cond (eqb (markIn ws) closeBracket) (Unshifted, ws) (By (byMark signMark (markIn ws) (λ g. g) Plus signs) (placeIn (rest ws)), rest (rest ws))
@@ -96,9 +103,17 @@ shiftIn ws = cond (eqb (markIn ws) closeBracket) (Unshifted, ws) (By (byMark sig
 abbrev leaf : Factor → Sum
 leaf x = a-prod (a-factor x)
 
+-- a number or a decimal
+abbrev literalIn : List Word → Factor
+literalIn [] = var
+literalIn (mark k ∷ ws) = var
+literalIn (name p ∷ ws) = var
+literalIn (number p ∷ ws) = literal p
+literalIn (Word.decimal p ∷ ws) = Factor.decimal p
+
 abbrev referenceIn : List Word → Sum × List Word
 referenceIn ws =
-    let f = scaleIn (rest (rest (rest (rest ws)))) in
+    let f = multipleIn (rest (rest (rest (rest ws)))) in
     let o = shiftIn (rest (f .1)) in
     (leaf (reference (placeIn ws) (placeIn (rest (rest ws))) (index (f .0) (o .0))), rest (rest (o .1)))
 
@@ -112,7 +127,7 @@ factorIn (a-factor x) = x
 factorIn (multiply x y) = y
 
 abbrev sumBack : Tree.Sum → List Word → Sum × List Word
-sumBack (Tree.literal n) ws = (leaf (literal (placeIn ws)), rest ws)
+sumBack (Tree.literal d n) ws = (leaf (literalIn ws), rest ws)
 sumBack Tree.instance ws = (leaf var, rest ws)
 sumBack (Tree.reference r) ws = referenceIn ws
 sumBack (Tree.arithmetic o a b) ws =
@@ -136,6 +151,7 @@ mutual
 
   back-factor : (x : Factor) (r : List Word) → sumBack (shapeFactor x) (spellFactor x r) ≡ (leaf x, r)
   back-factor (literal p) r = refl
+  back-factor (Factor.decimal p) r = refl
   back-factor var r = refl
   back-factor (parens x) r = rw (back-sum x (mark closeParen ∷ r))
   back-factor (absolute x) r = rw (back-sum x (mark closeParen ∷ r))
@@ -226,11 +242,18 @@ same-names (p ∷ ps) (q ∷ qs) r s w = let (e, f) = same-names ps qs r s (behi
 same-cond : (c b : Cond) → shapeCond c ≡ shapeCond b → spellCond c [] ≡ spellCond b [] → c ≡ b
 same-cond c b k w = ap (λ (p : Cond × List Word). p .0) (sym (back-cond c []) ∙ (ap₂ condBack k w ∙ back-cond b []))
 
+same-clause : (k j : Option Place) (c b : Cond) → spellClause k (spellCond c []) ≡ spellClause j (spellCond b []) → (k ≡ j) × (spellCond c [] ≡ spellCond b [])
+same-clause none none c b w = (refl, w)
+same-clause none (some q) c b w = absurd (not-clause c _ w)
+same-clause (some p) none c b w = absurd (not-clause b _ (sym w))
+same-clause (some p) (some q) c b w = (ap some (cc (front (behind w))), behind (behind (behind w)))
+
 same-rule : (x y : Rule) → shape x ≡ shape y → yield x ≡ yield y → x ≡ y
-same-rule (rule e es n ns c) (rule d ds m ms b) k w =
+same-rule (rule e es n ns i c) (rule d ds m ms j b) k w =
     let (p, q) = same-names (e ∷ es) (d ∷ ds) _ _ (behind w) in
     let (u, v) = same-names (n ∷ ns) (m ∷ ms) _ _ (behind q) in
-    let g = same-cond c b k v in
+    let (o, z) = same-clause i j c b v in
+    let g = same-cond c b k z in
     cc
 
 -- two trees that spell the same tokens are one

@@ -2,6 +2,7 @@
 -- turned tree spells the turned tokens. For proofs/SpellTrees. Assumes nothing.
 use mathlib.Core.Path.{_≡_, refl, ap, sym, _∙_}
 use mathlib.Core.Bool.{Bool, true, false, cond}
+use mathlib.Core.Option.{Option, none, some}
 use mathlib.Core.List.{List, [], _∷_}
 use Prim.Native.Nat.{ℕ}
 use lib.Dec.{eqb}
@@ -10,10 +11,10 @@ use Rattle.rule.specs.declared.Token.{Token}
 use Rattle.rule.specs.declared.parts.Place.{Place}
 use Rattle.rule.specs.declared.parts.Sign.{Sign}
 use Rattle.rule.specs.declared.parts.Sign.the-variants.{Plus, Minus}
-use Rattle.rule.specs.declared.parts.Scale.the-variants.{Once, Times}
+use Rattle.rule.specs.declared.parts.Multiple.the-variants.{Once, Times}
 use Rattle.rule.specs.declared.parts.Shift.the-variants.{Unshifted, By}
 use Rattle.rule.specs.Class.{semicolon, star}
-use Rattle.rule.specs.Grammar.{bang, openBrace, openParen, Word, mark, name, number, Rel, equal, unequal, less, at-most, more, at-least, relMark, signMark, spellCond, spellDisj, spellConj, spellUnit, spellSum, spellProd, spellFactor, spellNames, yield, place, wordOf, words, index, Cond, a-disj, implies, Disj, a-conj, or, Conj, a-unit, and, CUnit, not, group, relation, Sum, a-prod, add, Prod, a-factor, multiply, Factor, literal, var, parens, absolute, reference, Rule, rule}
+use Rattle.rule.specs.Grammar.{bang, openBrace, openParen, Word, mark, name, number, Rel, equal, unequal, less, at-most, more, at-least, relMark, signMark, spellCond, spellDisj, spellConj, spellUnit, spellSum, spellProd, spellFactor, spellNames, spellClause, yield, place, wordOf, words, index, Cond, a-disj, implies, Disj, a-conj, or, Conj, a-unit, and, CUnit, not, group, relation, Sum, a-prod, add, Prod, a-factor, multiply, Factor, literal, var, parens, absolute, reference, Rule, rule}
 
 -- ---- the turned tree
 abbrev mutual
@@ -44,13 +45,14 @@ abbrev mutual
 
   pub turnFactor : Factor → Factor
   turnFactor (literal p) = literal p
+  turnFactor (Factor.decimal p) = Factor.decimal p
   turnFactor var = var
   turnFactor (parens x) = absolute (turnSum x)
   turnFactor (absolute x) = absolute (turnSum x)
   turnFactor (reference n e x) = reference n e x
 
 abbrev pub turn : Rule → Rule
-turn (rule e es n ns c) = rule e es n ns (turnCond c)
+turn (rule e es n ns k c) = rule e es n ns k (turnCond c)
 
 -- ---- the turned words
 -- the mark to put before a word, 0 for none; f: the word before it was a name or "abs"
@@ -58,11 +60,13 @@ abbrev pub before : Bool → Word → ℕ
 before f (mark k) = cond (eqb k openBrace) bang (cond (eqb k openParen) (cond f 0 absKind) 0)
 before f (name p) = 0
 before f (number p) = 0
+before f (Word.decimal p) = 0
 
 abbrev pub after : Word → Bool
 after (mark k) = eqb k absKind
 after (name p) = true
 after (number p) = false
+after (Word.decimal p) = false
 
 abbrev putWord : ℕ → List Word → List Word
 putWord k ws = cond (eqb k 0) ws (mark k ∷ ws)
@@ -111,6 +115,7 @@ mutual
 
   turned-factor : (x : Factor) (r : List Word) → turned false (spellFactor x r) ≡ spellFactor (turnFactor x) (turned false r)
   turned-factor (literal p) r = refl
+  turned-factor (Factor.decimal p) r = refl
   turned-factor var r = refl
   turned-factor (parens x) r = ap (λ (l : List Word). mark absKind ∷ mark openParen ∷ l) (turned-sum x _)
   turned-factor (absolute x) r = ap (λ (l : List Word). mark absKind ∷ mark openParen ∷ l) (turned-sum x _)
@@ -125,10 +130,14 @@ turned-names : (ps : List Place) (r : List Word) → turned true (spellNames ps 
 turned-names [] r = refl
 turned-names (p ∷ ps) r = ap (λ (l : List Word). name p ∷ l) (turned-names ps r)
 
+turned-clause : (k : Option Place) (r : List Word) → turned false (spellClause k r) ≡ spellClause k (turned false r)
+turned-clause none r = refl
+turned-clause (some p) r = refl
+
 turned-rule : (x : Rule) → turned false (yield x) ≡ yield (turn x)
-turned-rule (rule e es n ns c) =
+turned-rule (rule e es n ns k c) =
     ap (λ (l : List Word). mark eventsKind ∷ name e ∷ l)
-    (turned-names es _ ∙ ap (λ (l : List Word). spellNames es (mark semicolon ∷ mark notesKind ∷ name n ∷ l)) (turned-names ns _ ∙ ap (λ (l : List Word). spellNames ns (mark semicolon ∷ l)) (turned-cond c [])))
+    (turned-names es _ ∙ ap (λ (l : List Word). spellNames es (mark semicolon ∷ mark notesKind ∷ name n ∷ l)) (turned-names ns _ ∙ ap (λ (l : List Word). spellNames ns (mark semicolon ∷ l)) (turned-clause k (spellCond c []) ∙ ap (spellClause k) (turned-cond c []))))
 
 -- ---- the turned tokens
 abbrev pub putToken : ℕ → List Token → List Token
@@ -148,6 +157,7 @@ words-put f (mark k) ts = go (eqb k openBrace) (eqb k openParen) f
     go false false z = refl
 words-put f (name p) ts = refl
 words-put f (number p) ts = refl
+words-put f (Word.decimal p) ts = refl
 
 words-turned : (f : Bool) (ts : List Token) → words (turnedTokens f ts) ≡ turned f (words ts)
 words-turned f [] = refl

@@ -74,12 +74,12 @@ among-every f (x ∷ xs) b t e = go (eqb b x) refl (λ q. among-every f xs b (an
 
 -- the kind of a mark of one byte is no other token's
 abbrev low : ℕ → Bool
-low x = ltb 6 x && ltb x 130
+low x = ltb 8 x && ltb x 130
 
-one-low : (b : ℕ) → among oneByteMarks b ≡ true → (6 < b) × (b < 130)
+one-low : (b : ℕ) → among oneByteMarks b ≡ true → (8 < b) × (b < 130)
 one-low b e =
     let t = among-every low oneByteMarks b tt e in
-    (ltb→lt 6 b (and-l (ltb 6 b) (ltb b 130) t), ltb→lt b 130 (and-r (ltb 6 b) (ltb b 130) t))
+    (ltb→lt 8 b (and-l (ltb 8 b) (ltb b 130) t), ltb→lt b 130 (and-r (ltb 8 b) (ltb b 130) t))
 
 -- what is no mark of two bytes is a token of one byte
 pub one-width : (b : ℕ) → markWidth (oneByteMark b) ≡ 1
@@ -95,13 +95,13 @@ pub width-alone : (b : ℕ) → markWidth (longestMark b 0) ≡ 1
 unfolding longestMark
 width-alone b = simp and-false (one-width b)
 
-two-high : (b n : ℕ) → (twoByteMark b n ≡ 0 → ⊥) → 6 < twoByteMark b n
+two-high : (b n : ℕ) → (twoByteMark b n ≡ 0 → ⊥) → 8 < twoByteMark b n
 two-high b n ne = go (eqb b 45 && eqb n 62) (eqb b 124 && eqb n 124) (eqb b 38 && eqb n 38) (eqb b 33 && eqb n 61) (eqb b 60 && eqb n 61) (eqb b 62 && eqb n 61) ne
   where
     kind : (t u v w x y : Bool) → ℕ
     kind t u v w x y = cond t arrowKind (cond u barsKind (cond v ampersandsKind (cond w unequalKind (cond x atMostKind (cond y atLeastKind 0)))))
 
-    go : (t u v w x y : Bool) → (kind t u v w x y ≡ 0 → ⊥) → 6 < kind t u v w x y
+    go : (t u v w x y : Bool) → (kind t u v w x y ≡ 0 → ⊥) → 8 < kind t u v w x y
     go true u v w x y ne = omega arith
     go false true v w x y ne = omega arith
     go false false true w x y ne = omega arith
@@ -110,12 +110,12 @@ two-high b n ne = go (eqb b 45 && eqb n 62) (eqb b 124 && eqb n 124) (eqb b 38 &
     go false false false false false true ne = omega arith
     go false false false false false false ne = absurd (ne refl)
 
--- a mark's kind is neither that of the end nor a word's or a number's
-pub mark-high : (b n : ℕ) → 6 < longestMark b n
+-- a mark's kind is neither that of the end nor a word's, a number's or a decimal's
+pub mark-high : (b n : ℕ) → 8 < longestMark b n
 unfolding longestMark
 mark-high b n = go (eqb (twoByteMark b n) 0) refl (among oneByteMarks b) refl
   where
-    go : (t : Bool) → eqb (twoByteMark b n) 0 ≡ t → (u : Bool) → among oneByteMarks b ≡ u → 6 < cond t (cond u b 255) (twoByteMark b n)
+    go : (t : Bool) → eqb (twoByteMark b n) 0 ≡ t → (u : Bool) → among oneByteMarks b ≡ u → 8 < cond t (cond u b 255) (twoByteMark b n)
     go true e true q = one-low b q .0
     go true e false q = omega arith
     go false e u q = two-high b n (eqb-false _ _ e)

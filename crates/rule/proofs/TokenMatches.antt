@@ -11,13 +11,15 @@ use lib.Dec.{eqb, ltb}
 use lib.ListN.{length, take, drop, getD, length-drop}
 use lib.Seq.{getD-drop}
 use Rattle.numbers.proofs.Bools.{true-false}
-use Rattle.rule.specs.Class.{letter, digit, blank, mark, foreign, among, oneByteMarks, classOf, span}
-use Rattle.rule.specs.Token.{endKind, foreignKind, twoByteMark, oneByteMark, longestMark, markWidth, tokenKind, widthOf, past, tokenHere, tokenAt, tokensIn, tokensFrom, tokens}
+use Rattle.rule.specs.Class.{letter, digit, blank, mark, foreign, point, among, oneByteMarks, classOf, span}
+use Rattle.rule.specs.Token.{endKind, numberKind, decimalKind, foreignKind, wordKind, twoByteMark, oneByteMark, longestMark, markWidth, fractionOf, tokenKind, widthOf, past, tokenHere, tokenAt}
+use Rattle.rule.specs.Token.{Mode, declares, next, takesPoints, tokenIn, tokensIn, tokensFrom, tokens}
 use Rattle.rule.specs.Token.{Quoted, of-one-byte, arrow, bars, ampersands, unequal, at-most, at-least, LongestMatch, in-quoted, in-none, OfToken}
 use Rattle.rule.specs.declared.Token.{Token}
 use Rattle.rule.proofs.TokenSpans.{span-class, span-stops}
 use Rattle.rule.proofs.TokenMarks.{width-some, one-width}
-use Rattle.rule.proofs.TokenLists.{here, moves, spans, at-end, gap-blank}
+use Rattle.rule.proofs.TokenFractions.{fraction-told}
+use Rattle.rule.proofs.TokenLists.{here, moves-in, spans-in, at-end-in, starts-alike, ends-alike, gap-blank}
 
 -- ---- the marks of two bytes
 -- two bytes are no mark of two, or are quoted
@@ -134,39 +136,39 @@ module _ (text : List ℕ) where
       in-quoted (rw (n, e) q) (λ m j r h. rw n (f m j r (subst (λ (z : List ℕ). take (length m) z ≡ m) e h)))
   build s k w l e (inr (h, i, f)) = in-none h (rw i) (λ m j r g. f m j r (subst (λ (z : List ℕ). take (length m) z ≡ m) e g))
 
-  mark-here : (s : ℕ) (l : List ℕ) → drop s text ≡ l → (length l ≡ 0 → ⊥) → classOf (getD l 0 0) ≡ mark → LongestMatch text (tokenHere s l)
+  mark-here : (points : Bool) (s : ℕ) (l : List ℕ) → drop s text ≡ l → (length l ≡ 0 → ⊥) → classOf (getD l 0 0) ≡ mark → LongestMatch text (tokenHere points s l)
   unfolding tokenHere tokenKind widthOf
-  mark-here s [] e n c = absurd (n refl)
-  mark-here s (b ∷ bs) e n c =
+  mark-here points s [] e n c = absurd (n refl)
+  mark-here points s (b ∷ bs) e n c =
       rw (ne-eqb (classOf b) letter (λ p. omega (arith, sym p ∙ c)), ne-eqb (classOf b) digit (λ p. omega (arith, sym p ∙ c)), eq-eqb (classOf b) mark c)
       (build s (longestMark b (getD bs 0 0)) (markWidth (longestMark b (getD bs 0 0))) (b ∷ bs) e (matches b bs))
 
-  foreign-here : (s : ℕ) (l : List ℕ) → (length l ≡ 0 → ⊥) → classOf (getD l 0 0) ≡ foreign → (tokenHere s l .kind ≡ foreignKind) × (tokenHere s l .end ≡ s + 1)
+  foreign-here : (points : Bool) (s : ℕ) (l : List ℕ) → (length l ≡ 0 → ⊥) → classOf (getD l 0 0) ≡ foreign → (tokenHere points s l .kind ≡ foreignKind) × (tokenHere points s l .end ≡ s + 1)
   unfolding tokenHere tokenKind widthOf
-  foreign-here s [] n c = absurd (n refl)
-  foreign-here s (b ∷ bs) n c =
+  foreign-here points s [] n c = absurd (n refl)
+  foreign-here points s (b ∷ bs) n c =
       rw (ne-eqb (classOf b) letter (λ p. omega (arith, sym p ∙ c)), ne-eqb (classOf b) digit (λ p. omega (arith, sym p ∙ c)), ne-eqb (classOf b) mark (λ p. omega (arith, sym p ∙ c)))
       (refl, refl)
 
-  module _ (at : ℕ) (inside : tokenAt text at .start < length text) where
+  module _ (points : Bool) (at : ℕ) (inside : tokenAt points text at .start < length text) where
     -- it stands where the blanks end
-    starts : tokenAt text at .start ≡ past text at
+    starts : tokenAt points text at .start ≡ past text at
     unfolding tokenAt
-    starts = here (past text at) (drop (past text at) text) .0
+    starts = here points (past text at) (drop (past text at) text) .0
 
     some-left : length (drop (past text at) text) ≡ 0 → ⊥
     some-left e = omega (arith, length-drop (past text at) text, starts, inside)
 
-    first-class : {c : ℕ} → classOf (getD text (tokenAt text at .start) 0) ≡ c → classOf (getD (drop (past text at) text) 0 0) ≡ c
+    first-class : {c : ℕ} → classOf (getD text (tokenAt points text at .start) 0) ≡ c → classOf (getD (drop (past text at) text) 0 0) ≡ c
     first-class e = rw (getD-drop, add-zero) (rw starts at e)
 
-    pub marks-longest : classOf (getD text (tokenAt text at .start) 0) ≡ mark → LongestMatch text (tokenAt text at)
+    pub marks-longest : classOf (getD text (tokenAt points text at .start) 0) ≡ mark → LongestMatch text (tokenAt points text at)
     unfolding tokenAt
-    marks-longest c = mark-here (past text at) (drop (past text at) text) refl some-left (first-class c)
+    marks-longest c = mark-here points (past text at) (drop (past text at) text) refl some-left (first-class c)
 
-    pub foreign-alone : classOf (getD text (tokenAt text at .start) 0) ≡ foreign → (tokenAt text at .kind ≡ foreignKind) × (tokenAt text at .end ≡ tokenAt text at .start + 1)
+    pub foreign-alone : classOf (getD text (tokenAt points text at .start) 0) ≡ foreign → (tokenAt points text at .kind ≡ foreignKind) × (tokenAt points text at .end ≡ tokenAt points text at .start + 1)
     unfolding tokenAt
-    foreign-alone c = rw starts (foreign-here (past text at) (drop (past text at) text) some-left (first-class c))
+    foreign-alone c = rw starts (foreign-here points (past text at) (drop (past text at) text) some-left (first-class c))
 
 -- ---- the bytes of a token
 -- the second byte of a mark of two bytes is a mark byte
@@ -181,31 +183,104 @@ second-class at-most e = refl
 second-class at-least e = refl
 
 -- none of a token's bytes is a blank, where its first is none
-mark-solid : (b : ℕ) (bs : List ℕ) (j : ℕ) → suc j < markWidth (longestMark b (getD bs 0 0)) → classOf (getD bs j 0) ≡ blank → ⊥
-mark-solid b bs j h c = by-two (two b (getD bs 0 0))
+mark-second : (b : ℕ) (bs : List ℕ) (j : ℕ) → suc j < markWidth (longestMark b (getD bs 0 0)) → classOf (getD bs j 0) ≡ mark
+mark-second b bs j h = by-two (two b (getD bs 0 0))
   where
-    by-two : Two b (getD bs 0 0) (twoByteMark b (getD bs 0 0)) → ⊥
-    by-two (inl z) = omega (arith, ap markWidth (is-short b bs z), one-width b)
+    by-two : Two b (getD bs 0 0) (twoByteMark b (getD bs 0 0)) → classOf (getD bs j 0) ≡ mark
+    by-two (inl z) = absurd (omega (arith, ap markWidth (is-short b bs z), one-width b))
     by-two (inr (q, w)) =
         let n : markWidth (longestMark b (getD bs 0 0)) ≤ 2 = width-some (longestMark b (getD bs 0 0)) .1 in
         let i : j ≡ 0 = omega arith in
-        omega (arith, sym (second-class q refl) ∙ subst (λ (k : ℕ). classOf (getD bs k 0) ≡ blank) i c)
+        rw i (second-class q refl)
 
-solid : (b : ℕ) (bs : List ℕ) → (classOf b ≡ blank → ⊥) → (j : ℕ) → j < widthOf b bs → classOf (getD (b ∷ bs) j 0) ≡ blank → ⊥
-unfolding widthOf
-solid b bs n zero h c = n c
-solid b bs n (suc j) h c = go (eqb (classOf b) letter) (eqb (classOf b) digit) (eqb (classOf b) mark) h
+point-foreign : classOf point ≡ foreign
+unfolding classOf
+point-foreign = refl
+
+-- nor of a point and digits after digits
+fraction-solid : (points : Bool) (bs : List ℕ) (j : ℕ) → span digit bs ≤ j → j < span digit bs + fractionOf points bs → classOf (getD bs j 0) ≡ blank → ⊥
+fraction-solid false bs j k h c = omega arith
+fraction-solid true bs j k h c =
+    let n : span digit bs + (j - span digit bs) ≡ j = omega arith in
+    go (j - span digit bs) (drop (span digit bs) bs) (rw (getD-drop, n)) (fraction-told (drop (span digit bs) bs) (j - span digit bs) (omega arith))
   where
-    go : (t u v : Bool) → suc j < cond t (1 + span letter bs) (cond u (1 + span digit bs) (cond v (markWidth (longestMark b (getD bs 0 0))) 1)) → ⊥
-    go true u v l = omega (arith, sym (span-class letter bs j (omega arith)) ∙ c)
-    go false true v l = omega (arith, sym (span-class digit bs j (omega arith)) ∙ c)
-    go false false true l = mark-solid b bs j l c
-    go false false false l = omega arith
+    go : (i : ℕ) (l : List ℕ) → getD l i 0 ≡ getD bs j 0 → ((i ≡ 0) × (getD l 0 0 ≡ point) × (classOf (getD l 1 0) ≡ digit)) ⊎ ((0 < i) × (classOf (getD l i 0) ≡ digit)) → ⊥
+    go i l e (inl (z, p, d)) =
+        let f : point ≡ getD bs j 0 = sym p ∙ (rw z at e) in
+        omega (arith, sym point-foreign ∙ (ap classOf f ∙ c))
+    go i l e (inr (z, d)) = omega (arith, sym d ∙ (ap classOf e ∙ c))
 
-solid-here : (s : ℕ) (l : List ℕ) → (classOf (getD l 0 0) ≡ blank → ⊥) → (j : ℕ) → s + j < tokenHere s l .end → classOf (getD l j 0) ≡ blank → ⊥
+solid : (points : Bool) (b : ℕ) (bs : List ℕ) → (classOf b ≡ blank → ⊥) → (j : ℕ) → j < widthOf points b bs → classOf (getD (b ∷ bs) j 0) ≡ blank → ⊥
+unfolding widthOf
+solid points b bs n zero h c = n c
+solid points b bs n (suc j) h c = go (eqb (classOf b) letter) (eqb (classOf b) digit) (eqb (classOf b) mark) (ltb j (span digit bs)) refl h
+  where
+    go : (t u v w : Bool) → ltb j (span digit bs) ≡ w → suc j < cond t (1 + span letter bs) (cond u (1 + span digit bs + fractionOf points bs) (cond v (markWidth (longestMark b (getD bs 0 0))) 1)) → ⊥
+    go true u v w e l = omega (arith, sym (span-class letter bs j (omega arith)) ∙ c)
+    go false true v true e l = omega (arith, sym (span-class digit bs j (ltb-true j (span digit bs) e)) ∙ c)
+    go false true v false e l = fraction-solid points bs j (ltb-false j (span digit bs) e) (omega arith) c
+    go false false true w e l = omega (arith, sym (mark-second b bs j l) ∙ c)
+    go false false false w e l = omega arith
+
+solid-here : (points : Bool) (s : ℕ) (l : List ℕ) → (classOf (getD l 0 0) ≡ blank → ⊥) → (j : ℕ) → s + j < tokenHere points s l .end → classOf (getD l j 0) ≡ blank → ⊥
 unfolding tokenHere
-solid-here s [] n j h c = omega arith
-solid-here s (b ∷ bs) n j h c = solid b bs n j (omega arith) c
+solid-here points s [] n j h c = omega arith
+solid-here points s (b ∷ bs) n j h c = solid points b bs n j (omega arith) c
+
+-- ---- a point is in a decimal, or a token by itself that no rule has
+module _ (points : Bool) (b : ℕ) (bs : List ℕ) where
+  first-other : (c : ℕ) → (c ≡ foreign → ⊥) → classOf b ≡ c → b ≡ point → ⊥
+  first-other c n e p = n (sym e ∙ (ap classOf p ∙ point-foreign))
+
+  later-other : (c j : ℕ) → (c ≡ foreign → ⊥) → classOf (getD bs j 0) ≡ c → getD bs j 0 ≡ point → ⊥
+  later-other c j n e p = n (sym e ∙ (ap classOf p ∙ point-foreign))
+
+  abbrev Point : ℕ → ℕ → ℕ → Type 0
+  Point k w j = ((k ≡ foreignKind) × (j ≡ 0) × (w ≡ 1)) ⊎ (k ≡ decimalKind)
+
+  point-told : (j : ℕ) → j < widthOf points b bs → getD (b ∷ bs) j 0 ≡ point → Point (tokenKind points b bs) (widthOf points b bs) j
+  unfolding tokenKind widthOf
+  point-told j = go (eqb (classOf b) letter) refl (eqb (classOf b) digit) refl (eqb (classOf b) mark) refl (eqb (fractionOf points bs) 0) refl j
+    where
+      go : (t : Bool) → eqb (classOf b) letter ≡ t → (u : Bool) → eqb (classOf b) digit ≡ u → (v : Bool) → eqb (classOf b) mark ≡ v → (w : Bool) → eqb (fractionOf points bs) 0 ≡ w → (i : ℕ)
+          → i < cond t (1 + span letter bs) (cond u (1 + span digit bs + fractionOf points bs) (cond v (markWidth (longestMark b (getD bs 0 0))) 1))
+          → getD (b ∷ bs) i 0 ≡ point
+          → Point (cond t (wordKind (b ∷ take (span letter bs) bs)) (cond u (cond w numberKind decimalKind) (cond v (longestMark b (getD bs 0 0)) foreignKind)))
+          (cond t (1 + span letter bs) (cond u (1 + span digit bs + fractionOf points bs) (cond v (markWidth (longestMark b (getD bs 0 0))) 1))) i
+      go true e u f v g w h zero l p = absurd (first-other letter (λ z. omega arith) (eqb-true _ _ e) p)
+      go true e u f v g w h (suc i) l p = absurd (later-other letter i (λ z. omega arith) (span-class letter bs i (omega arith)) p)
+      go false e true f v g true h zero l p = absurd (first-other digit (λ z. omega arith) (eqb-true _ _ f) p)
+      go false e true f v g true h (suc i) l p = absurd (later-other digit i (λ z. omega arith) (span-class digit bs i (omega (arith, eqb-true (fractionOf points bs) 0 h))) p)
+      go false e true f v g false h i l p = inr refl
+      go false e false f true g w h zero l p = absurd (first-other mark (λ z. omega arith) (eqb-true _ _ g) p)
+      go false e false f true g w h (suc i) l p = absurd (later-other mark i (λ z. omega arith) (mark-second b bs i l) p)
+      go false e false f false g w h i l p = inl (refl, omega arith, refl)
+
+point-here : (points : Bool) (s : ℕ) (l : List ℕ) (j : ℕ) → s + j < tokenHere points s l .end → getD l j 0 ≡ point
+    → ((tokenHere points s l .kind ≡ foreignKind) × (j ≡ 0) × (tokenHere points s l .end ≡ s + 1)) ⊎ (tokenHere points s l .kind ≡ decimalKind)
+unfolding tokenHere
+point-here points s [] j h p = absurd (omega arith)
+point-here points s (b ∷ bs) j h p = go (point-told points b bs j (omega arith) p)
+  where
+    go : ((tokenKind points b bs ≡ foreignKind) × (j ≡ 0) × (widthOf points b bs ≡ 1)) ⊎ (tokenKind points b bs ≡ decimalKind) → ((tokenKind points b bs ≡ foreignKind) × (j ≡ 0) × (s + widthOf points b bs ≡ s + 1)) ⊎ (tokenKind points b bs ≡ decimalKind)
+    go (inl (k, z, w)) = inl (k, z, rw w)
+    go (inr k) = inr k
+
+pub point-alone : (points : Bool) (text : List ℕ) (at k : ℕ) → tokenAt points text at .start ≤ k → k < tokenAt points text at .end → getD text k 0 ≡ point
+    → ((tokenAt points text at .kind ≡ foreignKind) × (tokenAt points text at .start ≡ k) × (tokenAt points text at .end ≡ k + 1)) ⊎ (tokenAt points text at .kind ≡ decimalKind)
+unfolding tokenAt
+point-alone points text at k l h p =
+    let s = past text at in
+    let r = here points s (drop s text) in
+    let q : s + (k - s) ≡ k = omega arith in
+    go (point-here points s (drop s text) (k - s) (omega arith) (getD-drop s text (k - s) 0 ∙ rw q p))
+  where
+    t : Token
+    t = tokenHere points (past text at) (drop (past text at) text)
+
+    go : ((t .kind ≡ foreignKind) × (k - past text at ≡ 0) × (t .end ≡ past text at + 1)) ⊎ (t .kind ≡ decimalKind) → ((t .kind ≡ foreignKind) × (t .start ≡ k) × (t .end ≡ k + 1)) ⊎ (t .kind ≡ decimalKind)
+    go (inl (f, z, e)) = let r = here points (past text at) (drop (past text at) text) in inl (f, omega arith, omega arith)
+    go (inr f) = inr f
 
 -- ---- the bytes of a text
 module _ (text : List ℕ) where
@@ -216,49 +291,52 @@ module _ (text : List ℕ) where
       let e : classOf (getD (drop at text) (span blank (drop at text)) 0) ≡ blank = ap classOf (getD-drop at text (span blank (drop at text)) 0) ∙ (rw add-zero at (sym (ap classOf (getD-drop (past text at) text 0 0)) ∙ c)) in
       span-stops blank (drop at text) (omega arith) e
 
-  token-solid : (at k : ℕ) → k < length text → tokenAt text at .start ≤ k → k < tokenAt text at .end → classOf (getD text k 0) ≡ blank → ⊥
+  token-solid : (points : Bool) (at k : ℕ) → k < length text → tokenAt points text at .start ≤ k → k < tokenAt points text at .end → classOf (getD text k 0) ≡ blank → ⊥
   unfolding tokenAt
-  token-solid at k i l h c =
+  token-solid points at k i l h c =
       let s = past text at in
-      let r = here s (drop s text) in
+      let r = here points s (drop s text) in
       let q : s + (k - s) ≡ k = omega arith in
-      solid-here s (drop s text) (first-solid at (omega arith)) (k - s) (omega arith)
+      solid-here points s (drop s text) (first-solid at (omega arith)) (k - s) (omega arith)
       (ap classOf (getD-drop s text (k - s) 0) ∙ rw q c)
 
+  in-solid : (md : Mode) (at k : ℕ) → k < length text → tokenIn md text at .start ≤ k → k < tokenIn md text at .end → classOf (getD text k 0) ≡ blank → ⊥
+  in-solid md at k i l h = token-solid (takesPoints md) at k i (rw (starts-alike text at md) at l) (rw (ends-alike text at md) at h)
+
   -- a token's byte is no blank
-  none-blank : (j at k : ℕ) → at ≤ length text → k < length text → OfToken (tokensIn j text at) k → classOf (getD text k 0) ≡ blank → ⊥
+  none-blank : (j : ℕ) (md : Mode) (at k : ℕ) → at ≤ length text → k < length text → OfToken (tokensIn j md text at) k → classOf (getD text k 0) ≡ blank → ⊥
   unfolding tokensIn
-  none-blank zero at k h i o c = elim (o .one) [ ]
-  none-blank (suc j) at k h i o c = go (eqb (tokenAt text at .kind) endKind) refl o (λ l q. none-blank j (tokenAt text at .end) k l i q c)
+  none-blank zero md at k h i o c = elim (o .one) [ ]
+  none-blank (suc j) md at k h i o c = go (eqb (tokenIn md text at .kind) endKind) refl o (λ l q. none-blank j (next md (tokenIn md text at .kind)) (tokenIn md text at .end) k l i q c)
     where
-      go : (e : Bool) → eqb (tokenAt text at .kind) endKind ≡ e → OfToken (cond e [] (tokenAt text at ∷ tokensIn j text (tokenAt text at .end))) k
-          → (tokenAt text at .end ≤ length text → OfToken (tokensIn j text (tokenAt text at .end)) k → ⊥) → ⊥
+      go : (e : Bool) → eqb (tokenIn md text at .kind) endKind ≡ e → OfToken (cond e [] (tokenIn md text at ∷ tokensIn j (next md (tokenIn md text at .kind)) text (tokenIn md text at .end))) k
+          → (tokenIn md text at .end ≤ length text → OfToken (tokensIn j (next md (tokenIn md text at .kind)) text (tokenIn md text at .end)) k → ⊥) → ⊥
       go true e q ih = elim (q .one) [ ]
       go false e q ih = by-member (q .one)
         where
-          by-member : List·Memᴰ (q .token) (tokenAt text at ∷ tokensIn j text (tokenAt text at .end)) → ⊥
-          by-member (List·Memᴰ·head f) = token-solid at k i (subst (λ (u : Token). u .start ≤ k) f (q .starts)) (subst (λ (u : Token). k < u .end) f (q .ends)) c
-          by-member (List·Memᴰ·tail d) = ih (moves text at h (eqb-false _ _ e) .1) (record { token = q .token; one = d; starts = q .starts; ends = q .ends })
+          by-member : List·Memᴰ (q .token) (tokenIn md text at ∷ tokensIn j (next md (tokenIn md text at .kind)) text (tokenIn md text at .end)) → ⊥
+          by-member (List·Memᴰ·head f) = in-solid md at k i (subst (λ (u : Token). u .start ≤ k) f (q .starts)) (subst (λ (u : Token). k < u .end) f (q .ends)) c
+          by-member (List·Memᴰ·tail d) = ih (moves-in text at md h (eqb-false _ _ e) .1) (record { token = q .token; one = d; starts = q .starts; ends = q .ends })
 
   -- a byte that is no blank is a token's
-  in-some : (j at k : ℕ) → at ≤ length text → length text - at ≤ j → at ≤ k → k < length text → (classOf (getD text k 0) ≡ blank → ⊥) → OfToken (tokensIn j text at) k
+  in-some : (j : ℕ) (md : Mode) (at k : ℕ) → at ≤ length text → length text - at ≤ j → at ≤ k → k < length text → (classOf (getD text k 0) ≡ blank → ⊥) → OfToken (tokensIn j md text at) k
   unfolding tokensIn
-  in-some zero at k h l g i n = absurd (omega arith)
-  in-some (suc j) at k h l g i n = go (eqb (tokenAt text at .kind) endKind) refl (ltb k (tokenAt text at .start)) refl (ltb k (tokenAt text at .end)) refl (λ a b d. in-some j (tokenAt text at .end) k a b d i n)
+  in-some zero md at k h l g i n = absurd (omega arith)
+  in-some (suc j) md at k h l g i n = go (eqb (tokenIn md text at .kind) endKind) refl (ltb k (tokenIn md text at .start)) refl (ltb k (tokenIn md text at .end)) refl (λ a b d. in-some j (next md (tokenIn md text at .kind)) (tokenIn md text at .end) k a b d i n)
     where
-      go : (e : Bool) → eqb (tokenAt text at .kind) endKind ≡ e → (x : Bool) → ltb k (tokenAt text at .start) ≡ x → (y : Bool) → ltb k (tokenAt text at .end) ≡ y
-          → (tokenAt text at .end ≤ length text → length text - tokenAt text at .end ≤ j → tokenAt text at .end ≤ k → OfToken (tokensIn j text (tokenAt text at .end)) k)
-          → OfToken (cond e [] (tokenAt text at ∷ tokensIn j text (tokenAt text at .end))) k
-      go e p true q y r ih = absurd (n (gap-blank text at k g (ltb-true k (tokenAt text at .start) q)))
-      go true p false q y r ih = absurd (omega (arith, at-end text at h (eqb-true _ _ p), ltb-false k (tokenAt text at .start) q))
+      go : (e : Bool) → eqb (tokenIn md text at .kind) endKind ≡ e → (x : Bool) → ltb k (tokenIn md text at .start) ≡ x → (y : Bool) → ltb k (tokenIn md text at .end) ≡ y
+          → (tokenIn md text at .end ≤ length text → length text - tokenIn md text at .end ≤ j → tokenIn md text at .end ≤ k → OfToken (tokensIn j (next md (tokenIn md text at .kind)) text (tokenIn md text at .end)) k)
+          → OfToken (cond e [] (tokenIn md text at ∷ tokensIn j (next md (tokenIn md text at .kind)) text (tokenIn md text at .end))) k
+      go e p true q y r ih = absurd (n (gap-blank (takesPoints md) text at k g (rw (starts-alike text at md) at (ltb-true k (tokenIn md text at .start) q))))
+      go true p false q y r ih = absurd (omega (arith, at-end-in text at md h (eqb-true _ _ p), ltb-false k (tokenIn md text at .start) q))
       go false p false q true r ih =
-          record { token = tokenAt text at; one = List·Memᴰ·head refl; starts = ltb-false k (tokenAt text at .start) q; ends = ltb-true k (tokenAt text at .end) r }
+          record { token = tokenIn md text at; one = List·Memᴰ·head refl; starts = ltb-false k (tokenIn md text at .start) q; ends = ltb-true k (tokenIn md text at .end) r }
       go false p false q false r ih =
-          let m = moves text at h (eqb-false _ _ p) in
-          let s = spans text at h in
-          let o = ih (m .1) (omega arith) (ltb-false k (tokenAt text at .end) r) in
+          let m = moves-in text at md h (eqb-false _ _ p) in
+          let s = spans-in text at md h in
+          let o = ih (m .1) (omega arith) (ltb-false k (tokenIn md text at .end) r) in
           record { token = o .token; one = List·Memᴰ·tail (o .one); starts = o .starts; ends = o .ends }
 
   pub whole-text : (k : ℕ) → k < length text → OfToken (tokens text) k ↔ (classOf (getD text k 0) ≡ blank → ⊥)
   unfolding tokensFrom
-  whole-text k h = (none-blank (length text - 0) 0 k (omega arith) h, in-some (length text - 0) 0 k (omega arith) (omega arith) (omega arith) h)
+  whole-text k h = (none-blank (length text - 0) (declares 2) 0 k (omega arith) h, in-some (length text - 0) (declares 2) 0 k (omega arith) (omega arith) (omega arith) h)

@@ -4,7 +4,8 @@ use mathlib.Core.List.{List, [], _∷_}
 use Prim.Native.Nat.{ℕ, zero, suc}
 use lib.IntN.{natAbs}
 use Rattle.rule.specs.Frames.{Source, Relation, Kind, kindOf, frameAt, frameCount}
-use Rattle.rule.specs.Tree.{Sum, literal, instance, reference, arithmetic, abs, Cond, relation, not, connective}
+use Rattle.rule.specs.Tree.{Sum, literal, instance, reference, arithmetic, abs, Cond, relation, not, connective, RuleTree}
+use Rattle.rule.specs.Scale.{scaleOf}
 use Rattle.rule.specs.References.{referenceOf}
 use Rattle.rule.specs.declared.Frame.{Frame}
 
@@ -33,7 +34,7 @@ related r cs (b ∷ (a ∷ ss)) = trees (relation r a b ∷ cs) ss
 
 -- an operand's frame
 abbrev pub leaf : Source → Frame → Sum
-leaf Source.literal x = literal (natAbs (x .value))
+leaf Source.literal x = literal (x .event) (natAbs (x .value))
 leaf Source.instance x = instance
 leaf Source.reference x = reference (referenceOf x)
 
@@ -61,6 +62,6 @@ abbrev pub firstC : Trees → Cond
 firstC (trees [] ss) = relation Relation.equal instance instance
 firstC (trees (t ∷ cs) ss) = t
 
--- of bytes that are a rule, the rule's tree (Main, tree-of)
-unfoldable pub treeOf : List ℕ → Cond
-treeOf s = firstC (treesAt s (frameCount s))
+-- of bytes that are a rule, the rule's tree (Main, tree-of); the head builds nothing
+unfoldable pub treeOf : List ℕ → RuleTree
+treeOf s = record { scale = scaleOf s; condition = firstC (treesAt s (frameCount s)) }

@@ -71,6 +71,10 @@ bar = 124
 abbrev pub ampersand : ℕ
 ampersand = 38
 
+-- "digits, a point and digits": the point, which is in no quoted mark (document 02, point 1)
+abbrev pub point : ℕ
+point = 46
+
 -- b is one of the list
 abbrev pub among : List ℕ → ℕ → Bool
 among [] b = false

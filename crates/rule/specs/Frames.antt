@@ -59,6 +59,10 @@ kindByte (connective or) = 0x33
 kindByte (connective implies) = 0x34
 kindByte none = 0
 
+-- "A frame of kind 04 at the head": the kind of no operation (document 02, point 1)
+abbrev pub scaleByte : ℕ
+scaleByte = 0x04
+
 -- all of them, in this order
 abbrev pub kinds : List Kind
 kinds =
@@ -141,9 +145,9 @@ pub data Bytes : List ℕ → Type 0 where
 abbrev pub unused : Frame → Bool
 unused x = eqb (x .event) 0 && eqb (x .note) 0 && eqb (x .factor) 0
 
--- "literals not negative"
-abbrev pub literalFields : Frame → Bool
-literalFields x = unused x && leZ (pos 0) (x .value)
+-- "a literal its decimals in byte 1", at most so many; "literals not negative"
+abbrev pub literalFields : ℕ → Frame → Bool
+literalFields most x = (leb (x .event) most && (eqb (x .note) 0 && eqb (x .factor) 0)) && leZ (pos 0) (x .value)
 
 -- event and note below their limits, factor 1 to 9, offset −9,999 to 9,999
 abbrev pub referenceFields : Frame → Bool
@@ -155,14 +159,14 @@ referenceFields x =
 abbrev pub bareFields : Frame → Bool
 bareFields x = unused x && eqb (natAbs (x .value)) 0
 
--- by the kind
-abbrev pub fieldsOf : Kind → Frame → Bool
-fieldsOf (operand literal) x = literalFields x
-fieldsOf (operand instance) x = bareFields x
-fieldsOf (operand reference) x = referenceFields x
-fieldsOf (arithmetic o) x = bareFields x
-fieldsOf absolute x = bareFields x
-fieldsOf (relation r) x = bareFields x
-fieldsOf negation x = bareFields x
-fieldsOf (connective j) x = bareFields x
-fieldsOf none x = bareFields x
+-- by the kind, where a literal has at most so many decimals
+abbrev pub fieldsOf : ℕ → Kind → Frame → Bool
+fieldsOf most (operand literal) x = literalFields most x
+fieldsOf most (operand instance) x = bareFields x
+fieldsOf most (operand reference) x = referenceFields x
+fieldsOf most (arithmetic o) x = bareFields x
+fieldsOf most absolute x = bareFields x
+fieldsOf most (relation r) x = bareFields x
+fieldsOf most negation x = bareFields x
+fieldsOf most (connective j) x = bareFields x
+fieldsOf most none x = bareFields x

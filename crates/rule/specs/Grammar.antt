@@ -1,20 +1,22 @@
--- The grammar of rules, from 'From rule text to frames' of document 01: one type for each of its lines, in its order, every
--- repeat grouped to the left; what a tree spells; and the place of what is outside. Assumes nothing: definitions.
+-- The grammar of rules, from 'From rule text to frames' of document 01 and point 1 of document 02: one type for each of its lines,
+-- in its order, every repeat grouped to the left; what a tree spells; and the place of what is outside.
+-- Assumes nothing: definitions.
 use Prim.Native.Nat.{ℕ}
 use mathlib.Core.Path.{_≡_}
 use mathlib.Core.Bool.{cond}
+use mathlib.Core.Option.{Option, none, some}
 use mathlib.Core.List.{List, [], _∷_, _++_}
 use lib.Dec.{eqb}
 use Rattle.rule.specs.Token.{nameKind, numberKind, eventsKind, notesKind, indexKind, absKind, arrowKind, barsKind}
-use Rattle.rule.specs.Token.{ampersandsKind, unequalKind, atMostKind, atLeastKind}
+use Rattle.rule.specs.Token.{ampersandsKind, unequalKind, atMostKind, atLeastKind, decimalKind, scaleKind}
 pub use Rattle.rule.specs.Class.{semicolon, bang, openBrace, closeBrace, openParen, closeParen, openBracket, closeBracket}
 pub use Rattle.rule.specs.Class.{star, plusMark, minusMark, equalMark, lessMark, moreMark}
 use Rattle.rule.specs.declared.Token.{Token}
 use Rattle.rule.specs.declared.parts.Place.{Place}
 use Rattle.rule.specs.declared.parts.Sign.{Sign}
 use Rattle.rule.specs.declared.parts.Sign.the-variants.{Plus, Minus}
-use Rattle.rule.specs.declared.parts.Scale.{Scale}
-use Rattle.rule.specs.declared.parts.Scale.the-variants.{Once, Times}
+use Rattle.rule.specs.declared.parts.Multiple.{Multiple}
+use Rattle.rule.specs.declared.parts.Multiple.the-variants.{Once, Times}
 use Rattle.rule.specs.declared.parts.Shift.{Shift}
 use Rattle.rule.specs.declared.parts.Shift.the-variants.{Unshifted, By}
 
@@ -25,7 +27,7 @@ pub data Rel : Type 0 where
 
 -- index: [number "*"] "i" [("+" or "-") number]
 pub data Index : Type 0 where
-  index : Scale → Shift → Index
+  index : Multiple → Shift → Index
 
 mutual
   -- cond: disj ["->" cond]
@@ -59,24 +61,24 @@ mutual
     a-factor : Factor → Prod
     multiply : Prod → Factor → Prod
 
-  -- factor: number, "i", "(" sum ")", "abs" "(" sum ")", or reference: name "(" name "[" index "]" ")", the note first, then the
-  -- event
+  -- factor: number, decimal, "i", "(" sum ")", "abs" "(" sum ")", or reference: name "(" name "[" index "]" ")", the note first,
+  -- then the event
   pub data Factor : Type 0 where
-    literal : Place → Factor
+    literal decimal : Place → Factor
     var : Factor
     parens : Sum → Factor
     absolute : Sum → Factor
     reference : Place → Place → Index → Factor
 
--- rule: "events" name {name} ";" "notes" name {name} ";" cond
+-- rule: "events" name {name} ";" "notes" name {name} ";" ["scale" number ";"] cond
 pub data Rule : Type 0 where
-  rule : Place → List Place → Place → List Place → Cond → Rule
+  rule : Place → List Place → Place → List Place → Option Place → Cond → Rule
 
 -- ---- what a tree spells
--- a mark or a reserved word, by its kind; a name or a number, by its place
+-- a mark or a reserved word, by its kind; a name, a number or a decimal, by its place
 pub data Word : Type 0 where
   mark : ℕ → Word
-  name number : Place → Word
+  name number decimal : Place → Word
 
 -- rel: `= != < <= > >=`
 abbrev pub relMark : Rel → ℕ
@@ -106,9 +108,9 @@ byMark its k f z [] = z
 byMark its k f z (x ∷ xs) = cond (eqb k (its x)) (f x) (byMark its k f z xs)
 
 -- each function: the words of the tree, and then r; [number "*"]
-abbrev pub spellScale : Scale → List Word → List Word
-spellScale Once r = r
-spellScale (Times p) r = number p ∷ mark star ∷ r
+abbrev pub spellMultiple : Multiple → List Word → List Word
+spellMultiple Once r = r
+spellMultiple (Times p) r = number p ∷ mark star ∷ r
 
 -- [("+" or "-") number]
 abbrev pub spellShift : Shift → List Word → List Word
@@ -117,7 +119,7 @@ spellShift (By g p) r = mark (signMark g) ∷ number p ∷ r
 
 -- index: [number "*"] "i" [("+" or "-") number]
 abbrev pub spellIndex : Index → List Word → List Word
-spellIndex (index f o) r = spellScale f (mark indexKind ∷ spellShift o r)
+spellIndex (index f o) r = spellMultiple f (mark indexKind ∷ spellShift o r)
 
 -- conditions and sums, "words and marks quoted"
 abbrev mutual
@@ -148,6 +150,7 @@ abbrev mutual
 
   pub spellFactor : Factor → List Word → List Word
   spellFactor (literal p) r = number p ∷ r
+  spellFactor (decimal p) r = Word.decimal p ∷ r
   spellFactor var r = mark indexKind ∷ r
   spellFactor (parens x) r = mark openParen ∷ spellSum x (mark closeParen ∷ r)
   spellFactor (absolute x) r = mark absKind ∷ mark openParen ∷ spellSum x (mark closeParen ∷ r)
@@ -159,11 +162,16 @@ abbrev pub spellNames : List Place → List Word → List Word
 spellNames [] r = r
 spellNames (p ∷ ps) r = name p ∷ spellNames ps r
 
--- rule: "events" name {name} ";" "notes" name {name} ";" cond
+-- ["scale" number ";"]
+abbrev pub spellClause : Option Place → List Word → List Word
+spellClause none r = r
+spellClause (some p) r = mark scaleKind ∷ number p ∷ mark semicolon ∷ r
+
+-- rule: "events" name {name} ";" "notes" name {name} ";" ["scale" number ";"] cond
 abbrev pub spellRule : Rule → List Word → List Word
-spellRule (rule e es n ns c) r =
+spellRule (rule e es n ns k c) r =
     mark eventsKind ∷ name e ∷ spellNames es (mark semicolon ∷ mark notesKind ∷ name n ∷ spellNames ns
-    (mark semicolon ∷ spellCond c r))
+    (mark semicolon ∷ spellClause k (spellCond c r)))
 
 -- the words of a rule, and nothing after
 abbrev pub yield : Rule → List Word
@@ -174,9 +182,10 @@ yield x = spellRule x []
 abbrev pub place : Token → Place
 place t = record { start = t .start; end = t .end }
 
--- a token as a word: names and numbers by their places, all others by their kind
+-- a token as a word: names, numbers and decimals by their places, all others by their kind
 abbrev pub wordOf : ℕ → Place → Word
-wordOf k p = cond (eqb k nameKind) (name p) (cond (eqb k numberKind) (number p) (mark k))
+wordOf k p =
+    cond (eqb k nameKind) (name p) (cond (eqb k numberKind) (number p) (cond (eqb k decimalKind) (Word.decimal p) (mark k)))
 
 -- of all tokens
 abbrev pub words : List Token → List Word

@@ -1,14 +1,17 @@
--- What a condition holds, in the order of the text: the levels that it enters and its frames, in postfix order. The one walk over a
--- tree, from which Measure takes depth, names, numbers and frames. From 'From rule text to frames' of document 01.
+-- What a rule holds, in the order of the text: the levels that it enters and its frames, in postfix order. The one walk over a
+-- tree, from which Measure takes depth, names, numbers and frames. From 'From rule text to frames' of document 01 and point 1 of
+-- document 02.
 -- Assumes nothing: definitions.
 use Prim.Native.Nat.{ℕ, suc}
 use mathlib.Core.List.{List, [], _∷_, _++_}
+use mathlib.Core.Option.{Option, none, some}
 use Rattle.rule.specs.Frames.{Arithmetic, Connective, Kind}
 use Rattle.rule.specs.Grammar.{index, Cond, a-disj, implies, Disj, a-conj, or, Conj, a-unit, and}
 use Rattle.rule.specs.Grammar.{CUnit, not, group, relation, Sum, a-prod, add, Prod, a-factor, multiply}
 use Rattle.rule.specs.Grammar.{Factor, literal, var, parens, absolute, reference}
 use Rattle.rule.specs.Grammar.{Rule, rule}
-use Rattle.rule.specs.Draft.{Draft, lit, index-var, ref, alone, relationOf, signOf}
+use Rattle.rule.specs.Draft.{Draft, head, lit, index-var, ref, alone, relationOf, signOf}
+use Rattle.rule.specs.declared.parts.Place.{Place}
 
 -- a level of that depth is entered, or a frame stands
 pub data Item : Type 0 where
@@ -59,11 +62,17 @@ abbrev mutual
 
   pub itemsFactor : Factor → List Item
   itemsFactor (literal p) = puts (lit p) ∷ []
+  itemsFactor (Factor.decimal p) = puts (lit p) ∷ []
   itemsFactor var = puts index-var ∷ []
   itemsFactor (parens x) = inside (itemsSum x)
   itemsFactor (absolute x) = inside (itemsSum x) ++ operates Kind.absolute
   itemsFactor (reference n e (index f o)) = puts (ref n e f o) ∷ []
 
--- of a rule's condition
+-- "A frame of kind 04 at the head", where the clause stands
+abbrev pub itemsClause : Option Place → List Item
+itemsClause none = []
+itemsClause (some p) = puts (head p) ∷ []
+
+-- of a rule: of its clause, then of its condition
 abbrev pub items : Rule → List Item
-items (rule e es n ns c) = itemsCond c
+items (rule e es n ns k c) = itemsClause k ++ itemsCond c

@@ -5,6 +5,8 @@ pub mod Limits
 pub mod ReadLimits
 pub mod Grammar
 pub mod Frames
+pub mod Scale
+pub mod Decimals
 pub mod Draft
 pub mod Items
 pub mod Measure

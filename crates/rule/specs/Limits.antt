@@ -22,6 +22,10 @@ offsetLimit = 9999
 abbrev pub literalLimit : ℕ
 literalLimit = 2147483647
 
+-- a scale is 0 to 6, and a literal has at most 6 decimals (document 02, point 1)
+abbrev pub decimalLimit : ℕ
+decimalLimit = 6
+
 -- at most 64 frames
 abbrev pub frameLimit : ℕ
 frameLimit = 64

@@ -7,7 +7,7 @@ use lib.Dec.{leb, eqb}
 use Rattle.rule.specs.ReadLimits.{depthLimit}
 use Rattle.rule.specs.Frames.{Arithmetic, Connective, Kind}
 use Rattle.rule.specs.Token.{nameKind, numberKind, eventsKind, notesKind, indexKind, absKind}
-use Rattle.rule.specs.Token.{arrowKind, barsKind, ampersandsKind}
+use Rattle.rule.specs.Token.{arrowKind, barsKind, ampersandsKind, decimalKind, scaleKind}
 use Rattle.rule.specs.declared.Token.{Token}
 use Rattle.rule.specs.Grammar.{semicolon, bang, openBrace, closeBrace, openParen, closeParen, openBracket}
 use Rattle.rule.specs.Grammar.{closeBracket, star, relMark, rels, signMark, signs, byMark, place}
@@ -15,12 +15,12 @@ use Rattle.rule.specs.declared.parts.Place.{Place}
 use Rattle.rule.specs.declared.parts.Role.{Role}
 use Rattle.rule.specs.declared.parts.Role.the-variants.{Event, Note}
 use Rattle.rule.specs.declared.parts.Limit.{Limit}
-use Rattle.rule.specs.declared.parts.Limit.the-variants.{OfLiteral, OfFactor, OfOffset}
+use Rattle.rule.specs.declared.parts.Limit.the-variants.{OfClause, OfLiteral, OfFactor, OfOffset}
 use Rattle.rule.specs.declared.parts.Sign.{Sign}
-use Rattle.rule.specs.declared.parts.Scale.{Scale}
-use Rattle.rule.specs.declared.parts.Scale.the-variants.{Once, Times}
+use Rattle.rule.specs.declared.parts.Multiple.{Multiple}
+use Rattle.rule.specs.declared.parts.Multiple.the-variants.{Once, Times}
 use Rattle.rule.specs.declared.parts.Shift.the-variants.{Unshifted, By}
-use Rattle.rule.specs.Draft.{Draft, lit, index-var, ref, alone, relationOf, signOf}
+use Rattle.rule.specs.Draft.{Draft, head, lit, index-var, ref, alone, relationOf, signOf}
 
 -- what reading does, in the order of the text
 pub data Act : Type 0 where
@@ -33,10 +33,11 @@ pub data Act : Type 0 where
 pub data Sym : Type 0 where
   unit ands ors arrow factor muls adds rel want : ℕ → Sym
   name-of names-of : Role → Sym
+  clause clause-number : Sym
   ref-event : Place → Sym
   ref-index : Place → Place → Sym
-  ref-shift : Place → Place → Scale → Sym
-  ref-by : Place → Place → Scale → Sign → Sym
+  ref-shift : Place → Place → Multiple → Sym
+  ref-by : Place → Place → Multiple → Sign → Sym
   doing : Act → Sym
 
 -- prod: factor {"*" factor}, and then s
@@ -55,11 +56,11 @@ conj d s = unit d ∷ ands d ∷ s
 abbrev pub condition : ℕ → List Sym → List Sym
 condition d s = unit d ∷ ands d ∷ ors d ∷ arrow d ∷ s
 
--- rule: "events" name {name} ";" "notes" name {name} ";" cond
+-- rule: "events" name {name} ";" "notes" name {name} ";" ["scale" number ";"] cond
 abbrev pub start : List Sym
 start =
     want eventsKind ∷ name-of Event ∷ names-of Event ∷ want semicolon ∷ want notesKind ∷ name-of Note ∷ names-of Note
-    ∷ want semicolon ∷ condition 0 []
+    ∷ want semicolon ∷ clause ∷ condition 0 []
 
 -- one level further in; one over the limit stands for every depth over it
 unfoldable pub deeper : ℕ → ℕ
@@ -81,15 +82,16 @@ resume stuck p k = refused p
 resume (on s m) p k = k s m
 
 module _ (M : Type 0) (act : Act → M → M) where
-  -- factor: number, "i", "(" sum ")", "abs" "(" sum ")", or reference
+  -- factor: number, decimal, "i", "(" sum ")", "abs" "(" sum ")", or reference
   unfoldable pub startFactor : ℕ → M → ℕ → Place → List Sym → Next M
   startFactor d m k p s =
       cond (eqb k numberKind) (on s (act (out (lit p)) (act (sized OfLiteral p) m)))
+      (cond (eqb k decimalKind) (on s (act (out (lit p)) (act (sized OfLiteral p) m)))
       (cond (eqb k indexKind) (on s (act (out index-var) m))
       (cond (eqb k openParen) (on (sum (deeper d) (want closeParen ∷ s)) (act (enter (deeper d)) m))
       (cond (eqb k absKind) (on (want openParen ∷ sum (deeper d) (want closeParen ∷ doing (out (alone Kind.absolute)) ∷ s))
       (act (enter (deeper d)) m))
-      (cond (eqb k nameKind) (on (want openParen ∷ ref-event p ∷ s) (act (uses Note p) m)) stuck))))
+      (cond (eqb k nameKind) (on (want openParen ∷ ref-event p ∷ s) (act (uses Note p) m)) stuck)))))
 
   -- what a token of kind k, at p, does with the stack
   unfoldable pub step : List Sym → M → ℕ → Place → Next M
@@ -118,6 +120,8 @@ module _ (M : Type 0) (act : Act → M → M) where
   step (want x ∷ s) m k p = cond (eqb k x) (on s m) stuck
   step (name-of r ∷ s) m k p = cond (eqb k nameKind) (on s (act (declare r p) m)) stuck
   step (names-of r ∷ s) m k p = cond (eqb k nameKind) (on (names-of r ∷ s) (act (declare r p) m)) (step s m k p)
+  step (clause ∷ s) m k p = cond (eqb k scaleKind) (on (clause-number ∷ want semicolon ∷ s) m) (step s m k p)
+  step (clause-number ∷ s) m k p = cond (eqb k numberKind) (on s (act (out (head p)) (act (sized OfClause p) m))) stuck
   step (ref-event n ∷ s) m k p =
       cond (eqb k nameKind) (on (want openBracket ∷ ref-index n p ∷ want closeBracket ∷ want closeParen ∷ s)
       (act (uses Event p) m)) stuck
@@ -144,6 +148,8 @@ module _ (M : Type 0) (act : Act → M → M) where
   finish n (want x ∷ s) m = refused n
   finish n (name-of r ∷ s) m = refused n
   finish n (names-of r ∷ s) m = finish n s m
+  finish n (clause ∷ s) m = finish n s m
+  finish n (clause-number ∷ s) m = refused n
   finish n (ref-event e ∷ s) m = refused n
   finish n (ref-index e i ∷ s) m = refused n
   finish n (ref-shift e i f ∷ s) m = finish n s (act (out (ref e i f Unshifted)) m)

@@ -1,25 +1,27 @@
 -- What a tree of the grammar means: the rule, with its names and numbers looked up, that frames hold and verdicts are of.
--- From document 01, "From rule text to frames". Assumes nothing: definitions.
+-- From document 01, "From rule text to frames", and point 1 of document 02. Assumes nothing: definitions.
 use Prim.Native.Nat.{ℕ}
+use mathlib.Core.Option.{Option, none, some}
 use mathlib.Core.List.{List}
 use lib.IntN.{ℤ, pos, negℤ}
 use Rattle.rule.specs.Frames.{Arithmetic, Connective}
 use Rattle.rule.specs.Grammar
 use Rattle.rule.specs.Draft.{relationOf, signOf}
 use Rattle.rule.specs.Tree
+use Rattle.rule.specs.Spelling as spelling
 use Rattle.rule.specs.Spelling.{numberOfName, decimal, letters}
 use Rattle.rule.specs.declared.parts.Place.{Place}
 use Rattle.rule.specs.declared.parts.Role.the-variants.{Event, Note}
 use Rattle.rule.specs.declared.parts.Sign.the-variants.{Plus, Minus}
-use Rattle.rule.specs.declared.parts.Scale.{Scale}
-use Rattle.rule.specs.declared.parts.Scale.the-variants.{Once, Times}
+use Rattle.rule.specs.declared.parts.Multiple.{Multiple}
+use Rattle.rule.specs.declared.parts.Multiple.the-variants.{Once, Times}
 use Rattle.rule.specs.declared.parts.Shift.{Shift}
 use Rattle.rule.specs.declared.parts.Shift.the-variants.{Unshifted, By}
 
--- eventOf and noteOf number a name in its role, value is the number that stands at a place
-module _ (eventOf noteOf value : Place → ℕ) where
+-- eventOf and noteOf number a name in its role, value is the number that stands at a place, decimals how many it has
+module _ (eventOf noteOf value decimals : Place → ℕ) where
   -- index: the factor of i, 1 where none stands
-  abbrev pub factorAt : Scale → ℕ
+  abbrev pub factorAt : Multiple → ℕ
   factorAt Once = 1
   factorAt (Times p) = value p
 
@@ -44,7 +46,8 @@ module _ (eventOf noteOf value : Place → ℕ) where
     meaningProd (Grammar.multiply x y) = Tree.arithmetic Arithmetic.multiply (meaningProd x) (meaningFactor y)
 
     pub meaningFactor : Grammar.Factor → Tree.Sum
-    meaningFactor (Grammar.literal p) = Tree.literal (value p)
+    meaningFactor (Grammar.literal p) = Tree.literal (decimals p) (value p)
+    meaningFactor (Grammar.Factor.decimal p) = Tree.literal (decimals p) (value p)
     meaningFactor Grammar.var = Tree.instance
     meaningFactor (Grammar.parens x) = meaningSum x
     meaningFactor (Grammar.absolute x) = Tree.abs (meaningSum x)
@@ -69,10 +72,18 @@ module _ (eventOf noteOf value : Place → ℕ) where
     meaningUnit (Grammar.group x) = meaningCond x
     meaningUnit (Grammar.relation x c y) = Tree.relation (relationOf c) (meaningSum x) (meaningSum y)
 
-  -- of a rule
-  abbrev pub meaningOf : Grammar.Rule → Tree.Cond
-  meaningOf (Grammar.rule e es n ns c) = meaningCond c
+  -- ["scale" number ";"]: "each note carries k decimals"
+  abbrev pub meaningClause : Option Place → Option ℕ
+  meaningClause none = none
+  meaningClause (some p) = some (value p)
 
--- what a tree that spells a text means, its names numbered by their letters, its numbers by their decimal values
-abbrev pub meaning : List ℕ → Grammar.Rule → Tree.Cond
-meaning text x = meaningOf (numberOfName text Event x) (numberOfName text Note x) (λ p. decimal (letters text p)) x
+  -- of a rule
+  abbrev pub meaningOf : Grammar.Rule → Tree.RuleTree
+  meaningOf (Grammar.rule e es n ns k c) = record { scale = meaningClause k; condition = meaningCond c }
+
+-- what a tree that spells a text means, its names numbered by their letters, its numbers by their decimal values, "a literal its
+-- decimals"
+abbrev pub meaning : List ℕ → Grammar.Rule → Tree.RuleTree
+meaning text x =
+    meaningOf (numberOfName text Event x) (numberOfName text Note x) (λ p. decimal (letters text p))
+    (λ p. spelling.decimals (letters text p)) x

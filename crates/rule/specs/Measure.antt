@@ -1,17 +1,17 @@
 -- What a tree holds: its depth, its frames, its names and its numbers, each in the order of the text.
--- From 'From rule text to frames' of document 01. Assumes nothing: definitions.
+-- From 'From rule text to frames' of document 01 and point 1 of document 02. Assumes nothing: definitions.
 use Prim.Native.Nat.{ℕ, max}
 use mathlib.Core.List.{List, [], _∷_, _++_}
 use Rattle.rule.specs.Grammar.{Rule, rule}
-use Rattle.rule.specs.Draft.{Draft, lit, index-var, ref, plain}
+use Rattle.rule.specs.Draft.{Draft, head, lit, index-var, ref, plain}
 use Rattle.rule.specs.Items.{Item, enters, puts, items}
 use Rattle.rule.specs.declared.parts.Place.{Place}
 use Rattle.rule.specs.declared.parts.Role.{Role}
 use Rattle.rule.specs.declared.parts.Role.the-variants.{Event, Note}
 use Rattle.rule.specs.declared.parts.Limit.{Limit}
-use Rattle.rule.specs.declared.parts.Limit.the-variants.{OfLiteral, OfFactor, OfOffset}
-use Rattle.rule.specs.declared.parts.Scale.{Scale}
-use Rattle.rule.specs.declared.parts.Scale.the-variants.{Once, Times}
+use Rattle.rule.specs.declared.parts.Limit.the-variants.{OfClause, OfLiteral, OfFactor, OfOffset}
+use Rattle.rule.specs.declared.parts.Multiple.{Multiple}
+use Rattle.rule.specs.declared.parts.Multiple.the-variants.{Once, Times}
 use Rattle.rule.specs.declared.parts.Shift.{Shift}
 use Rattle.rule.specs.declared.parts.Shift.the-variants.{Unshifted, By}
 
@@ -52,9 +52,9 @@ flat g [] = []
 flat g (x ∷ xs) = g x ++ flat g xs
 
 -- [number "*"]: the factor of i
-abbrev pub scaleNumbers : Scale → List Sized
-scaleNumbers Once = []
-scaleNumbers (Times p) = sized-by OfFactor p ∷ []
+abbrev pub multipleNumbers : Multiple → List Sized
+multipleNumbers Once = []
+multipleNumbers (Times p) = sized-by OfFactor p ∷ []
 
 -- [("+" or "-") number]: the offset
 abbrev pub shiftNumbers : Shift → List Sized
@@ -63,6 +63,7 @@ shiftNumbers (By g p) = sized-by OfOffset p ∷ []
 
 -- the names in a frame: of a reference "the note first, then the event"
 abbrev pub namesOf : Draft → List Named
+namesOf (head p) = []
 namesOf (lit p) = []
 namesOf index-var = []
 namesOf (ref n e f o) = used Note n ∷ used Event e ∷ []
@@ -70,9 +71,10 @@ namesOf (plain k) = []
 
 -- the numbers in a frame, each with its limit
 abbrev pub numbersOf : Draft → List Sized
+numbersOf (head p) = sized-by OfClause p ∷ []
 numbersOf (lit p) = sized-by OfLiteral p ∷ []
 numbersOf index-var = []
-numbersOf (ref n e f o) = scaleNumbers f ++ shiftNumbers o
+numbersOf (ref n e f o) = multipleNumbers f ++ shiftNumbers o
 numbersOf (plain k) = []
 
 -- names declared in a role
@@ -82,7 +84,7 @@ declares r (p ∷ ps) = declared r p ∷ declares r ps
 
 -- of the first line of a rule: events, then notes
 abbrev pub header : Rule → List Named
-header (rule e es n ns c) = declares Event (e ∷ es) ++ declares Note (n ∷ ns)
+header (rule e es n ns k c) = declares Event (e ∷ es) ++ declares Note (n ∷ ns)
 
 -- of a rule: those declared, then those of its frames
 abbrev pub names : Rule → List Named

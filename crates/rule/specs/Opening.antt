@@ -5,7 +5,7 @@ use mathlib.Core.List.{List, [], _++_}
 use Prim.Native.Nat.{ℕ, suc, _*_, _%_, _≤_, _<_}
 use lib.ListN.{length, take}
 use Rattle.rule.specs.Limits.{frameLimit, frameBytes}
-use Rattle.rule.specs.Tree.{Cond, Limits, postfix, bytesOf, IsRule, references, parts, NoneExceeds}
+use Rattle.rule.specs.Tree.{RuleTree, Limits, postfix, bytesOf, IsRule, references, magnitudes, NoneExceeds}
 use Rattle.rule.specs.CheckTold.{CheckAnswer, refused}
 use Rattle.rule.specs.CheckTold as checking
 
@@ -33,15 +33,15 @@ pub data Opening (s : List ℕ) : CheckAnswer → Type 0 where
   refused-10 : {p : ℕ} → Whole (length s) → PlaceOf10 s p → Opening s (refused 10 p)
   refused-7 : Whole (length s) → (r : IsRule s) → references (r .tree) ≡ [] → Opening s (refused 7 0)
   refused-8 : Whole (length s) → (r : IsRule s) → (references (r .tree) ≡ [] → ⊥)
-      → (NoneExceeds (parts (r .tree)) → ⊥) → Opening s (refused 8 0)
-  accepted : Whole (length s) → (r : IsRule s) → (references (r .tree) ≡ [] → ⊥) → NoneExceeds (parts (r .tree))
+      → (NoneExceeds (magnitudes (r .tree)) → ⊥) → Opening s (refused 8 0)
+  accepted : Whole (length s) → (r : IsRule s) → (references (r .tree) ≡ [] → ⊥) → NoneExceeds (magnitudes (r .tree))
       → Opening s checking.accepted
 
 -- frames that opening takes: of a tree within the limits, at most 64, with a reference, no magnitude over 2^62
 pub record Proper (s : List ℕ) : Type 0 where
-  pub tree : Cond
+  pub tree : RuleTree
   pub limits : Limits tree
   pub bytes : s ≡ bytesOf (postfix tree)
   pub short : length (postfix tree) ≤ frameLimit
   pub named : references tree ≡ [] → ⊥
-  pub exact : NoneExceeds (parts tree)
+  pub exact : NoneExceeds (magnitudes tree)

@@ -4,8 +4,9 @@
 use mathlib.Core.Path.{_≡_}
 use mathlib.Core.Bool.{_&&_, cond}
 use mathlib.Core.List.{List}
-use Prim.Native.Nat.{ℕ, zero, suc, _+_, _-_}
+use Prim.Native.Nat.{ℕ, zero, suc, _+_, _-_, _≤_}
 use lib.Dec.{leb, eqb}
+use Rattle.rule.specs.Limits.{decimalLimit}
 use Rattle.rule.specs.Frames.{Kind, kindOf, Effect, sumOf, condOf, relates, noRule, effect, frameAt, frameCount, fieldsOf}
 use Rattle.rule.specs.References.{referenceCount}
 use Rattle.rule.specs.declared.Frame.{Frame}
@@ -25,14 +26,6 @@ stepped noRule c k = Bad
 abbrev pub stepBy : Kind → ℕ → ℕ → Shape
 stepBy o = stepped (effect o)
 
--- and no rule where the fields are not the kind's
-abbrev pub stepIn : Kind → Frame → ℕ → ℕ → Shape
-stepIn o x c k = cond (fieldsOf o x) (stepBy o c k) Bad
-
--- the same of a frame, by its kind byte
-abbrev pub frameStep : Frame → ℕ → ℕ → Shape
-frameStep x c k = stepIn (kindOf (x .kind)) x c k
-
 -- the counts after the first frames; or the place of the first frame that with those before it begins no rule
 pub data Prefix : Type 0 where
   viable : ℕ → ℕ → Prefix
@@ -43,25 +36,41 @@ abbrev pub orderAt : ℕ → Shape → Prefix
 orderAt i (Good c k) = viable c k
 orderAt i Bad = stuck i
 
--- one frame more; once no rule begins, none does
-abbrev pub orderNext : ℕ → Frame → Prefix → Prefix
-orderNext i x (viable c k) = orderAt i (frameStep x c k)
-orderNext i x (stuck p) = stuck p
-
--- after the first i frames
-abbrev pub prefixAt : List ℕ → ℕ → Prefix
-prefixAt s zero = viable 0 0
-prefixAt s (suc i) = orderNext i (frameAt s i) (prefixAt s i)
-
 -- a rule with so many references, or the place: "their count if only the end is wrong"
 abbrev pub ended : ℕ → ℕ → Prefix → Ordered
 ended n m (viable c k) = cond (eqb c 1 && eqb k 0) (Fine m) (At n)
 ended n m (stuck p) = At p
 
--- the order and the fields of all frames
-unfoldable pub orderOf : List ℕ → Ordered
-orderOf s = ended (frameCount s) (referenceCount s) (prefixAt s (frameCount s))
+-- of frames behind the head, where a literal has at most so many decimals
+module _ (most : ℕ) where
+  -- no rule where the fields are not the kind's
+  abbrev pub stepIn : Kind → Frame → ℕ → ℕ → Shape
+  stepIn o x c k = cond (fieldsOf most o x) (stepBy o c k) Bad
 
--- 10 does not hold
-abbrev pub InOrder : List ℕ → Type 0
-InOrder s = orderOf s ≡ Fine (referenceCount s)
+  -- the same of a frame, by its kind byte
+  abbrev pub frameStep : Frame → ℕ → ℕ → Shape
+  frameStep x c k = stepIn (kindOf (x .kind)) x c k
+
+  -- one frame more; once no rule begins, none does
+  abbrev pub orderNext : ℕ → Frame → Prefix → Prefix
+  orderNext i x (viable c k) = orderAt i (frameStep x c k)
+  orderNext i x (stuck p) = stuck p
+
+  -- after the first i frames
+  abbrev pub prefixAt : List ℕ → ℕ → Prefix
+  prefixAt s zero = viable 0 0
+  prefixAt s (suc i) = orderNext i (frameAt s i) (prefixAt s i)
+
+  -- the order and the fields of all frames
+  unfoldable pub orderOf : List ℕ → Ordered
+  orderOf s = ended (frameCount s) (referenceCount s) (prefixAt s (frameCount s))
+
+  -- 10 does not hold
+  abbrev pub InOrder : List ℕ → Type 0
+  InOrder s = orderOf s ≡ Fine (referenceCount s)
+
+-- so of some frames behind a head, whatever the scale
+pub record Orderly (s : List ℕ) : Type 0 where
+  pub most : ℕ
+  pub few : most ≤ decimalLimit
+  pub order : InOrder most s

@@ -1,5 +1,5 @@
--- What `read` answers to a text, and what the lent buffer holds then: refusals 1 to 8 in their order.
--- From document 01, "From rule text to frames" and "What is turned down". Assumes nothing: definitions.
+-- What `read` answers to a text, and what the lent buffer holds then: refusals 1 to 5, 18 and 6 to 8 in this order.
+-- From document 01, "From rule text to frames" and "What is turned down", and document 02, point 1. Assumes nothing: definitions.
 use Prim.Native.Nat.{ℕ, _*_}
 use mathlib.Core.Bool.{false, cond}
 use mathlib.Core.List.{List}
@@ -28,7 +28,7 @@ abbrev pub afterCheck : List ℕ → Mem → CheckAnswer → ReadAnswer × List 
 afterCheck b m checking.accepted = (reading.frames (m .count), m .bytes)
 afterCheck b m (checking.refused number place) = (reading.refused number place, b)
 
--- 4 to 6, then 7 and 8; a refusal "changes nothing", else the buffer holds the frames, and zero after the last
+-- 4, 5, 18 and 6, then 7 and 8; a refusal "changes nothing", else the buffer holds the frames, and zero after the last
 abbrev pub concluded : List ℕ → Mem → ReadAnswer × List ℕ
 concluded b m =
     cond (eqb (memoryAnswer m .0) 0) (afterCheck b m (checkedOf (take (m .count * frameBytes) (m .bytes))))
@@ -51,7 +51,7 @@ readOf text b =
 -- ---- for the code's own contracts
 -- the registers at first
 abbrev pub unread : Registers
-unread = record { count = 0; deep = false; number = 0; name = 0; events = 0; notes = 0 }
+unread = record { count = 0; deep = false; number = 0; decimals = 0; name = 0; events = 0; notes = 0 }
 
 -- what the reader of a whole text answered, with the names tb and the buffer b
 abbrev pub readerAnswer : Step → List ℕ → List ℕ → MachineAnswer Mem

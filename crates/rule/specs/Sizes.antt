@@ -1,55 +1,67 @@
--- Refusal 8: the magnitudes of the sums, by one pass over the frames.
--- From document 01, "From rule text to frames". Assumes nothing: definitions.
-use mathlib.Core.Bool.{Bool, true, false, cond}
+-- Refusal 8: the magnitudes of the sums, by one pass over the frames behind the head.
+-- From document 01, "From rule text to frames", and document 02, point 1. Assumes nothing: definitions.
+use mathlib.Core.Bool.{Bool, true, false, _&&_, cond}
 use mathlib.Core.List.{List, [], _∷_}
-use Prim.Native.Nat.{ℕ, zero, suc}
+use Prim.Native.Nat.{ℕ, zero, suc, _*_}
 use lib.Dec.{leb}
-use lib.IntN.{ℤ}
 use Rattle.rule.specs.Limits.{magnitudeLimit}
 use Rattle.rule.specs.Frames.{Source, Kind, operand, arithmetic, absolute, relation, negation, connective, none, kindOf}
-use Rattle.rule.specs.Frames.{frame, frameAt, frameCount}
+use Rattle.rule.specs.Frames.{frameAt, frameCount}
+use Rattle.rule.specs.Decimals.{Term, leftSide, rightSide}
 use Rattle.rule.specs.Tree.{grown, magnitude}
 use Rattle.rule.specs.Build.{leaf}
 use Rattle.rule.specs.declared.Frame.{Frame}
 
 -- the magnitudes of the sums so far, the last first; or that one was over the limit
 pub data Sizes : Type 0 where
-  fits : List ℕ → Sizes
+  fits : List (Term ℕ) → Sizes
   over : Sizes
 
 -- one magnitude more: "None exceeds 2^62"
-abbrev pub pushed : ℕ → List ℕ → Sizes
-pushed m ms = cond (leb m magnitudeLimit) (fits (m ∷ ms)) over
+abbrev pub pushed : Term ℕ → List (Term ℕ) → Sizes
+pushed m ms = cond (leb (m .amount) magnitudeLimit) (fits (m ∷ ms)) over
 
 -- two sums become one
-abbrev pub topped : (ℕ → ℕ → ℕ) → List ℕ → Sizes
+abbrev pub topped : (Term ℕ → Term ℕ → Term ℕ) → List (Term ℕ) → Sizes
 topped f [] = fits []
 topped f (b ∷ []) = fits (b ∷ [])
 topped f (b ∷ (a ∷ ms)) = pushed (f a b) ms
 
--- the magnitude of an operand whose value is v
-abbrev pub operandSize : Source → ℤ → ℕ
-operandSize s v = magnitude (leaf s (frame 0 0 0 0 v))
+-- "those of a relation's sides too"
+abbrev pub sidesFit : Term ℕ → Term ℕ → Bool
+sidesFit a b = leb (leftSide _*_ a b) magnitudeLimit && leb (rightSide _*_ a b) magnitudeLimit
 
--- a frame of a kind more; a relation takes the two sums that are there
-abbrev pub sizesAfter : Kind → ℤ → List ℕ → Sizes
-sizesAfter (operand s) v ms = pushed (operandSize s v) ms
-sizesAfter (arithmetic o) v ms = topped (grown o) ms
-sizesAfter absolute v ms = fits ms
-sizesAfter (relation r) v ms = fits []
-sizesAfter negation v ms = fits ms
-sizesAfter (connective j) v ms = fits ms
-sizesAfter none v ms = fits ms
+-- a relation takes the two sums that are there
+abbrev pub compared : List (Term ℕ) → Sizes
+compared [] = fits []
+compared (b ∷ []) = fits []
+compared (b ∷ (a ∷ ms)) = cond (sidesFit a b) (fits []) over
 
--- a frame more; once over, always over
-abbrev pub sizeNext : Frame → Sizes → Sizes
-sizeNext x (fits ms) = sizesAfter (kindOf (x .kind)) (x .value) ms
-sizeNext x over = over
+-- where each note has so many decimals
+module _ (scale : ℕ) where
+  -- the magnitude of an operand
+  abbrev pub operandSize : Source → Frame → Term ℕ
+  operandSize s x = magnitude scale (leaf s x)
 
--- after the first i frames
-abbrev pub sizeAt : List ℕ → ℕ → Sizes
-sizeAt s zero = fits []
-sizeAt s (suc i) = sizeNext (frameAt s i) (sizeAt s i)
+  -- a frame of a kind more
+  abbrev pub sizesAfter : Kind → Frame → List (Term ℕ) → Sizes
+  sizesAfter (operand s) x ms = pushed (operandSize s x) ms
+  sizesAfter (arithmetic o) x ms = topped (grown o) ms
+  sizesAfter absolute x ms = fits ms
+  sizesAfter (relation r) x ms = compared ms
+  sizesAfter negation x ms = fits ms
+  sizesAfter (connective j) x ms = fits ms
+  sizesAfter none x ms = fits ms
+
+  -- a frame more; once over, always over
+  abbrev pub sizeNext : Frame → Sizes → Sizes
+  sizeNext x (fits ms) = sizesAfter (kindOf (x .kind)) x ms
+  sizeNext x over = over
+
+  -- after the first i frames
+  abbrev pub sizeAt : List ℕ → ℕ → Sizes
+  sizeAt s zero = fits []
+  sizeAt s (suc i) = sizeNext (frameAt s i) (sizeAt s i)
 
 -- none was over
 abbrev pub isFits : Sizes → Bool
@@ -57,5 +69,5 @@ isFits (fits ms) = true
 isFits over = false
 
 -- no magnitude is over the limit
-unfoldable pub sizesFit : List ℕ → Bool
-sizesFit s = isFits (sizeAt s (frameCount s))
+unfoldable pub sizesFit : ℕ → List ℕ → Bool
+sizesFit scale s = isFits (sizeAt scale s (frameCount s))

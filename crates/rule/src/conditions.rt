@@ -19,6 +19,7 @@ ghost use mathlib.Core.List.{_∷_};
 ghost use Prim.Native.Nat.{_+_, _≤_};
 ghost use lib.ListN.{length};
 ghost use Rattle.rule.specs.Class.{closeBrace};
+ghost use Rattle.rule.specs.Token.{body};
 ghost use Rattle.rule.specs.Machine.{want, rel, unit, ands, ors, arrow, conj, sum, condition};
 ghost use Rattle.rule.specs.Memory.{mem};
 ghost use Rattle.rule.specs.ReadsPart.{relByte, ReadsPart};
@@ -57,17 +58,18 @@ fn compare(
     d: usize,
     m: Registers,
     buf: &mut [u8; 512],
+    points: bool,
 ) -> Step
     requires { ⌜ at ≤ length (now text) ⌝ }
-    ensures { λ r. ⌜ ReadsPart (λ s. rel d ∷ s) (now (text .entry)) at (at + 1)
+    ensures { λ r. ⌜ ReadsPart (body points) (body points) (λ s. rel d ∷ s) (now (text .entry)) at (at + 1)
         (mem m (now (names .entry)) (now (buf .entry))) r (now (names .entry)) (now (buf .exit)) ⌝ }
 {
-    let t = token_at(text, at);
+    let t = token_at(text, at, points);
     let kind = rel_kind(t.kind);
     if kind == 0 {
         return Step::No(t.start);
     }
-    match sum(text, names, t.end, d, m, buf) {
+    match sum(text, names, t.end, d, m, buf, points) {
         Step::No(q) => Step::No(q),
         Step::Go(a, n) => Step::Go(a, emit_kind(buf, n, kind)),
     }
@@ -81,14 +83,15 @@ fn relation(
     d: usize,
     m: Registers,
     buf: &mut [u8; 512],
+    points: bool,
 ) -> Step
     requires { ⌜ at ≤ length (now text) ⌝ }
-    ensures { λ r. ⌜ ReadsPart (λ s. sum d (rel d ∷ s)) (now (text .entry)) at (at + 1)
+    ensures { λ r. ⌜ ReadsPart (body points) (body points) (λ s. sum d (rel d ∷ s)) (now (text .entry)) at (at + 1)
         (mem m (now (names .entry)) (now (buf .entry))) r (now (names .entry)) (now (buf .exit)) ⌝ }
 {
-    match sum(text, names, at, d, m, buf) {
+    match sum(text, names, at, d, m, buf, points) {
         Step::No(q) => Step::No(q),
-        Step::Go(a, n) => compare(text, names, a, d, n, buf),
+        Step::Go(a, n) => compare(text, names, a, d, n, buf, points),
     }
 }
 
@@ -100,14 +103,16 @@ fn braces(
     d: usize,
     m: Registers,
     buf: &mut [u8; 512],
+    points: bool,
 ) -> Step
     requires { ⌜ at ≤ length (now text) ⌝ }
-    ensures { λ r. ⌜ ReadsPart (λ s. condition d (want closeBrace ∷ s)) (now (text .entry)) at (at + 1)
+    ensures { λ r. ⌜ ReadsPart (body points) (body points) (λ s. condition d (want closeBrace ∷ s))
+        (now (text .entry)) at (at + 1)
         (mem m (now (names .entry)) (now (buf .entry))) r (now (names .entry)) (now (buf .exit)) ⌝ }
 {
-    match condition(text, names, at, d, m, buf) {
+    match condition(text, names, at, d, m, buf, points) {
         Step::No(q) => Step::No(q),
-        Step::Go(a, n) => expect(text, a, n, b'}'),
+        Step::Go(a, n) => expect(text, a, n, b'}', points),
     }
 }
 
@@ -119,16 +124,17 @@ pub fn condition(
     d: usize,
     m: Registers,
     buf: &mut [u8; 512],
+    points: bool,
 ) -> Step
     requires { ⌜ at ≤ length (now text) ⌝ }
-    ensures { λ r. ⌜ ReadsPart (λ s. condition d s) (now (text .entry)) at (at + 1)
+    ensures { λ r. ⌜ ReadsPart (body points) (body points) (λ s. condition d s) (now (text .entry)) at (at + 1)
         (mem m (now (names .entry)) (now (buf .entry))) r (now (names .entry)) (now (buf .exit)) ⌝ }
 {
-    match conj(text, names, at, d, m, buf) {
+    match conj(text, names, at, d, m, buf, points) {
         Step::No(q) => Step::No(q),
-        Step::Go(a, n) => match ors(text, names, a, d, n, buf) {
+        Step::Go(a, n) => match ors(text, names, a, d, n, buf, points) {
             Step::No(q) => Step::No(q),
-            Step::Go(z, l) => arrow(text, names, z, d, l, buf),
+            Step::Go(z, l) => arrow(text, names, z, d, l, buf, points),
         },
     }
 }
@@ -141,17 +147,18 @@ fn arrow(
     d: usize,
     m: Registers,
     buf: &mut [u8; 512],
+    points: bool,
 ) -> Step
     requires { ⌜ at ≤ length (now text) ⌝ }
-    ensures { λ r. ⌜ ReadsPart (λ s. arrow d ∷ s) (now (text .entry)) at at
+    ensures { λ r. ⌜ ReadsPart (body points) (body points) (λ s. arrow d ∷ s) (now (text .entry)) at at
         (mem m (now (names .entry)) (now (buf .entry))) r (now (names .entry)) (now (buf .exit)) ⌝ }
 {
-    let t = token_at(text, at);
+    let t = token_at(text, at, points);
     if t.kind != ARROW_KIND {
         return Step::Go(at, m);
     }
     let e = deeper(d);
-    match condition(text, names, t.end, e, entered(e, m), buf) {
+    match condition(text, names, t.end, e, entered(e, m), buf, points) {
         Step::No(q) => Step::No(q),
         Step::Go(a, n) => Step::Go(a, emit_kind(buf, n, kinds::IMPLIES_BYTE)),
     }
@@ -165,20 +172,21 @@ fn ors(
     d: usize,
     m: Registers,
     buf: &mut [u8; 512],
+    points: bool,
 ) -> Step
     requires { ⌜ at ≤ length (now text) ⌝ }
-    ensures { λ r. ⌜ ReadsPart (λ s. ors d ∷ s) (now (text .entry)) at at
+    ensures { λ r. ⌜ ReadsPart (body points) (body points) (λ s. ors d ∷ s) (now (text .entry)) at at
         (mem m (now (names .entry)) (now (buf .entry))) r (now (names .entry)) (now (buf .exit)) ⌝ }
 {
-    let t = token_at(text, at);
+    let t = token_at(text, at, points);
     if t.kind != BARS_KIND {
         return Step::Go(at, m);
     }
-    match conj(text, names, t.end, d, m, buf) {
+    match conj(text, names, t.end, d, m, buf, points) {
         Step::No(q) => Step::No(q),
         Step::Go(a, n) => {
             let k = emit_kind(buf, n, kinds::OR_BYTE);
-            ors(text, names, a, d, k, buf)
+            ors(text, names, a, d, k, buf, points)
         }
     }
 }
@@ -191,14 +199,15 @@ fn conj(
     d: usize,
     m: Registers,
     buf: &mut [u8; 512],
+    points: bool,
 ) -> Step
     requires { ⌜ at ≤ length (now text) ⌝ }
-    ensures { λ r. ⌜ ReadsPart (λ s. conj d s) (now (text .entry)) at (at + 1)
+    ensures { λ r. ⌜ ReadsPart (body points) (body points) (λ s. conj d s) (now (text .entry)) at (at + 1)
         (mem m (now (names .entry)) (now (buf .entry))) r (now (names .entry)) (now (buf .exit)) ⌝ }
 {
-    match unit(text, names, at, d, m, buf) {
+    match unit(text, names, at, d, m, buf, points) {
         Step::No(q) => Step::No(q),
-        Step::Go(a, n) => ands(text, names, a, d, n, buf),
+        Step::Go(a, n) => ands(text, names, a, d, n, buf, points),
     }
 }
 
@@ -210,20 +219,21 @@ fn ands(
     d: usize,
     m: Registers,
     buf: &mut [u8; 512],
+    points: bool,
 ) -> Step
     requires { ⌜ at ≤ length (now text) ⌝ }
-    ensures { λ r. ⌜ ReadsPart (λ s. ands d ∷ s) (now (text .entry)) at at
+    ensures { λ r. ⌜ ReadsPart (body points) (body points) (λ s. ands d ∷ s) (now (text .entry)) at at
         (mem m (now (names .entry)) (now (buf .entry))) r (now (names .entry)) (now (buf .exit)) ⌝ }
 {
-    let t = token_at(text, at);
+    let t = token_at(text, at, points);
     if t.kind != AMPERSANDS_KIND {
         return Step::Go(at, m);
     }
-    match unit(text, names, t.end, d, m, buf) {
+    match unit(text, names, t.end, d, m, buf, points) {
         Step::No(q) => Step::No(q),
         Step::Go(a, n) => {
             let k = emit_kind(buf, n, kinds::AND_BYTE);
-            ands(text, names, a, d, k, buf)
+            ands(text, names, a, d, k, buf, points)
         }
     }
 }
@@ -236,20 +246,21 @@ fn unit(
     d: usize,
     m: Registers,
     buf: &mut [u8; 512],
+    points: bool,
 ) -> Step
     requires { ⌜ at ≤ length (now text) ⌝ }
-    ensures { λ r. ⌜ ReadsPart (λ s. unit d ∷ s) (now (text .entry)) at (at + 1)
+    ensures { λ r. ⌜ ReadsPart (body points) (body points) (λ s. unit d ∷ s) (now (text .entry)) at (at + 1)
         (mem m (now (names .entry)) (now (buf .entry))) r (now (names .entry)) (now (buf .exit)) ⌝ }
 {
-    let t = token_at(text, at);
+    let t = token_at(text, at, points);
     let e = deeper(d);
     if t.kind == b'{' {
-        return braces(text, names, t.end, e, entered(e, m), buf);
+        return braces(text, names, t.end, e, entered(e, m), buf, points);
     }
     if t.kind != b'!' {
-        return relation(text, names, at, d, m, buf);
+        return relation(text, names, at, d, m, buf, points);
     }
-    match unit(text, names, t.end, e, entered(e, m), buf) {
+    match unit(text, names, t.end, e, entered(e, m), buf, points) {
         Step::No(q) => Step::No(q),
         Step::Go(a, n) => Step::Go(a, emit_kind(buf, n, kinds::NOT_BYTE)),
     }

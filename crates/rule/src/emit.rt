@@ -4,23 +4,24 @@ use crate::limits;
 use crate::lookup::lookup;
 use crate::memory::Fields;
 use crate::memory::Registers;
+use crate::memory::decimals_at;
 use crate::memory::name_at;
 use crate::memory::number_at;
 use crate::memory::sized;
 use crate::parts::Limit;
+use crate::parts::Multiple;
 use crate::parts::Place;
 use crate::parts::Role;
-use crate::parts::Scale;
 use crate::parts::Shift;
 use crate::parts::Sign;
 ghost use mathlib.Core.Path.{_≡_};
 ghost use mathlib.Core.List.{List};
 ghost use Prim.Native.Nat.{ℕ};
 ghost use lib.ListN.{length};
-ghost use Rattle.rule.specs.Draft.{lit, index-var, ref, plain};
+ghost use Rattle.rule.specs.Draft.{head, lit, index-var, ref, plain};
 ghost use Rattle.rule.specs.Machine.{out, sized};
-ghost use Rattle.rule.specs.Memory.{codeAt, valueAt, factorOf, offsetOf, negated, withFrame, acts, mem};
-ghost use Rattle.rule.specs.ReadsPart.{Inside, InsideScale, InsideShift};
+ghost use Rattle.rule.specs.Memory.{codeAt, valueAt, decimalsAt, factorOf, offsetOf, negated, withFrame, acts, mem};
+ghost use Rattle.rule.specs.ReadsPart.{Inside, InsideMultiple, InsideShift};
 
 // Puts a frame at its place, if there is room, and counts it.
 fn emit(buf: &mut [u8; 512], m: Registers, f: Fields) -> Registers
@@ -42,6 +43,7 @@ fn emit(buf: &mut [u8; 512], m: Registers, f: Fields) -> Registers
             count: n + 1,
             deep: m.deep,
             number: m.number,
+            decimals: m.decimals,
             name: m.name,
             events: m.events,
             notes: m.notes,
@@ -51,6 +53,7 @@ fn emit(buf: &mut [u8; 512], m: Registers, f: Fields) -> Registers
         count: limits::FRAME_LIMIT + 1,
         deep: m.deep,
         number: m.number,
+        decimals: m.decimals,
         name: m.name,
         events: m.events,
         notes: m.notes,
@@ -93,7 +96,29 @@ pub fn emit_instance(buf: &mut [u8; 512], m: Registers) -> Registers
     )
 }
 
-// The frame of the literal at `p`, after its limit.
+// The frame of the clause whose number is at `p`, after its limit.
+pub fn emit_head(text: &[u8], buf: &mut [u8; 512], m: Registers, p: Place) -> Registers
+    requires { ⌜ Inside (length (now text)) p ⌝ }
+    ensures { λ r. ⌜ ((tb : List ℕ) → mem r tb (now (buf .exit))
+        ≡ acts (now (text .entry)) (out (head p))
+        (acts (now (text .entry)) (sized Limit.OfClause p) (mem m tb (now (buf .entry))))) ⌝ }
+{
+    let n = sized(text, Limit::OfClause, p, m);
+    let k = (number_at(text, p) % 256) as u8;
+    emit(
+        buf,
+        n,
+        Fields {
+            kind: kinds::SCALE_BYTE,
+            event: k,
+            note: 0,
+            factor: 0,
+            word: 0,
+        },
+    )
+}
+
+// The frame of the literal at `p`, after its limits.
 pub fn emit_literal(text: &[u8], buf: &mut [u8; 512], m: Registers, p: Place) -> Registers
     requires { ⌜ Inside (length (now text)) p ⌝ }
     ensures { λ r. ⌜ ((tb : List ℕ) → mem r tb (now (buf .exit))
@@ -102,12 +127,13 @@ pub fn emit_literal(text: &[u8], buf: &mut [u8; 512], m: Registers, p: Place) ->
 {
     let n = sized(text, Limit::OfLiteral, p, m);
     let v = number_at(text, p);
+    let d = (decimals_at(text, p) % 256) as u8;
     emit(
         buf,
         n,
         Fields {
             kind: kinds::LITERAL_BYTE,
-            event: 0,
+            event: d,
             note: 0,
             factor: 0,
             word: v,
@@ -116,13 +142,14 @@ pub fn emit_literal(text: &[u8], buf: &mut [u8; 512], m: Registers, p: Place) ->
 }
 
 // The factor of i.
-fn factor_of(text: &[u8], f: Scale) -> u8
-    requires { ⌜ InsideScale (length (now text)) f ⌝ }
-    ensures { λ r. ⌜ r ≡ factorOf (codeAt (now (text .entry))) (valueAt (now (text .entry))) f ⌝ }
+fn factor_of(text: &[u8], f: Multiple) -> u8
+    requires { ⌜ InsideMultiple (length (now text)) f ⌝ }
+    ensures { λ r. ⌜ r ≡ factorOf (codeAt (now (text .entry))) (valueAt (now (text .entry)))
+        (decimalsAt (now (text .entry))) f ⌝ }
 {
     match f {
-        Scale::Once => 1,
-        Scale::Times(p) => (number_at(text, p) % 256) as u8,
+        Multiple::Once => 1,
+        Multiple::Times(p) => (number_at(text, p) % 256) as u8,
     }
 }
 
@@ -136,7 +163,8 @@ fn negated(v: u32) -> u32
 // The offset, as a word of 32 bits.
 fn offset_of(text: &[u8], o: Shift) -> u32
     requires { ⌜ InsideShift (length (now text)) o ⌝ }
-    ensures { λ r. ⌜ r ≡ offsetOf (codeAt (now (text .entry))) (valueAt (now (text .entry))) o ⌝ }
+    ensures { λ r. ⌜ r ≡ offsetOf (codeAt (now (text .entry))) (valueAt (now (text .entry)))
+        (decimalsAt (now (text .entry))) o ⌝ }
 {
     match o {
         Shift::Unshifted => 0,
@@ -158,10 +186,10 @@ pub fn emit_reference(
     m: Registers,
     n: Place,
     e: Place,
-    f: Scale,
+    f: Multiple,
     o: Shift,
 ) -> Registers
-    requires { ⌜ Inside (length (now text)) n × Inside (length (now text)) e × InsideScale (length (now text)) f
+    requires { ⌜ Inside (length (now text)) n × Inside (length (now text)) e × InsideMultiple (length (now text)) f
         × InsideShift (length (now text)) o ⌝ }
     ensures { λ r. ⌜ mem r (now (names .entry)) (now (buf .exit))
         ≡ acts (now (text .entry)) (out (ref n e f o)) (mem m (now (names .entry)) (now (buf .entry))) ⌝ }

@@ -38,7 +38,8 @@ fn no_operand(x: Frame) -> bool
     (x.event == 0) & (x.note == 0) & (x.factor == 0)
 }
 
-fn zero(v: i32) -> bool
+// Whether a value is 0.
+pub fn zero(v: i32) -> bool
     ensures { λ r. ⌜ r ≡ eqb (natAbs v) 0 ⌝ }
 {
     v == 0
@@ -51,11 +52,11 @@ fn near(v: i32) -> bool
     (-limits::OFFSET_LIMIT <= v) & (v <= limits::OFFSET_LIMIT)
 }
 
-// The fields of a literal, of a reference, and of any other kind.
-fn of_literal(x: Frame) -> bool
-    ensures { λ r. ⌜ r ≡ literalFields x ⌝ }
+// The fields of a literal with at most so many decimals, of a reference, and of any other kind.
+fn of_literal(x: Frame, most: u8) -> bool
+    ensures { λ r. ⌜ r ≡ literalFields most x ⌝ }
 {
-    no_operand(x) & (limits::LEAST_LITERAL <= x.value)
+    ((x.event <= most) & ((x.note == 0) & (x.factor == 0))) & (limits::LEAST_LITERAL <= x.value)
 }
 
 fn of_reference(x: Frame) -> bool
@@ -72,13 +73,13 @@ fn of_bare(x: Frame) -> bool
     no_operand(x) & zero(x.value)
 }
 
-// Whether a frame's fields are those of its kind.
-pub fn fields(x: Frame) -> bool
-    ensures { λ r. ⌜ r ≡ fieldsOf (kindOf (x .kind)) x ⌝ }
+// Whether a frame's fields are those of its kind, where a literal has at most so many decimals.
+pub fn fields(x: Frame, most: u8) -> bool
+    ensures { λ r. ⌜ r ≡ fieldsOf most (kindOf (x .kind)) x ⌝ }
 {
     let kind = x.kind;
     match kind {
-        kinds::LITERAL_BYTE => of_literal(x),
+        kinds::LITERAL_BYTE => of_literal(x, most),
         kinds::REFERENCE_BYTE => of_reference(x),
         _ => of_bare(x),
     }

@@ -7,6 +7,9 @@ pub const INSTANCE_BYTE: u8 = 0x02;
 
 pub const REFERENCE_BYTE: u8 = 0x03;
 
+// The head of a rule with a scale.
+pub const SCALE_BYTE: u8 = 0x04;
+
 // On two sums, and abs on one.
 pub const ADD_BYTE: u8 = 0x11;
 

@@ -14,8 +14,10 @@ mod references; // references.rt: readers of references
 mod sums; // sums.rt: readers of sums
 mod conditions; // conditions.rt: readers of conditions
 mod header; // header.rt: readers of the declarations
-mod reader; // reader.rt: the reader of a whole rule; refusals 1 to 8
+mod reader; // reader.rt: the reader of a whole rule; refusals 1 to 8 and 18
 mod frames; // frames.rt: a frame's fields
+mod scale; // scale.rt: the head of frames
+mod powers; // powers.rt: powers of ten
 mod order; // order.rt: refusal 10, and how many references there are
 mod sizes; // sizes.rt: refusal 8
 
@@ -23,9 +25,16 @@ pub use frames::frame_at;
 pub use limits::FRAME_BYTES;
 use order::Ordered;
 pub use order::reference_count;
+pub use powers::MOST_TENS;
+pub use powers::ten_to;
 pub use reader::read;
+pub use scale::head_of;
 ghost use mathlib.Core.Path.{_≡_};
-ghost use Rattle.rule.specs.Check.{wholeFrames, checkedOf};
+ghost use Prim.Native.Nat.{_*_, _≤_};
+ghost use lib.ListN.{length};
+ghost use Rattle.rule.specs.Limits.{frameLimit, frameBytes, decimalLimit};
+ghost use Rattle.rule.specs.Order.{orderOf};
+ghost use Rattle.rule.specs.Check.{wholeFrames, afterOrder, checkedOf};
 ghost use Rattle.rule.specs.CheckTold.{refused, checkTold};
 
 // A refusal: document 01's number, and its place, 0 where none is named.
@@ -48,6 +57,13 @@ pub struct Frame {
     pub note: u8,
     pub factor: u8,
     pub value: i32,
+}
+
+// The head of frames: how many frames it has, 0 or 1; how many decimals each note has; and the most that a literal may have.
+pub struct Head {
+    pub frames: usize,
+    pub decimals: u8,
+    pub most: u8,
 }
 
 // What `read` answers: the number of frames, or a refusal.
@@ -75,23 +91,39 @@ fn refuse(number: u8, place: u32) -> Checked
     Checked::Refused(Refusal { number, place })
 }
 
+// 10 with its place, 7 and 8 of the frames behind a head. Called by check.
+fn check_body(frames: &[u8], head: Head) -> Checked
+    requires { ⌜ (length (now frames) ≤ frameLimit * frameBytes) × ((head .frames ≤ 1)
+        × ((head .decimals ≤ decimalLimit) × (head .most ≤ decimalLimit))) ⌝ }
+    ensures { λ r. ⌜ checkTold r
+        ≡ afterOrder (head .frames) (head .decimals) (now (frames .entry)) (orderOf (head .most) (now (frames .entry))) ⌝ }
+{
+    let found = order::order(frames, head.most);
+    match found {
+        Ordered::At(p) => refuse(10, (head.frames + p) as u32),
+        Ordered::Fine(count) => {
+            if count == 0 {
+                refuse(7, 0)
+            } else if sizes::sizes_fit(frames, head.decimals) {
+                Checked::Accepted
+            } else {
+                refuse(8, 0)
+            }
+        }
+    }
+}
+
 // What opening checks of frames, whatever the bytes are: 9, 10, 7 and 8, in this order.
 pub fn check(frames: &[u8]) -> Checked
     ensures { λ r. ⌜ checkTold r ≡ checkedOf (now (frames .entry)) ⌝ }
 {
     if whole_frames(frames.len()) {
-        let found = order::order(frames);
-        match found {
-            Ordered::At(p) => refuse(10, p as u32),
-            Ordered::Fine(count) => {
-                if count == 0 {
-                    refuse(7, 0)
-                } else if sizes::sizes_fit(frames) {
-                    Checked::Accepted
-                } else {
-                    refuse(8, 0)
-                }
-            }
+        if scale::head_fine(frames) {
+            let head = scale::head_of(frames);
+            let at = head.frames * limits::FRAME_BYTES;
+            check_body(&frames[at..], head)
+        } else {
+            refuse(10, 0)
         }
     } else {
         refuse(9, 0)

@@ -27,6 +27,9 @@ pub const LEAST_LITERAL: i32 = 0;
 
 pub const LITERAL_LIMIT: u32 = 2147483647;
 
+// A scale is 0 to 6, and a literal has at most 6 decimals.
+pub const DECIMAL_LIMIT: u8 = 6;
+
 // Depth is at most 16.
 pub const DEPTH_LIMIT: usize = 16;
 

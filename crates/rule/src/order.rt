@@ -69,12 +69,12 @@ fn step(kind: u8, c: usize, k: usize) -> Shape
     }
 }
 
-// The same by its fields too. Called by order.
-fn frame_step(x: Frame, c: usize, k: usize) -> Shape
+// The same by its fields too, where a literal has at most so many decimals. Called by order.
+fn frame_step(x: Frame, most: u8, c: usize, k: usize) -> Shape
     requires { ⌜ (c < 2 ^ 63) × (k < 2 ^ 63) ⌝ }
-    ensures { λ r. ⌜ r ≡ frameStep x c k ⌝ }
+    ensures { λ r. ⌜ r ≡ frameStep most x c k ⌝ }
 {
-    if frames::fields(x) {
+    if frames::fields(x, most) {
         step(x.kind, c, k)
     } else {
         Shape::Bad
@@ -93,9 +93,9 @@ fn counted(kind: u8, m: usize) -> usize
     }
 }
 
-// Whether the frames are a rule: after i of them, c conditions, k sums, and m references on the way.
-pub fn order(frames: &[u8]) -> Ordered
-    ensures { λ r. ⌜ r ≡ orderOf (now (frames .entry)) ⌝ }
+// Whether the frames behind the head are a rule: after i of them, c conditions, k sums, and m references on the way.
+pub fn order(frames: &[u8], most: u8) -> Ordered
+    ensures { λ r. ⌜ r ≡ orderOf most (now (frames .entry)) ⌝ }
 {
     let n = frames.len() / limits::FRAME_BYTES;
     let mut i = 0;
@@ -104,7 +104,7 @@ pub fn order(frames: &[u8]) -> Ordered
     let mut m = 0;
     while i < n {
         let x = frames::frame_at(frames, i);
-        let next = frame_step(x, c, k);
+        let next = frame_step(x, most, c, k);
         match next {
             Shape::Good(c2, k2) => {
                 c = c2;

@@ -12,8 +12,9 @@ pub enum Role {
     Note,
 }
 
-// Which limit a number has: that of a literal, of the factor of i, or of an offset.
+// Which limit a number has: that of the clause, of a literal, of the factor of i, or of an offset.
 pub enum Limit {
+    OfClause,
     OfLiteral,
     OfFactor,
     OfOffset,
@@ -25,7 +26,7 @@ pub enum Sign {
 }
 
 // The factor of i in an index: absent, or a number.
-pub enum Scale {
+pub enum Multiple {
     Once,
     Times(Place),
 }

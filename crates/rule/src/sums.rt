@@ -13,6 +13,7 @@ use crate::parts::Place;
 use crate::parts::Role;
 use crate::references::reference;
 use crate::tokens::ABS_KIND;
+use crate::tokens::DECIMAL_KIND;
 use crate::tokens::INDEX_KIND;
 use crate::tokens::NAME_KIND;
 use crate::tokens::NUMBER_KIND;
@@ -24,6 +25,7 @@ ghost use lib.ListN.{length};
 ghost use Rattle.rule.specs.Frames.{Kind};
 ghost use Rattle.rule.specs.Class.{openParen, closeParen};
 ghost use Rattle.rule.specs.Draft.{alone};
+ghost use Rattle.rule.specs.Token.{body};
 ghost use Rattle.rule.specs.Machine.{out, doing, want, factor, muls, adds, prod, sum};
 ghost use Rattle.rule.specs.Memory.{mem};
 ghost use Rattle.rule.specs.ReadsPart.{signByte, ReadsPart};
@@ -46,14 +48,15 @@ fn parens(
     d: usize,
     m: Registers,
     buf: &mut [u8; 512],
+    points: bool,
 ) -> Step
     requires { ⌜ at ≤ length (now text) ⌝ }
-    ensures { λ r. ⌜ ReadsPart (λ s. sum d (want closeParen ∷ s)) (now (text .entry)) at (at + 1)
+    ensures { λ r. ⌜ ReadsPart (body points) (body points) (λ s. sum d (want closeParen ∷ s)) (now (text .entry)) at (at + 1)
         (mem m (now (names .entry)) (now (buf .entry))) r (now (names .entry)) (now (buf .exit)) ⌝ }
 {
-    match sum(text, names, at, d, m, buf) {
+    match sum(text, names, at, d, m, buf, points) {
         Step::No(q) => Step::No(q),
-        Step::Go(a, n) => expect(text, a, n, b')'),
+        Step::Go(a, n) => expect(text, a, n, b')', points),
     }
 }
 
@@ -65,14 +68,15 @@ pub fn sum(
     d: usize,
     m: Registers,
     buf: &mut [u8; 512],
+    points: bool,
 ) -> Step
     requires { ⌜ at ≤ length (now text) ⌝ }
-    ensures { λ r. ⌜ ReadsPart (λ s. sum d s) (now (text .entry)) at (at + 1)
+    ensures { λ r. ⌜ ReadsPart (body points) (body points) (λ s. sum d s) (now (text .entry)) at (at + 1)
         (mem m (now (names .entry)) (now (buf .entry))) r (now (names .entry)) (now (buf .exit)) ⌝ }
 {
-    match prod(text, names, at, d, m, buf) {
+    match prod(text, names, at, d, m, buf, points) {
         Step::No(q) => Step::No(q),
-        Step::Go(a, n) => adds(text, names, a, d, n, buf),
+        Step::Go(a, n) => adds(text, names, a, d, n, buf, points),
     }
 }
 
@@ -84,21 +88,22 @@ fn adds(
     d: usize,
     m: Registers,
     buf: &mut [u8; 512],
+    points: bool,
 ) -> Step
     requires { ⌜ at ≤ length (now text) ⌝ }
-    ensures { λ r. ⌜ ReadsPart (λ s. adds d ∷ s) (now (text .entry)) at at
+    ensures { λ r. ⌜ ReadsPart (body points) (body points) (λ s. adds d ∷ s) (now (text .entry)) at at
         (mem m (now (names .entry)) (now (buf .entry))) r (now (names .entry)) (now (buf .exit)) ⌝ }
 {
-    let t = token_at(text, at);
+    let t = token_at(text, at, points);
     let kind = sign_kind(t.kind);
     if kind == 0 {
         return Step::Go(at, m);
     }
-    match prod(text, names, t.end, d, m, buf) {
+    match prod(text, names, t.end, d, m, buf, points) {
         Step::No(q) => Step::No(q),
         Step::Go(a, n) => {
             let k = emit_kind(buf, n, kind);
-            adds(text, names, a, d, k, buf)
+            adds(text, names, a, d, k, buf, points)
         }
     }
 }
@@ -111,14 +116,15 @@ fn prod(
     d: usize,
     m: Registers,
     buf: &mut [u8; 512],
+    points: bool,
 ) -> Step
     requires { ⌜ at ≤ length (now text) ⌝ }
-    ensures { λ r. ⌜ ReadsPart (λ s. prod d s) (now (text .entry)) at (at + 1)
+    ensures { λ r. ⌜ ReadsPart (body points) (body points) (λ s. prod d s) (now (text .entry)) at (at + 1)
         (mem m (now (names .entry)) (now (buf .entry))) r (now (names .entry)) (now (buf .exit)) ⌝ }
 {
-    match factor(text, names, at, d, m, buf) {
+    match factor(text, names, at, d, m, buf, points) {
         Step::No(q) => Step::No(q),
-        Step::Go(a, n) => muls(text, names, a, d, n, buf),
+        Step::Go(a, n) => muls(text, names, a, d, n, buf, points),
     }
 }
 
@@ -130,20 +136,21 @@ fn muls(
     d: usize,
     m: Registers,
     buf: &mut [u8; 512],
+    points: bool,
 ) -> Step
     requires { ⌜ at ≤ length (now text) ⌝ }
-    ensures { λ r. ⌜ ReadsPart (λ s. muls d ∷ s) (now (text .entry)) at at
+    ensures { λ r. ⌜ ReadsPart (body points) (body points) (λ s. muls d ∷ s) (now (text .entry)) at at
         (mem m (now (names .entry)) (now (buf .entry))) r (now (names .entry)) (now (buf .exit)) ⌝ }
 {
-    let t = token_at(text, at);
+    let t = token_at(text, at, points);
     if t.kind != b'*' {
         return Step::Go(at, m);
     }
-    match factor(text, names, t.end, d, m, buf) {
+    match factor(text, names, t.end, d, m, buf, points) {
         Step::No(q) => Step::No(q),
         Step::Go(a, n) => {
             let k = emit_kind(buf, n, kinds::MULTIPLY_BYTE);
-            muls(text, names, a, d, k, buf)
+            muls(text, names, a, d, k, buf, points)
         }
     }
 }
@@ -156,21 +163,23 @@ fn absolute(
     d: usize,
     m: Registers,
     buf: &mut [u8; 512],
+    points: bool,
 ) -> Step
     requires { ⌜ at ≤ length (now text) ⌝ }
-    ensures { λ r. ⌜ ReadsPart (λ s. want openParen ∷ sum d (want closeParen ∷ doing (out (alone Kind.absolute)) ∷ s))
+    ensures { λ r. ⌜ ReadsPart (body points) (body points)
+        (λ s. want openParen ∷ sum d (want closeParen ∷ doing (out (alone Kind.absolute)) ∷ s))
         (now (text .entry)) at at (mem m (now (names .entry)) (now (buf .entry))) r (now (names .entry)) (now (buf .exit)) ⌝ }
 {
-    match expect(text, at, m, b'(') {
+    match expect(text, at, m, b'(', points) {
         Step::No(q) => Step::No(q),
-        Step::Go(a, n) => match parens(text, names, a, d, n, buf) {
+        Step::Go(a, n) => match parens(text, names, a, d, n, buf, points) {
             Step::No(q) => Step::No(q),
             Step::Go(z, l) => Step::Go(z, emit_kind(buf, l, kinds::ABSOLUTE_BYTE)),
         },
     }
 }
 
-// factor: number, "i", "(" sum ")", "abs" "(" sum ")", or reference
+// factor: number, decimal, "i", "(" sum ")", "abs" "(" sum ")", or reference
 fn factor(
     text: &[u8],
     names: &[u64; 12],
@@ -178,12 +187,13 @@ fn factor(
     d: usize,
     m: Registers,
     buf: &mut [u8; 512],
+    points: bool,
 ) -> Step
     requires { ⌜ at ≤ length (now text) ⌝ }
-    ensures { λ r. ⌜ ReadsPart (λ s. factor d ∷ s) (now (text .entry)) at (at + 1)
+    ensures { λ r. ⌜ ReadsPart (body points) (body points) (λ s. factor d ∷ s) (now (text .entry)) at (at + 1)
         (mem m (now (names .entry)) (now (buf .entry))) r (now (names .entry)) (now (buf .exit)) ⌝ }
 {
-    let t = token_at(text, at);
+    let t = token_at(text, at, points);
     let z = t.end;
     let p = Place {
         start: t.start,
@@ -197,14 +207,17 @@ fn factor(
     }
     if t.kind == NAME_KIND {
         let n = named(text, names, Role::Note, p, m);
-        return reference(text, names, z, p, n, buf);
+        return reference(text, names, z, p, n, buf, points);
     }
     let e = deeper(d);
     if t.kind == b'(' {
-        return parens(text, names, z, e, entered(e, m), buf);
+        return parens(text, names, z, e, entered(e, m), buf, points);
     }
     if t.kind == ABS_KIND {
-        return absolute(text, names, z, e, entered(e, m), buf);
+        return absolute(text, names, z, e, entered(e, m), buf, points);
+    }
+    if t.kind == DECIMAL_KIND {
+        return Step::Go(z, emit_literal(text, buf, m, p));
     }
     Step::No(t.start)
 }

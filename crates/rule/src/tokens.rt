@@ -6,10 +6,11 @@ use crate::classes::LETTER;
 use crate::classes::MARK;
 use crate::classes::class_of;
 ghost use mathlib.Core.Path.{_≡_};
+ghost use mathlib.Core.Bool.{cond};
 ghost use Prim.Native.Nat.{_+_, _≤_};
 ghost use lib.ListN.{length, drop, getD};
 ghost use Rattle.rule.specs.Class.{span};
-ghost use Rattle.rule.specs.Token.{same, wordKind, longestMark, markWidth, tokenAt};
+ghost use Rattle.rule.specs.Token.{same, wordKind, longestMark, markWidth, fraction, digitsKind, tokenAt, clauseAt};
 
 // Kinds of tokens; a mark of one byte has that byte for its kind.
 pub const END_KIND: u8 = 0;
@@ -25,6 +26,11 @@ pub const NOTES_KIND: u8 = 4;
 pub const INDEX_KIND: u8 = 5;
 
 pub const ABS_KIND: u8 = 6;
+
+// A number with a point, and the word of the clause.
+pub const DECIMAL_KIND: u8 = 7;
+
+pub const SCALE_KIND: u8 = 8;
 
 pub const ARROW_KIND: u8 = 130;
 
@@ -127,10 +133,45 @@ fn mark_width(kind: u8) -> usize
     if kind <= AT_LEAST_KIND { 2 } else { 1 }
 }
 
-// The next token from `at` on; past the last one, the end.
-pub fn token_at(text: &[u8], at: usize) -> Token
+// Where a point and digits after a run of digits end; `at` where there are none.
+fn fraction_end(text: &[u8], at: usize) -> usize
     requires { ⌜ at ≤ length (now text) ⌝ }
-    ensures { λ r. ⌜ r ≡ tokenAt (now (text .entry)) at ⌝ }
+    ensures { λ r. ⌜ (r ≡ at + fraction (drop at (now (text .entry)))) × (r ≤ length (now (text .entry))) ⌝ }
+{
+    if text.len() <= at {
+        return at;
+    }
+    if text[at] != b'.' {
+        return at;
+    }
+    let e = run_end(text, at + 1, DIGIT);
+    if e == at + 1 { at } else { e }
+}
+
+// The same, where points are taken; else `at`.
+fn point_end(text: &[u8], at: usize, points: bool) -> usize
+    requires { ⌜ at ≤ length (now text) ⌝ }
+    ensures { λ r. ⌜ (r ≡ at + cond points (fraction (drop at (now (text .entry)))) 0)
+        × (r ≤ length (now (text .entry))) ⌝ }
+{
+    if points { fraction_end(text, at) } else { at }
+}
+
+// The kind of a run of digits with so many bytes of a point and digits after it.
+fn digits_kind(width: usize) -> u8
+    ensures { λ r. ⌜ r ≡ digitsKind width ⌝ }
+{
+    if width == 0 {
+        NUMBER_KIND
+    } else {
+        DECIMAL_KIND
+    }
+}
+
+// The next token from `at` on, where digits, a point and digits are one if points are taken; past the last one, the end.
+pub fn token_at(text: &[u8], at: usize, points: bool) -> Token
+    requires { ⌜ at ≤ length (now text) ⌝ }
+    ensures { λ r. ⌜ r ≡ tokenAt points (now (text .entry)) at ⌝ }
 {
     let s = run_end(text, at, BLANK);
     if text.len() <= s {
@@ -151,10 +192,12 @@ pub fn token_at(text: &[u8], at: usize) -> Token
         };
     }
     if c == DIGIT {
+        let e = run_end(text, s + 1, DIGIT);
+        let f = point_end(text, e, points);
         return Token {
-            kind: NUMBER_KIND,
+            kind: digits_kind(f - e),
             start: s,
-            end: run_end(text, s + 1, DIGIT),
+            end: f,
         };
     }
     if c == MARK {
@@ -170,4 +213,19 @@ pub fn token_at(text: &[u8], at: usize) -> Token
         start: s,
         end: s + 1,
     }
+}
+
+// Whether the word of the clause stands there: `scale`, and a number after it.
+pub fn clause_at(text: &[u8], at: usize) -> bool
+    requires { ⌜ at ≤ length (now text) ⌝ }
+    ensures { λ r. ⌜ r ≡ clauseAt (now (text .entry)) at ⌝ }
+{
+    let t = token_at(text, at, false);
+    let s = t.start;
+    let e = t.end;
+    if same_bytes(&text[s..e], b"scale") {
+        let n = token_at(text, e, false);
+        return n.kind == NUMBER_KIND;
+    }
+    false
 }

@@ -53,12 +53,13 @@ module _ (i c k : ℕ) (x : Frame) (cs : List Cond) (ss : List Sum) (h : length 
       (λ t. (length-two (connective j) cs c (leb→le 2 c (and-l (leb 2 c) (eqb k 0) t)) h, g ∙ eqb→eq k 0 (and-r (leb 2 c) (eqb k 0) t)))
   many-by none = tt
 
-many-next : (i : ℕ) (x : Frame) (p : Prefix) (z : Trees) → AsMany p z → AsMany (orderNext i x p) (built x z)
-many-next i x (stuck q) z h = tt
-many-next i x (viable c k) (trees cs ss) h =
-    many-cond i (fieldsOf (kindOf (x .kind)) x) (stepBy (kindOf (x .kind)) c k) (builtBy (kindOf (x .kind)) x cs ss)
-    (λ t. many-by i c k x cs ss (h .0) (h .1) (kindOf (x .kind)))
+module _ (most : ℕ) where
+  many-next : (i : ℕ) (x : Frame) (p : Prefix) (z : Trees) → AsMany p z → AsMany (orderNext most i x p) (built x z)
+  many-next i x (stuck q) z h = tt
+  many-next i x (viable c k) (trees cs ss) h =
+      many-cond i (fieldsOf most (kindOf (x .kind)) x) (stepBy (kindOf (x .kind)) c k) (builtBy (kindOf (x .kind)) x cs ss)
+      (λ t. many-by i c k x cs ss (h .0) (h .1) (kindOf (x .kind)))
 
-pub as-many : (s : List ℕ) (k : ℕ) → AsMany (prefixAt s k) (treesAt s k)
-as-many s zero = (refl, refl)
-as-many s (suc k) = many-next k (frameAt s k) (prefixAt s k) (treesAt s k) (as-many s k)
+  pub as-many : (s : List ℕ) (k : ℕ) → AsMany (prefixAt most s k) (treesAt s k)
+  as-many s zero = (refl, refl)
+  as-many s (suc k) = many-next k (frameAt s k) (prefixAt most s k) (treesAt s k) (as-many s k)

@@ -6,6 +6,7 @@ use native.Mathlib.Decide.{ℕ-discrete}
 use lib.IntN.{ℤ}
 use borrow.Author.Tests.{ne-eqb}
 use Rattle.rule.specs.Frames.{multiply, atLeast, implies, Kind, none, kindByte, kindOf, arithmeticAt, relationAt, connectiveAt}
+use Rattle.rule.specs.declared.Frame.{Frame}
 use Rattle.rule.proofs.Laws.{kind-at, none-00, none-04}
 use Rattle.verdict.specs.Pass.{Pass, passBy}
 
@@ -28,5 +29,5 @@ pub none-low : (b : ℕ) → b < 0x11 → (b ≡ 1 → ⊥) → (b ≡ 2 → ⊥
 none-low b h p q r = elim (ℕ-discrete b 0) [ yes e ↦ none-00 b (omega arith) | no n ↦ none-04 b (omega arith) h ]
 
 -- a step by one kind
-pub step-at : (o : Kind) (b : ℕ) (v : ℤ) (i mark : ℕ) (note : ℤ) (p q : Pass) → b ≡ kindByte o → q ≡ passBy o v i mark note p → q ≡ passBy (kindOf b) v i mark note p
-step-at o b v i mark note p q e h = h ∙ ap (λ (k : Kind). passBy k v i mark note p) (sym (kind-at o b e))
+pub step-at : (scale : ℕ) (o : Kind) (x : Frame) (i mark : ℕ) (note : ℤ) (p q : Pass) → x .kind ≡ kindByte o → q ≡ passBy scale o x i mark note p → q ≡ passBy scale (kindOf (x .kind)) x i mark note p
+step-at scale o x i mark note p q e h = h ∙ ap (λ (k : Kind). passBy scale k x i mark note p) (sym (kind-at o (x .kind) e))

@@ -11,9 +11,14 @@ mod Bounds
 mod Loop
 mod Mirror
 mod Means
+-- Decimals: products of integers, relations of multiples, and the value by rational numbers.
+mod Products
+mod Scaling
+mod Exact
 -- Computed examples.
 mod Marked
 mod Examples
+mod ExactExamples
 -- What other crates cite, and the headline statements.
 pub mod Laws
 pub mod Main

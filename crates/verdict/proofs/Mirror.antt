@@ -10,19 +10,20 @@ use lib.IntN.{ℤ, pos}
 use lib.ListN.{length, getD}
 use Rattle.numbers.proofs.Bools.{true-false}
 use Rattle.rule.specs.Frames.{Source, Arithmetic, Relation, Connective, Kind, kindByte, kindOf, frameAt, frameCount, fieldsOf}
-use Rattle.rule.specs.Tree.{Reference, Sum, literal, instance, reference, arithmetic, abs, Cond, relation, connective, referencesS, references}
+use Rattle.rule.specs.Tree.{Reference, Sum, literal, instance, reference, arithmetic, abs, Cond, relation, connective, referencesS, referencesC}
+use Rattle.rule.specs.Decimals.{Term, term}
 use Rattle.rule.specs.References.{referenceByte, referenceOf}
 use Rattle.rule.specs.Order.{Prefix, viable, stuck, prefixAt, InOrder}
-use Rattle.rule.specs.Build.{Trees, trees, top1, top2, leaf, builtBy, built, treesAt, firstC, treeOf}
+use Rattle.rule.specs.Build.{Trees, trees, top1, top2, leaf, builtBy, built, treesAt, firstC}
 use Rattle.rule.specs.Stack.{EnoughSums}
 use Rattle.rule.specs.declared.Frame.{Frame}
 use Rattle.rule.proofs.Laws.{byte-kind, Live, sumsOf, live, one-left, found, literal-value}
 use Rattle.verdict.specs.Found.{Found, present, pending, void, Given, isPresent, isPending, isMissing, someOf}
 use Rattle.verdict.specs.Kleene.{notK, connected, truth}
-use Rattle.verdict.specs.Value.{computed, sizeOf, noteOf, holds, valueS, value}
-use Rattle.verdict.specs.Settled.{judgedBy, judgement}
+use Rattle.verdict.specs.Value.{computed, sizeOf, noteOf, compared, valueS, valueC}
+use Rattle.verdict.specs.Settled.{judgedBy}
 use Rattle.verdict.specs.Marks.{presentMark, pendingMark, Tells, TellAll}
-use Rattle.verdict.specs.Pass.{Pass, relationTruth, operandBy, passBy, passAt, firstT, judgementOf}
+use Rattle.verdict.specs.Pass.{Pass, relationTruth, operandBy, passBy, passAt, firstT, bodyJudgement}
 use Rattle.verdict.specs.declared.Truth.{Truth}
 use Rattle.verdict.specs.declared.Truth.the-variants.{Unknown}
 use Rattle.verdict.proofs.Own.{or-left, or-right}
@@ -74,7 +75,7 @@ module _ (is : Found → Bool) (at : Reference → Found) where
 
   abbrev someC : List Cond → Bool
   someC [] = false
-  someC (t ∷ cs) = someOf is at (references t) || someC cs
+  someC (t ∷ cs) = someOf is at (referencesC t) || someC cs
 
   some-arithmetic : (o : Arithmetic) (ss : List Sum) → someS ss ≡ someS (top2 (arithmetic o) ss)
   some-arithmetic o [] = refl
@@ -95,8 +96,8 @@ module _ (is : Found → Bool) (at : Reference → Found) where
   some-connective j [] = refl
   some-connective j (q ∷ []) = refl
   some-connective j (q ∷ (p ∷ cs)) =
-      or-two (someOf is at (references p)) (someOf is at (references q)) (someC cs)
-      ∙ ap (λ (t : Bool). t || someC cs) (sym (some-append is at (references p) (references q)))
+      or-two (someOf is at (referencesC p)) (someOf is at (referencesC q)) (someC cs)
+      ∙ ap (λ (t : Bool). t || someC cs) (sym (some-append is at (referencesC p) (referencesC q)))
 
 map-one : {A B : Type 0} (f : A → B) (g : A → A) (g′ : B → B) → ((a : A) → g′ (f a) ≡ f (g a)) → (l : List A) → top1 g′ (map f l) ≡ map f (top1 g l)
 map-one f g g′ h [] = refl
@@ -108,54 +109,54 @@ map-two f g g′ h (b ∷ []) = refl
 map-two f g g′ h (b ∷ (a ∷ l)) = ap (λ (x : _). x ∷ map f l) (h a b)
 
 -- ---- the pass holds the values of the trees, of the sums only while no reference is missing
-module _ (g : Given) where
+module _ (scale : ℕ) (g : Given) where
   record Holds (cs : List Cond) (ss : List Sum) (p : Pass) : Type 0 where
     missing : p .missing ≡ someS isMissing (g .found) ss
-    sums : p .missing ≡ false → p .sums ≡ map (valueS g) ss
-    conds : p .conds ≡ map (value g) cs
+    sums : p .missing ≡ false → p .sums ≡ map (valueS scale g) ss
+    conds : p .conds ≡ map (valueC scale g) cs
     pending : p .pending ≡ (someC isPending (g .found) cs || someS isPending (g .found) ss)
     present : p .present ≡ (someC isPresent (g .found) cs || someS isPresent (g .found) ss)
 
   abbrev HoldsIn : Trees → Pass → Type 0
   HoldsIn (trees cs ss) p = Holds cs ss p
 
-  related-away : (r : Relation) (vs : List ℤ) → relationTruth r true vs ≡ Unknown
+  related-away : (r : Relation) (vs : List (Term ℤ)) → relationTruth r true vs ≡ Unknown
   related-away r [] = refl
   related-away r (y ∷ []) = refl
   related-away r (y ∷ (x ∷ vs)) = refl
 
-  related-by : (r : Relation) (a b : Sum) (m : Bool) (vs : List ℤ) → m ≡ someOf isMissing (g .found) (referencesS a ++ referencesS b)
-      → (m ≡ false → vs ≡ valueS g b ∷ (valueS g a ∷ [])) → relationTruth r m vs ≡ value g (relation r a b)
-  related-by r a b true vs e h = related-away r vs ∙ ap (λ (t : Bool). cond t Unknown (truth (holds r (valueS g a) (valueS g b)))) e
+  related-by : (r : Relation) (a b : Sum) (m : Bool) (vs : List (Term ℤ)) → m ≡ someOf isMissing (g .found) (referencesS a ++ referencesS b)
+      → (m ≡ false → vs ≡ valueS scale g b ∷ (valueS scale g a ∷ [])) → relationTruth r m vs ≡ valueC scale g (relation r a b)
+  related-by r a b true vs e h = related-away r vs ∙ ap (λ (t : Bool). cond t Unknown (truth (compared r (valueS scale g a) (valueS scale g b)))) e
   related-by r a b false vs e h =
-      ap (relationTruth r false) (h refl) ∙ ap (λ (t : Bool). cond t Unknown (truth (holds r (valueS g a) (valueS g b)))) e
+      ap (relationTruth r false) (h refl) ∙ ap (λ (t : Bool). cond t Unknown (truth (compared r (valueS scale g a) (valueS scale g b)))) e
 
-  module _ (x : Frame) (mark : ℕ) (note : ℤ) (cs : List Cond) (p : Pass) where
-    holds-operand : (s : Source) (ss : List Sum) → T (fieldsOf (Kind.operand s) x) → (s ≡ Source.reference → Tells (g .found (referenceOf x)) mark note)
-        → Holds cs ss p → Holds cs (leaf s x ∷ ss) (operandBy s (x .value) (g .instance) mark note p)
+  module _ (most : ℕ) (x : Frame) (mark : ℕ) (note : ℤ) (cs : List Cond) (p : Pass) where
+    holds-operand : (s : Source) (ss : List Sum) → T (fieldsOf most (Kind.operand s) x) → (s ≡ Source.reference → Tells (g .found (referenceOf x)) mark note)
+        → Holds cs ss p → Holds cs (leaf s x ∷ ss) (operandBy scale s x (g .instance) mark note p)
     holds-operand Source.literal ss f t h =
         record {
           missing = h .missing;
-          sums = λ e. ap₂ _∷_ (literal-value x f) (h .sums e);
+          sums = λ e. ap₂ _∷_ (ap (λ (z : ℤ). term z (x .event)) (literal-value most x f)) (h .sums e);
           conds = h .conds;
           pending = h .pending;
           present = h .present;
         }
     holds-operand Source.instance ss f t h =
-        record { missing = h .missing; sums = λ e. ap (λ (vs : List ℤ). pos (g .instance) ∷ vs) (h .sums e); conds = h .conds; pending = h .pending; present = h .present }
+        record { missing = h .missing; sums = λ e. ap (λ (vs : List (Term ℤ)). term (pos (g .instance)) 0 ∷ vs) (h .sums e); conds = h .conds; pending = h .pending; present = h .present }
     holds-operand Source.reference ss f t h =
         let q = g .found (referenceOf x) in
         let w : Tells q mark note = t refl in
         let m : not (eqb mark presentMark) ≡ isMissing q = tells-missing q mark note w in
         record {
           missing = ap₂ _||_ (h .missing) m ∙ or-last (someS isMissing (g .found) ss) (isMissing q);
-          sums = λ e. ap₂ _∷_ (tells-note q mark note w (sym m ∙ or-right (p .missing) (not (eqb mark presentMark)) e)) (h .sums (or-left (p .missing) (not (eqb mark presentMark)) e));
+          sums = λ e. ap₂ _∷_ (ap (λ (z : ℤ). term z scale) (tells-note q mark note w (sym m ∙ or-right (p .missing) (not (eqb mark presentMark)) e))) (h .sums (or-left (p .missing) (not (eqb mark presentMark)) e));
           conds = h .conds;
           pending = ap₂ _||_ (h .pending) (tells-pending q mark note w) ∙ or-into (someC isPending (g .found) cs) (someS isPending (g .found) ss) (isPending q);
           present = ap₂ _||_ (h .present) (tells-present q mark note w) ∙ or-into (someC isPresent (g .found) cs) (someS isPresent (g .found) ss) (isPresent q);
         }
 
-    holds-relation : (r : Relation) (ss : List Sum) → length ss ≡ 2 → Holds cs ss p → HoldsIn (builtBy (Kind.relation r) x cs ss) (passBy (Kind.relation r) (x .value) (g .instance) mark note p)
+    holds-relation : (r : Relation) (ss : List Sum) → length ss ≡ 2 → Holds cs ss p → HoldsIn (builtBy (Kind.relation r) x cs ss) (passBy scale (Kind.relation r) x (g .instance) mark note p)
     holds-relation r [] n h = absurd (omega arith)
     holds-relation r (b ∷ []) n h = absurd (omega arith)
     holds-relation r (b ∷ (a ∷ [])) n h =
@@ -177,13 +178,13 @@ module _ (g : Given) where
             ∙ ap (λ (t : Bool). (t || someC is (g .found) cs) || false) (sym (some-append is (g .found) (referencesS a) (referencesS b)))
     holds-relation r (b ∷ (a ∷ (d ∷ ss))) n h = absurd (omega arith)
 
-    holds-by : (o : Kind) (ss : List Sum) → T (fieldsOf o x) → (o ≡ Kind.operand Source.reference → Tells (g .found (referenceOf x)) mark note) → EnoughSums o (length ss)
-        → Holds cs ss p → HoldsIn (builtBy o x cs ss) (passBy o (x .value) (g .instance) mark note p)
+    holds-by : (o : Kind) (ss : List Sum) → T (fieldsOf most o x) → (o ≡ Kind.operand Source.reference → Tells (g .found (referenceOf x)) mark note) → EnoughSums o (length ss)
+        → Holds cs ss p → HoldsIn (builtBy o x cs ss) (passBy scale o x (g .instance) mark note p)
     holds-by (Kind.operand s) ss f t n h = holds-operand s ss f (λ e. t (ap Kind.operand e)) h
     holds-by (Kind.arithmetic o) ss f t n h =
         record {
           missing = h .missing ∙ some-arithmetic isMissing (g .found) o ss;
-          sums = λ e. ap (top2 (computed o)) (h .sums e) ∙ map-two (valueS g) (arithmetic o) (computed o) (λ a b. refl) ss;
+          sums = λ e. ap (top2 (computed o)) (h .sums e) ∙ map-two (valueS scale g) (arithmetic o) (computed o) (λ a b. refl) ss;
           conds = h .conds;
           pending = h .pending ∙ ap (λ (t : Bool). someC isPending (g .found) cs || t) (some-arithmetic isPending (g .found) o ss);
           present = h .present ∙ ap (λ (t : Bool). someC isPresent (g .found) cs || t) (some-arithmetic isPresent (g .found) o ss);
@@ -191,7 +192,7 @@ module _ (g : Given) where
     holds-by Kind.absolute ss f t n h =
         record {
           missing = h .missing ∙ some-abs isMissing (g .found) ss;
-          sums = λ e. ap (top1 sizeOf) (h .sums e) ∙ map-one (valueS g) abs sizeOf (λ a. refl) ss;
+          sums = λ e. ap (top1 sizeOf) (h .sums e) ∙ map-one (valueS scale g) abs sizeOf (λ a. refl) ss;
           conds = h .conds;
           pending = h .pending ∙ ap (λ (t : Bool). someC isPending (g .found) cs || t) (some-abs isPending (g .found) ss);
           present = h .present ∙ ap (λ (t : Bool). someC isPresent (g .found) cs || t) (some-abs isPresent (g .found) ss);
@@ -201,7 +202,7 @@ module _ (g : Given) where
         record {
           missing = h .missing;
           sums = h .sums;
-          conds = ap (top1 notK) (h .conds) ∙ map-one (value g) Cond.not notK (λ a. refl) cs;
+          conds = ap (top1 notK) (h .conds) ∙ map-one (valueC scale g) Cond.not notK (λ a. refl) cs;
           pending = h .pending ∙ ap (λ (t : Bool). t || someS isPending (g .found) ss) (some-not isPending (g .found) cs);
           present = h .present ∙ ap (λ (t : Bool). t || someS isPresent (g .found) ss) (some-not isPresent (g .found) cs);
         }
@@ -209,7 +210,7 @@ module _ (g : Given) where
         record {
           missing = h .missing;
           sums = h .sums;
-          conds = ap (top2 (connected j)) (h .conds) ∙ map-two (value g) (connective j) (connected j) (λ a b. refl) cs;
+          conds = ap (top2 (connected j)) (h .conds) ∙ map-two (valueC scale g) (connective j) (connected j) (λ a b. refl) cs;
           pending = h .pending ∙ ap (λ (t : Bool). t || someS isPending (g .found) ss) (some-connective isPending (g .found) j cs);
           present = h .present ∙ ap (λ (t : Bool). t || someS isPresent (g .found) ss) (some-connective isPresent (g .found) j cs);
         }
@@ -219,11 +220,13 @@ module _ (g : Given) where
   alone : (a : Bool) → ((a || false) || false) ≡ a
   alone a = or-false (a || false) ∙ or-false a
 
-  judged-last : (z : Trees) (p : Pass) → AsMany (viable 1 0) z → HoldsIn z p → judgedBy (p .pending) (p .present) (firstT (p .conds)) ≡ judgement g (firstC z)
+  judged-last : (z : Trees) (p : Pass) → AsMany (viable 1 0) z → HoldsIn z p
+      → judgedBy (p .pending) (p .present) (firstT (p .conds))
+      ≡ judgedBy (someOf isPending (g .found) (referencesC (firstC z))) (someOf isPresent (g .found) (referencesC (firstC z))) (valueC scale g (firstC z))
   judged-last (trees [] ss) p n h = absurd (omega (arith, n .0))
   judged-last (trees (t ∷ []) []) p n h =
-      ap₂ (λ (a b : Bool). judgedBy a b (firstT (p .conds))) (h .pending ∙ alone (someOf isPending (g .found) (references t))) (h .present ∙ alone (someOf isPresent (g .found) (references t)))
-      ∙ ap (λ (cs : List Truth). judgedBy (someOf isPending (g .found) (references t)) (someOf isPresent (g .found) (references t)) (firstT cs)) (h .conds)
+      ap₂ (λ (a b : Bool). judgedBy a b (firstT (p .conds))) (h .pending ∙ alone (someOf isPending (g .found) (referencesC t))) (h .present ∙ alone (someOf isPresent (g .found) (referencesC t)))
+      ∙ ap (λ (cs : List Truth). judgedBy (someOf isPending (g .found) (referencesC t)) (someOf isPresent (g .found) (referencesC t)) (firstT cs)) (h .conds)
   judged-last (trees (t ∷ []) (a ∷ ss)) p n h = absurd (omega (arith, n .1))
   judged-last (trees (t ∷ (u ∷ cs)) ss) p n h = absurd (omega (arith, n .0))
 
@@ -240,22 +243,26 @@ sums-of : (p : Prefix) (cs : List Cond) (ss : List Sum) → Live p → AsMany p 
 sums-of (viable c k) cs ss l h = sym (h .1)
 sums-of (stuck q) cs ss l h = absurd l
 
-module _ (s : List ℕ) (g : Given) (marks : List ℕ) (notes : List ℤ) (f : InOrder s) (told : TellAll s (g .found) marks notes) where
-  holds-next : (k : ℕ) → k < frameCount s → (z : Trees) → treesAt s k ≡ z → HoldsIn g z (passAt s (g .instance) marks notes k) → HoldsIn g (treesAt s (suc k)) (passAt s (g .instance) marks notes (suc k))
+module _ (most scale : ℕ) (s : List ℕ) (g : Given) (marks : List ℕ) (notes : List ℤ) (f : InOrder most s) (told : TellAll s (g .found) marks notes) where
+  holds-next : (k : ℕ) → k < frameCount s → (z : Trees) → treesAt s k ≡ z → HoldsIn scale g z (passAt scale s (g .instance) marks notes k)
+      → HoldsIn scale g (treesAt s (suc k)) (passAt scale s (g .instance) marks notes (suc k))
   holds-next k l (trees cs ss) e h =
       let x = frameAt s k in
-      let q = found s k l f in
-      let n : sumsOf (prefixAt s k) ≡ length ss = sums-of (prefixAt s k) cs ss (live s k (omega arith) f) (subst (AsMany (prefixAt s k)) e (as-many s k)) in
-      subst (λ (z : Trees). HoldsIn g (built x z) (passAt s (g .instance) marks notes (suc k))) (sym e)
-      (holds-by g x (getD marks k 0) (getD notes k (pos 0)) cs (passAt s (g .instance) marks notes k) (kindOf (x .kind)) ss (q .fields)
+      let q = found most s k l f in
+      let n : sumsOf (prefixAt most s k) ≡ length ss = sums-of (prefixAt most s k) cs ss (live most s k (omega arith) f) (subst (AsMany (prefixAt most s k)) e (as-many most s k)) in
+      subst (λ (z : Trees). HoldsIn scale g (built x z) (passAt scale s (g .instance) marks notes (suc k))) (sym e)
+      (holds-by scale g most x (getD marks k 0) (getD notes k (pos 0)) cs (passAt scale s (g .instance) marks notes k) (kindOf (x .kind)) ss (q .fields)
       (λ o. told k l (byte-of (x .kind) o)) (subst (EnoughSums (kindOf (x .kind))) n (q .sums)) h)
 
-  holds-at : (k : ℕ) → k ≤ frameCount s → HoldsIn g (treesAt s k) (passAt s (g .instance) marks notes k)
+  holds-at : (k : ℕ) → k ≤ frameCount s → HoldsIn scale g (treesAt s k) (passAt scale s (g .instance) marks notes k)
   holds-at zero l = record { missing = refl; sums = λ e. refl; conds = refl; pending = refl; present = refl }
   holds-at (suc k) l = holds-next k l (treesAt s k) refl (holds-at k (omega arith))
 
-  pub judge-tree : judgementOf s (g .instance) marks notes ≡ judgement g (treeOf s)
-  unfolding judgementOf treeOf
-  judge-tree =
-      judged-last g (treesAt s (frameCount s)) (passAt s (g .instance) marks notes (frameCount s))
-      (subst (λ (p : _). AsMany p (treesAt s (frameCount s))) (one-left s f) (as-many s (frameCount s))) (holds-at (frameCount s) (omega arith))
+  abbrev its : Cond
+  its = firstC (treesAt s (frameCount s))
+
+  pub judge-body : bodyJudgement scale s (g .instance) marks notes ≡ judgedBy (someOf isPending (g .found) (referencesC its)) (someOf isPresent (g .found) (referencesC its)) (valueC scale g its)
+  unfolding bodyJudgement
+  judge-body =
+      judged-last scale g (treesAt s (frameCount s)) (passAt scale s (g .instance) marks notes (frameCount s))
+      (subst (λ (p : _). AsMany p (treesAt s (frameCount s))) (one-left most s f) (as-many most s (frameCount s))) (holds-at (frameCount s) (omega arith))

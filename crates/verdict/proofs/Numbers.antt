@@ -1,8 +1,8 @@
 -- Laws of the integers: the size of a sum and of a product, what fits 64 bits, what the machine compares. Assumes nothing.
-use mathlib.Core.Path.{_≡_, refl, sym, _∙_}
+use mathlib.Core.Path.{_≡_, refl, sym, ap, _∙_}
 use mathlib.Core.Bool.{Bool, true, false, cond}
-use Prim.Native.Nat.{ℕ, suc, _+_, _-_, _*_, _^_, _≤_, zero-le}
-use native.Mathlib.Nat.{le-refl, mul-le-mul}
+use Prim.Native.Nat.{ℕ, zero, suc, _+_, _-_, _*_, _^_, _≤_, _<_, zero-le}
+use native.Mathlib.Nat.{le-refl, mul-le-mul, mul-le-mul-right, mul-one, zero-mul, pow-le-pow-right}
 use native.Mathlib.Omega.{arith}
 use native.Mathlib.Decide.{ℕ-discrete}
 use lib.Dec.{ltb, eqb}
@@ -12,7 +12,7 @@ use lib.Signed.{leZ}
 use mir.Syntax.{w64}
 use mir.Val.{SFits, ofZ}
 use Rattle.numbers.proofs.Bools.{true-false}
-use Rattle.numbers.proofs.Ints.{mag-natAbs, natAbs-neg}
+use Rattle.numbers.proofs.Ints.{mag-natAbs, natAbs-neg, natAbs-zero}
 use Rattle.rule.specs.Limits.{magnitudeLimit}
 use Rattle.verdict.specs.Value.{eqZ}
 
@@ -21,6 +21,9 @@ natAbs-mul (pos a) (pos b) = refl
 natAbs-mul (pos a) (negsuc b) = natAbs-neg (pos (a * suc b))
 natAbs-mul (negsuc a) (pos b) = natAbs-neg (pos (suc a * b))
 natAbs-mul (negsuc a) (negsuc b) = refl
+
+pub natAbs-times : (a : ℤ) (n : ℕ) → natAbs (a *ℤ pos n) ≡ natAbs a * n
+natAbs-times a n = natAbs-mul a (pos n)
 
 natAbs-cond : (t : Bool) (x y m : ℕ) → suc x ≤ m → y ≤ m → natAbs (cond t (negsuc x) (pos y)) ≤ m
 natAbs-cond true x y m h k = h
@@ -63,3 +66,21 @@ equal-bits (pos a) (negsuc b) f g = ne-eqb a (2 ^ 64 - suc b) (λ e. omega (arit
 equal-bits (negsuc a) (pos b) f g = ne-eqb (2 ^ 64 - suc a) b (λ e. omega (arith, f .sfits, g .sfits))
 equal-bits (negsuc a) (negsuc b) f g =
     same-test (2 ^ 64 - suc a) (2 ^ 64 - suc b) a b (λ e. omega (arith, f .sfits, g .sfits)) (λ e. omega arith)
+
+-- ---- powers of ten
+pub times-one : (a : ℤ) → a *ℤ pos 1 ≡ a
+times-one (pos n) = ap pos (mul-one n)
+times-one (negsuc n) = rw (mul-one (suc n))
+
+pub ten-fits : (e : ℕ) → e ≤ 18 → 10 ^ e ≤ 10 ^ 18
+ten-fits e h = pow-le-pow-right (omega arith) h
+
+-- a product that fits has no factor but 0 beside one that does not
+pub nothing-times : (a : ℤ) (n : ℕ) → magnitudeLimit < n → natAbs (a *ℤ pos n) ≤ magnitudeLimit → pos 0 ≡ a *ℤ pos n
+nothing-times a n h f =
+    let z : a ≡ pos 0 = natAbs-zero a (none-by (natAbs a) (rw (natAbs-times a n) at f)) in
+    rw z (sym (ap pos (zero-mul n)))
+  where
+    none-by : (m : ℕ) → m * n ≤ magnitudeLimit → m ≡ 0
+    none-by zero g = refl
+    none-by (suc m) g = let p : 1 * n ≤ suc m * n = mul-le-mul-right n (omega arith) in absurd (omega arith)

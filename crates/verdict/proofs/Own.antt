@@ -3,11 +3,14 @@ use mathlib.Core.Path.{_≡_, refl, ap, ap₂, _∙_}
 use mathlib.Core.Bool.{Bool, true, false, cond, _||_}
 use mathlib.Core.Logic.{⊎-elim}
 use mathlib.Core.List.{List, [], _∷_, _++_, List·Memᴰ, List·Memᴰ·head, List·Memᴰ·tail, List·Memᴰ·cases-cons, Memᴰ·append-left, Memᴰ·append-right}
-use Rattle.rule.specs.Tree.{Reference, Sum, literal, instance, reference, arithmetic, abs, Cond, relation, connective, referencesS, references}
+use Prim.Native.Nat.{ℕ}
+use Rattle.rule.specs.Tree.{Reference, Sum, literal, instance, reference, arithmetic, abs, Cond, relation, connective, RuleTree, referencesS, referencesC, references}
+use Rattle.rule.specs.Scale.{noteDecimals}
+use Rattle.rule.specs.Decimals.{term}
 use Rattle.numbers.proofs.Bools.{true-false}
 use Rattle.verdict.specs.Found.{Found, Given, isMissing, isPending, isPresent, someOf}
 use Rattle.verdict.specs.Kleene.{notK, connected, truth}
-use Rattle.verdict.specs.Value.{computed, sizeOf, noteOf, holds, valueS, value}
+use Rattle.verdict.specs.Value.{computed, sizeOf, noteOf, compared, valueS, valueC, value}
 use Rattle.verdict.specs.Settled.{settledBy, verdictOf, verdict, settled, judgement}
 use Rattle.verdict.specs.Later.{withFound}
 use Rattle.verdict.specs.declared.Truth.{Truth}
@@ -29,29 +32,33 @@ module _ (found found′ : Reference → Found) where
   some-own is [] h = refl
   some-own is (r ∷ rs) h = ap₂ _||_ (ap is (h r (List·Memᴰ·head refl))) (some-own is rs (λ x m. h x (List·Memᴰ·tail m)))
 
-module _ (g : Given) (found : Reference → Found) where
-  pub sum-own : (a : Sum) → SameOn (referencesS a) (g .found) found → valueS g a ≡ valueS (withFound g found) a
-  sum-own (literal n) h = refl
+module _ (k : ℕ) (g : Given) (found : Reference → Found) where
+  pub sum-own : (a : Sum) → SameOn (referencesS a) (g .found) found → valueS k g a ≡ valueS k (withFound g found) a
+  sum-own (literal d n) h = refl
   sum-own instance h = refl
-  sum-own (reference r) h = ap noteOf (h r (List·Memᴰ·head refl))
+  sum-own (reference r) h = ap (λ (f : Found). term (noteOf f) k) (h r (List·Memᴰ·head refl))
   sum-own (arithmetic o a b) h =
       ap₂ (computed o) (sum-own a (same-left (g .found) found (referencesS a) (referencesS b) h)) (sum-own b (same-right (g .found) found (referencesS a) (referencesS b) h))
   sum-own (abs a) h = ap sizeOf (sum-own a h)
 
-  pub value-own : (t : Cond) → SameOn (references t) (g .found) found → value g t ≡ value (withFound g found) t
-  value-own (relation r a b) h =
+  pub cond-own : (t : Cond) → SameOn (referencesC t) (g .found) found → valueC k g t ≡ valueC k (withFound g found) t
+  cond-own (relation r a b) h =
       ap₂ (λ (t : Bool) (u : Bool). cond t Unknown (truth u)) (some-own (g .found) found isMissing (referencesS a ++ referencesS b) h)
-      (ap₂ (holds r) (sum-own a (same-left (g .found) found (referencesS a) (referencesS b) h)) (sum-own b (same-right (g .found) found (referencesS a) (referencesS b) h)))
-  value-own (Cond.not p) h = ap notK (value-own p h)
-  value-own (connective j p q) h =
-      ap₂ (connected j) (value-own p (same-left (g .found) found (references p) (references q) h)) (value-own q (same-right (g .found) found (references p) (references q) h))
+      (ap₂ (compared r) (sum-own a (same-left (g .found) found (referencesS a) (referencesS b) h)) (sum-own b (same-right (g .found) found (referencesS a) (referencesS b) h)))
+  cond-own (Cond.not p) h = ap notK (cond-own p h)
+  cond-own (connective j p q) h =
+      ap₂ (connected j) (cond-own p (same-left (g .found) found (referencesC p) (referencesC q) h)) (cond-own q (same-right (g .found) found (referencesC p) (referencesC q) h))
 
-  pub settled-own : (t : Cond) → SameOn (references t) (g .found) found → settled g t ≡ settled (withFound g found) t
+module _ (g : Given) (found : Reference → Found) where
+  pub value-own : (t : RuleTree) → SameOn (references t) (g .found) found → value g t ≡ value (withFound g found) t
+  value-own t h = cond-own (noteDecimals (t .scale)) g found (t .condition) h
+
+  pub settled-own : (t : RuleTree) → SameOn (references t) (g .found) found → settled g t ≡ settled (withFound g found) t
   settled-own t h =
       ap₂ (λ (a b : Bool). settledBy a b (value g t)) (some-own (g .found) found isPending (references t) h) (some-own (g .found) found isPresent (references t) h)
       ∙ ap (settledBy (someOf isPending found (references t)) (someOf isPresent found (references t))) (value-own t h)
 
-  pub judgement-own : (t : Cond) → SameOn (references t) (g .found) found → judgement g t ≡ judgement (withFound g found) t
+  pub judgement-own : (t : RuleTree) → SameOn (references t) (g .found) found → judgement g t ≡ judgement (withFound g found) t
   judgement-own t h =
       ap₂ (λ (b : Bool) (v : Truth). cond b (verdict (verdictOf v)) Unsettled) (settled-own t h) (value-own t h)
 

@@ -8,11 +8,12 @@ use native.Mathlib.Omega.{arith}
 use lib.IntN.{ℤ, pos}
 use lib.ListN.{length, getD, length-append, List·getD-append}
 use Rattle.rule.specs.Frames.{Relation}
-use Rattle.rule.specs.Tree.{Reference, Sum, Cond, relation, connective, referencesS, references}
+use Rattle.rule.specs.Tree.{Reference, Sum, Cond, relation, connective, RuleTree, referencesS, referencesC, references}
+use Rattle.rule.specs.Scale.{noteDecimals}
 use Rattle.numbers.proofs.Bools.{true-false}
 use Rattle.verdict.specs.Found.{meant, Found, pending, byLists, foundIn, Given, givenIn, isMissing, isPending, isPresent, someOf}
 use Rattle.verdict.specs.Kleene.{truth, isKnown}
-use Rattle.verdict.specs.Value.{holds, valueS, value}
+use Rattle.verdict.specs.Value.{compared, valueS, valueC, value}
 use Rattle.verdict.specs.Settled.{settledBy, verdictOf, verdict, settled, judgement}
 use Rattle.verdict.specs.Later.{Gains, withFound, GainsIn, Sharpens, MoreLines}
 use Rattle.verdict.specs.declared.Truth.{Truth}
@@ -20,7 +21,7 @@ use Rattle.verdict.specs.declared.Truth.the-variants.{Unknown}
 use Rattle.verdict.specs.declared.Judgement.the-variants as judgements
 use Rattle.verdict.proofs.Tables.{not-sharpens, connected-sharpens}
 use Rattle.verdict.proofs.Resolve.{found-gains}
-use Rattle.verdict.proofs.Own.{SameOn, value-own, settled-own, none-so}
+use Rattle.verdict.proofs.Own.{SameOn, cond-own, value-own, settled-own, none-so}
 
 -- a reference that is not so, where pending is so, stays
 stays-not : (is : Found → Bool) → is pending ≡ true → (a b : Found) → Gains a b → is a ≡ false → a ≡ b
@@ -38,22 +39,26 @@ module _ (g : Given) (found′ : Reference → Found) where
   none-same : (is : Found → Bool) → is pending ≡ true → (rs : List Reference) → GainsOn rs → someOf is (g .found) rs ≡ false → SameOn rs (g .found) found′
   none-same is w rs n e r m = stays-not is w (g .found r) (found′ r) (n r m) (none-so is (g .found) rs e r m)
 
-  relation-sharpens : (r : Relation) (a b : Sum) (t : Bool) → someOf isMissing (g .found) (referencesS a ++ referencesS b) ≡ t → GainsOn (referencesS a ++ referencesS b)
-      → Sharpens (cond t Unknown (truth (holds r (valueS g a) (valueS g b)))) (value (withFound g found′) (relation r a b))
-  relation-sharpens r a b true e n = inl refl
-  relation-sharpens r a b false e n =
-      inr
-      (sym (ap (λ (t : Bool). cond t Unknown (truth (holds r (valueS g a) (valueS g b)))) e)
-      ∙ value-own g found′ (relation r a b) (none-same isMissing refl (referencesS a ++ referencesS b) n e))
+  module _ (k : ℕ) where
+    relation-sharpens : (r : Relation) (a b : Sum) (t : Bool) → someOf isMissing (g .found) (referencesS a ++ referencesS b) ≡ t → GainsOn (referencesS a ++ referencesS b)
+        → Sharpens (cond t Unknown (truth (compared r (valueS k g a) (valueS k g b)))) (valueC k (withFound g found′) (relation r a b))
+    relation-sharpens r a b true e n = inl refl
+    relation-sharpens r a b false e n =
+        inr
+        (sym (ap (λ (t : Bool). cond t Unknown (truth (compared r (valueS k g a) (valueS k g b)))) e)
+        ∙ cond-own k g found′ (relation r a b) (none-same isMissing refl (referencesS a ++ referencesS b) n e))
+
+    cond-sharpens : (t : Cond) → GainsOn (referencesC t) → Sharpens (valueC k g t) (valueC k (withFound g found′) t)
+    cond-sharpens (relation r a b) n = relation-sharpens r a b (someOf isMissing (g .found) (referencesS a ++ referencesS b)) refl n
+    cond-sharpens (Cond.not p) n = not-sharpens (valueC k g p) (valueC k (withFound g found′) p) (cond-sharpens p n)
+    cond-sharpens (connective j p q) n =
+        connected-sharpens j (valueC k g p) (valueC k (withFound g found′) p) (valueC k g q) (valueC k (withFound g found′) q)
+        (cond-sharpens p (λ r m. n r (Memᴰ·append-left (referencesC q) m)))
+        (cond-sharpens q (λ r m. n r (Memᴰ·append-right (referencesC p) m)))
 
   -- monotone in what becomes present
-  pub value-sharpens : (t : Cond) → GainsIn t (g .found) found′ → Sharpens (value g t) (value (withFound g found′) t)
-  value-sharpens (relation r a b) n = relation-sharpens r a b (someOf isMissing (g .found) (referencesS a ++ referencesS b)) refl n
-  value-sharpens (Cond.not p) n = not-sharpens (value g p) (value (withFound g found′) p) (value-sharpens p n)
-  value-sharpens (connective j p q) n =
-      connected-sharpens j (value g p) (value (withFound g found′) p) (value g q) (value (withFound g found′) q)
-      (value-sharpens p (λ r m. n r (Memᴰ·append-left (references q) m)))
-      (value-sharpens q (λ r m. n r (Memᴰ·append-right (references p) m)))
+  pub value-sharpens : (t : RuleTree) → GainsIn t (g .found) found′ → Sharpens (value g t) (value (withFound g found′) t)
+  value-sharpens t n = cond-sharpens (noteDecimals (t .scale)) (t .condition) n
 
   -- one that is present stays
   present-stays : (a b : Found) → Gains a b → isPresent a ≡ true → isPresent b ≡ true
@@ -69,7 +74,7 @@ module _ (g : Given) (found′ : Reference → Found) where
   known-same v v′ (inl p) e = absurd (true-false (sym e ∙ ap isKnown p))
   known-same v v′ (inr p) e = p
 
-  module _ (t : Cond) (n : GainsIn t (g .found) found′) where
+  module _ (t : RuleTree) (n : GainsIn t (g .found) found′) where
     both-stay : (a b : Bool) → someOf isPending (g .found) (references t) ≡ a → someOf isPresent (g .found) (references t) ≡ b
         → settledBy a b (value g t) ≡ true → (settled (withFound g found′) t ≡ true) × (value (withFound g found′) t ≡ value g t)
     both-stay false b e d h =
@@ -108,6 +113,6 @@ lines-gain lines lines′ m i r =
     found-gains (byLists lines) (byLists lines′) (r .event) (r .note)
     (more-still (lines (r .event)) (lines′ (r .event)) (q .0) (q .1) (r .note)) (meant i r)
 
-pub lines-stay : (i : ℕ) (lines lines′ : ℕ → List (List ℤ)) (t : Cond) → MoreLines lines lines′ → (judgement (givenIn lines i) t ≡ judgements.Unsettled → ⊥)
+pub lines-stay : (i : ℕ) (lines lines′ : ℕ → List (List ℤ)) (t : RuleTree) → MoreLines lines lines′ → (judgement (givenIn lines i) t ≡ judgements.Unsettled → ⊥)
     → judgement (givenIn lines′ i) t ≡ judgement (givenIn lines i) t
 lines-stay i lines lines′ t m = judgement-stays (givenIn lines i) (foundIn lines′ i) t (λ r w. lines-gain lines lines′ m i r)

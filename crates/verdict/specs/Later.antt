@@ -5,7 +5,7 @@ use mathlib.Core.Logic.{_⊎_}
 use mathlib.Core.List.{List, _++_, List·Memᴰ}
 use Prim.Native.Nat.{ℕ}
 use lib.IntN.{ℤ}
-use Rattle.rule.specs.Tree.{Reference, Cond, references}
+use Rattle.rule.specs.Tree.{Reference, RuleTree, references}
 use Rattle.verdict.specs.Found.{Found, pending, Given}
 use Rattle.verdict.specs.declared.Truth.{Truth}
 use Rattle.verdict.specs.declared.Truth.the-variants.{Unknown}
@@ -19,7 +19,7 @@ abbrev pub withFound : Given → (Reference → Found) → Given
 withFound g found = record { instance = g .instance; found = found }
 
 -- so each reference that a rule "names"
-abbrev pub GainsIn : Cond → (Reference → Found) → (Reference → Found) → Type 0
+abbrev pub GainsIn : RuleTree → (Reference → Found) → (Reference → Found) → Type 0
 GainsIn t found found′ = (r : Reference) → List·Memᴰ r (references t) → Gains (found r) (found′ r)
 
 -- a truth value stays as it is, or was "unknown"

@@ -1,6 +1,6 @@
 -- Settled instances and their verdicts. From document 01, "Verdicts". Assumes nothing: definitions.
 use mathlib.Core.Bool.{Bool, cond, not, _&&_, _||_}
-use Rattle.rule.specs.Tree.{Cond, references}
+use Rattle.rule.specs.Tree.{RuleTree, references}
 use Rattle.verdict.specs.Found.{Given, isPresent, isPending, someOf}
 use Rattle.verdict.specs.Kleene.{isKnown}
 use Rattle.verdict.specs.Value.{value}
@@ -29,7 +29,7 @@ verdict Verdict.Unknown = Unknown
 abbrev pub judgedBy : Bool → Bool → Truth → Judgement
 judgedBy somePending somePresent t = cond (settledBy somePending somePresent t) (verdict (verdictOf t)) Unsettled
 
-module _ (g : Given) (t : Cond) where
+module _ (g : Given) (t : RuleTree) where
   -- "An instance is settled": of a rule, by what is given
   abbrev pub settled : Bool
   settled = settledBy (someOf isPending (g .found) (references t)) (someOf isPresent (g .found) (references t)) (value g t)

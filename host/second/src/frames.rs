@@ -1,5 +1,6 @@
 //! Frames as a rule tree, and what opening refuses of them: 9, 10, 7, 8.
 
+use super::integer::Integer;
 use super::Refusal;
 
 /// A note of one event, at an occurrence that depends on the instance.
@@ -25,7 +26,8 @@ impl Reference {
 
 #[derive(Clone, Debug, PartialEq, Eq)]
 pub enum Sum {
-    Literal(i32),
+    /// Its digits without the point, and how many stand behind the point.
+    Literal(i32, u8),
     Instance,
     /// The reference's number in frame order.
     Reference(usize),
@@ -54,14 +56,21 @@ pub enum Condition {
     Implies(Box<Condition>, Box<Condition>),
 }
 
-/// A rule: its condition, and its references in frame order.
+/// A rule: the decimals that its clause gives to notes, its condition, and its references in frame order.
 #[derive(Clone, Debug, PartialEq, Eq)]
 pub struct Rule {
+    /// Nothing if it has no clause of a scale.
+    pub scale: Option<u8>,
     pub condition: Condition,
     pub references: Vec<Reference>,
 }
 
 impl Rule {
+    /// The decimals of each note.
+    pub fn note_decimals(&self) -> u32 {
+        self.scale.unwrap_or_default().into()
+    }
+
     /// Whether i is an instance: one at which all references are void is none.
     pub fn is_instance(&self, i: u32) -> bool {
         self.references
@@ -100,7 +109,7 @@ pub fn check(bytes: &[u8]) -> Result<Rule, Refusal> {
     if rule.references.is_empty() {
         return Err(Refusal::of(7));
     }
-    if !within_magnitude(&rule.condition) {
+    if !within_magnitude(&rule) {
         return Err(Refusal::of(8));
     }
     Ok(rule)
@@ -112,12 +121,23 @@ enum Tree {
     Condition(Condition),
 }
 
+/// The scale of a frame, unless it is none of a scale. One that a scale has not is no frame of any rule.
+fn scale(frame: &[u8; 8]) -> Option<u8> {
+    match *frame {
+        [0x04, decimals @ 0..=6, 0, 0, 0, 0, 0, 0] => Some(decimals),
+        _ => None,
+    }
+}
+
 /// The rule of a list of frames, or the place of refusal 10.
 pub fn rule(frames: &[[u8; 8]]) -> Result<Rule, usize> {
+    let scale = frames.first().and_then(scale);
     let mut references = Vec::new();
     let mut operands: Vec<Tree> = Vec::new();
-    for (place, frame) in frames.iter().enumerate() {
-        let tree = tree(frame, &mut operands, &mut references).ok_or(place)?;
+    // Behind the scale's frame, every frame ends a tree.
+    for (place, frame) in frames.iter().enumerate().skip(scale.iter().len()) {
+        let most_decimals = if scale.is_some() { 6 } else { 0 };
+        let tree = tree(frame, most_decimals, &mut operands, &mut references).ok_or(place)?;
         operands.push(tree);
         if stuck(&operands) {
             return Err(place);
@@ -125,6 +145,7 @@ pub fn rule(frames: &[[u8; 8]]) -> Result<Rule, usize> {
     }
     match (operands.pop(), operands.pop()) {
         (Some(Tree::Condition(condition)), None) => Ok(Rule {
+            scale,
             condition,
             references,
         }),
@@ -140,15 +161,16 @@ fn stuck(operands: &[Tree]) -> bool {
         .any(|pair| matches!(pair, [Tree::Sum(_), Tree::Condition(_)]))
 }
 
-/// The tree that ends with a frame; nothing if a field or an operand is wrong.
+/// The tree that ends with a frame, a literal with so many decimals at the most; nothing if a field or an operand is wrong.
 fn tree(
     frame: &[u8; 8],
+    most_decimals: u8,
     operands: &mut Vec<Tree>,
     references: &mut Vec<Reference>,
 ) -> Option<Tree> {
     let [kind, fields @ ..] = *frame;
     match kind {
-        0x01..=0x03 => operand(frame, references).map(Tree::Sum),
+        0x01..=0x03 => operand(frame, most_decimals, references).map(Tree::Sum),
         _ if fields != [0; 7] => None,
         0x11..=0x14 => arithmetic(kind, operands).map(Tree::Sum),
         0x21..=0x26 => comparison(kind, operands).map(Tree::Condition),
@@ -158,12 +180,16 @@ fn tree(
 }
 
 /// A literal, the instance, or a reference, which is added to the list.
-fn operand(frame: &[u8; 8], references: &mut Vec<Reference>) -> Option<Sum> {
+fn operand(frame: &[u8; 8], most_decimals: u8, references: &mut Vec<Reference>) -> Option<Sum> {
     let [kind, event, note, factor, a, b, c, d] = *frame;
     let fields = [event, note, factor];
     let word = i32::from_be_bytes([a, b, c, d]);
     match kind {
-        0x01 if fields == [0; 3] && word >= 0 => Some(Sum::Literal(word)),
+        0x01 => {
+            // Byte 1 has its decimals.
+            let fits = event <= most_decimals && fields[1..] == [0; 2] && word >= 0;
+            fits.then_some(Sum::Literal(word, event))
+        }
         0x02 if fields == [0; 3] && word == 0 => Some(Sum::Instance),
         0x03 => {
             references.push(reference(fields, word)?);
@@ -252,28 +278,66 @@ fn two_conditions(operands: &mut Vec<Tree>) -> Option<(Box<Condition>, Box<Condi
     Some((condition(operands)?, right))
 }
 
-/// Whether no magnitude in a condition exceeds 2^62.
-pub fn within_magnitude(condition: &Condition) -> bool {
+/// Whether no magnitude in a rule exceeds 2^62.
+pub fn within_magnitude(rule: &Rule) -> bool {
+    no_excess(&rule.condition, rule.note_decimals())
+}
+
+/// The same of a condition, with so many decimals of each note. The two sides of a relation are those of one count.
+fn no_excess(condition: &Condition, of_notes: u32) -> bool {
     match condition {
         Condition::Relation(_, left, right) => {
-            magnitude(left).is_some() && magnitude(right).is_some()
+            let sides = Magnitude::of(left, of_notes).zip(Magnitude::of(right, of_notes));
+            sides.is_some_and(|(left, right)| {
+                let (left, right, _) = brought(&left, &right);
+                fits(&left) && fits(&right)
+            })
         }
-        Condition::Not(inner) => within_magnitude(inner),
+        Condition::Not(inner) => no_excess(inner, of_notes),
         Condition::And(left, right)
         | Condition::Or(left, right)
-        | Condition::Implies(left, right) => within_magnitude(left) && within_magnitude(right),
+        | Condition::Implies(left, right) => {
+            no_excess(left, of_notes) && no_excess(right, of_notes)
+        }
     }
 }
 
-/// The magnitude of a sum, unless it or one inside exceeds 2^62.
-fn magnitude(sum: &Sum) -> Option<u128> {
-    let size = match sum {
-        Sum::Literal(value) => u128::from(value.unsigned_abs()),
-        Sum::Instance => 1 << 20,
-        Sum::Reference(_) => 1 << 31,
-        Sum::Add(left, right) | Sum::Subtract(left, right) => magnitude(left)? + magnitude(right)?,
-        Sum::Multiply(left, right) => magnitude(left)? * magnitude(right)?,
-        Sum::Abs(inner) => magnitude(inner)?,
-    };
-    (size <= 1 << 62).then_some(size)
+/// The magnitude of a sum, with its count of decimals.
+struct Magnitude {
+    size: Integer,
+    count: u32,
+}
+
+impl Magnitude {
+    /// That of a sum, unless it or one inside exceeds 2^62.
+    fn of(sum: &Sum, of_notes: u32) -> Option<Magnitude> {
+        let inside = |inner: &Sum| Magnitude::of(inner, of_notes);
+        let (size, count) = match sum {
+            Sum::Literal(value, decimals) => (i128::from(*value).into(), u32::from(*decimals)),
+            Sum::Instance => ((1 << 20).into(), 0),
+            Sum::Reference(_) => ((1 << 31).into(), of_notes),
+            Sum::Add(left, right) | Sum::Subtract(left, right) => {
+                let (left, right, count) = brought(&inside(left)?, &inside(right)?);
+                (&left + &right, count)
+            }
+            Sum::Multiply(left, right) => {
+                let (left, right) = (inside(left)?, inside(right)?);
+                (&left.size * &right.size, left.count + right.count)
+            }
+            Sum::Abs(inner) => return inside(inner),
+        };
+        fits(&size).then_some(Magnitude { size, count })
+    }
+}
+
+/// Two magnitudes brought to the greater count, and that count.
+fn brought(left: &Magnitude, right: &Magnitude) -> (Integer, Integer, u32) {
+    let count = left.count.max(right.count);
+    let [left, right] = [left, right].map(|one| &one.size * &Integer::ten_to(count - one.count));
+    (left, right, count)
+}
+
+/// Whether a magnitude does not exceed 2^62.
+fn fits(size: &Integer) -> bool {
+    *size <= (1 << 62).into()
 }

@@ -6,9 +6,11 @@
 use super::text::Token;
 use std::sync::OnceLock;
 
-/// Document 01's grammar, one production a line. A repeat is grouped to the left and an option is written out.
+/// Document 01's grammar, with the clause of a scale and decimals (document 02, point 1), one production a line. A repeat is
+/// grouped to the left and an option is written out.
 pub const PRODUCTIONS: &str = "
     rule : events names ; notes names ; cond
+    rule : events names ; notes names ; scale number ; cond
     names : name
     names : names name
     cond : disj
@@ -32,6 +34,7 @@ pub const PRODUCTIONS: &str = "
     prod : factor
     prod : prod * factor
     factor : number
+    factor : decimal
     factor : i
     factor : ( sum )
     factor : abs ( sum )
@@ -73,7 +76,7 @@ pub fn misfit(tokens: &[Token]) -> Option<usize> {
     sets.begin(0);
     for (at, token) in tokens.iter().enumerate() {
         sets.close();
-        sets.take(token.symbol);
+        sets.take(token);
         if sets.current.is_empty() {
             return Some(at);
         }
@@ -143,11 +146,13 @@ impl Sets {
         }
     }
 
-    /// Goes to the next place, behind a token.
-    fn take(&mut self, symbol: &'static str) {
+    /// Goes to the next place, behind a token, which may be the clause's word and a name at once.
+    fn take(&mut self, token: &Token) {
         let place = self.done.len();
         self.done.push(std::mem::take(&mut self.current));
-        self.go_on(place, Next::Token(symbol));
+        for symbol in token.symbols() {
+            self.go_on(place, Next::Token(symbol));
+        }
     }
 
     /// Whether a rule ends at the place at hand.
@@ -191,14 +196,14 @@ fn table() -> &'static Table {
 
 #[cfg(test)]
 mod tests {
-    use super::super::text::{MARKS, NAME, NUMBER, RESERVED};
+    use super::super::text::{DECIMAL, MARKS, NAME, NUMBER, RESERVED, SCALE};
     use super::*;
 
     #[test]
     fn every_symbol_is_a_part_or_a_token_and_every_token_is_used() {
         let mut known: Vec<&str> = MARKS.to_vec();
         known.extend(RESERVED);
-        known.extend([NAME, NUMBER]);
+        known.extend([NAME, NUMBER, DECIMAL, SCALE]);
         let used: Vec<&str> = table()
             .slots
             .iter()

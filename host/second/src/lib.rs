@@ -2,11 +2,12 @@
 //! place of a window.
 //!
 //! A rule flows `text` -> `grammar` -> `names`, `numbers` -> `postfix` -> `frames`; a log flows `line` ->
-//! `machine`, which asks `verdict`. `state` answers calls on a state and a window that a caller hands in, forged ones
-//! too, and adds up the window's words anew at each call; `profile` has the limits of a desk and of a board, for opening
-//! and for 12; `view` has what machine hands see of a report; `earlier` reads log lines of the earlier edition, which
-//! `machine` takes too, and converts them to log lines and back; `tariff` has what violations cost; `bench` has the
-//! output of the bench program.
+//! `machine`, which asks `verdict`. What terms stand for is in `rational`, over whole numbers of any size, `integer`;
+//! magnitudes, in `frames`, are whole numbers with a count of decimals. `state` answers calls on a state and a window
+//! that a caller hands in, forged ones too, and adds up the window's words anew at each call; `profile` has the limits
+//! of a desk and of a board, for opening and for 12; `view` has what machine hands see of a report; `earlier` reads log
+//! lines of the earlier edition, which `machine` takes too, and converts them to log lines and back; `tariff` has what
+//! violations cost; `bench` has the output of the bench program.
 //!
 //! It is written from the documents alone, and shares no code or table with the proved part. A test drives it call by
 //! call:
@@ -30,12 +31,14 @@ pub mod bench;
 pub mod earlier;
 pub mod frames;
 pub mod grammar;
+pub mod integer;
 pub mod line;
 pub mod machine;
 pub mod names;
 pub mod numbers;
 pub mod postfix;
 pub mod profile;
+pub mod rational;
 pub mod reading;
 pub mod state;
 pub mod tariff;

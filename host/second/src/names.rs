@@ -6,22 +6,29 @@ const LONGEST: usize = 12;
 const EVENTS: usize = 8;
 const NOTES: usize = 4;
 
-/// A rule's tokens in three: the two declared lists and the condition.
+/// A rule's tokens in parts: the two declared lists, the clause's number and the condition.
 pub struct Sections<'a, 't> {
     pub events: &'a [Token<'t>],
     pub notes: &'a [Token<'t>],
+    /// Nothing if the rule has no clause of a scale.
+    pub scale: Option<&'a Token<'t>>,
     pub condition: &'a [Token<'t>],
 }
 
-/// The sections of a token list that is a rule: its only two semicolons end the lists.
+/// The sections of a token list that is a rule: its only semicolons end the lists and the clause.
 pub fn sections<'a, 't>(tokens: &'a [Token<'t>]) -> Sections<'a, 't> {
-    let mut parts = tokens.split(|token| token.symbol == ";");
-    // Each list stands behind its word.
-    let mut section = || parts.next().expect("a rule has two semicolons");
+    let parts: Vec<&[Token]> = tokens.split(|token| token.symbol == ";").collect();
+    // Each list and the clause's number stand behind their word.
+    let (events, notes, scale, condition) = match parts[..] {
+        [events, notes, condition] => (events, notes, None, condition),
+        [events, notes, clause, condition] => (events, notes, Some(&clause[1]), condition),
+        _ => panic!("a rule has two semicolons or three"),
+    };
     Sections {
-        events: &section()[1..],
-        notes: &section()[1..],
-        condition: section(),
+        events: &events[1..],
+        notes: &notes[1..],
+        scale,
+        condition,
     }
 }
 

@@ -1,8 +1,8 @@
 //! Frames of a rule, from its tokens, with an explicit stack of operators.
 
 use super::names::{number, Sections};
-use super::numbers::value;
-use super::text::{Token, NAME, NUMBER};
+use super::numbers::{decimals, value};
+use super::text::{Token, DECIMAL, NAME, NUMBER};
 
 /// A rule's frames and the greatest depth in it.
 pub struct Postfix {
@@ -10,10 +10,11 @@ pub struct Postfix {
     pub depth: usize,
 }
 
-/// The frames of a condition whose tokens, names and numbers are in order.
+/// The frames of a rule whose tokens, names and numbers are in order: that of its scale, if it has one, then its condition's.
 pub fn postfix(rule: &Sections) -> Postfix {
+    let scale = |number: &Token| [0x04, value(number.bytes) as u8, 0, 0, 0, 0, 0, 0];
     let mut work = Work {
-        frames: Vec::new(),
+        frames: rule.scale.map(scale).into_iter().collect(),
         depth: 0,
         stack: Vec::new(),
     };
@@ -23,7 +24,10 @@ pub fn postfix(rule: &Sections) -> Postfix {
         let token = &tokens[at];
         at += 1;
         match token.symbol {
-            NUMBER => work.operand(0x01, [0, 0, 0], value(token.bytes) as i32),
+            NUMBER | DECIMAL => {
+                let decimals = decimals(token.bytes) as u8;
+                work.operand(0x01, [decimals, 0, 0], value(token.bytes) as i32);
+            }
             "i" => work.operand(0x02, [0, 0, 0], 0),
             NAME => {
                 let end = at + closing_bracket(&tokens[at..]);

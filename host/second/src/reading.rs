@@ -1,9 +1,9 @@
-//! Reading a rule text: refusals 1 to 8, in order.
+//! Reading a rule text: refusals 1 to 5, 18, 6 to 8, in order.
 
 use super::frames::{rule, within_magnitude, Rule};
 use super::grammar::misfit;
 use super::names::{bad_name, sections};
-use super::numbers::bad_number;
+use super::numbers::{bad_decimals, bad_number};
 use super::postfix::postfix;
 use super::text::tokens;
 use super::Refusal;
@@ -34,6 +34,9 @@ pub fn read(text: &[u8], buffer_len: usize) -> Result<Vec<u8>, Refusal> {
     if let Some(place) = bad_number(parts.condition) {
         return Err(Refusal::at(5, place));
     }
+    if let Some(place) = bad_decimals(&parts) {
+        return Err(Refusal::at(18, place));
+    }
     let read = postfix(&parts);
     if read.depth > DEEPEST || read.frames.len() > MOST_FRAMES {
         return Err(Refusal::of(6));
@@ -42,7 +45,7 @@ pub fn read(text: &[u8], buffer_len: usize) -> Result<Vec<u8>, Refusal> {
     if rule.references.is_empty() {
         return Err(Refusal::of(7));
     }
-    if !within_magnitude(&rule.condition) {
+    if !within_magnitude(&rule) {
         return Err(Refusal::of(8));
     }
     Ok(read.frames.concat())

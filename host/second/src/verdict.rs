@@ -1,6 +1,7 @@
 //! The value of a rule at one instance, and when it is settled.
 
 use super::frames::{Condition, Relation, Rule, Sum};
+use super::rational::Rational;
 
 /// The three values. In this order, 'and' is the smaller and 'or' the larger of two.
 #[derive(Clone, Copy, Debug, PartialEq, Eq, PartialOrd, Ord)]
@@ -42,7 +43,12 @@ pub enum Status {
 
 /// The verdict of instance i, given the status of each reference; nothing if it is not settled.
 pub fn verdict(rule: &Rule, i: u32, statuses: &[Status]) -> Option<Truth> {
-    let value = condition_value(&rule.condition, i, statuses);
+    let notes = Notes {
+        i,
+        statuses,
+        decimals: rule.note_decimals(),
+    };
+    let value = notes.condition_value(&rule.condition);
     let pending = statuses.contains(&Status::Pending);
     let present = statuses
         .iter()
@@ -51,23 +57,51 @@ pub fn verdict(rule: &Rule, i: u32, statuses: &[Status]) -> Option<Truth> {
     settled.then_some(value)
 }
 
-fn condition_value(condition: &Condition, i: u32, statuses: &[Status]) -> Truth {
-    let value = |inner: &Condition| condition_value(inner, i, statuses);
-    match condition {
-        Condition::Relation(relation, left, right) => {
-            match (sum_value(left, i, statuses), sum_value(right, i, statuses)) {
-                (Some(left), Some(right)) => Truth::from(holds(*relation, left, right)),
-                _ => Truth::Unknown,
+/// What the terms of a rule stand for at one instance.
+struct Notes<'s> {
+    i: u32,
+    /// The status of each reference.
+    statuses: &'s [Status],
+    /// The decimals of each note.
+    decimals: u32,
+}
+
+impl Notes<'_> {
+    fn condition_value(&self, condition: &Condition) -> Truth {
+        let value = |inner: &Condition| self.condition_value(inner);
+        match condition {
+            Condition::Relation(relation, left, right) => {
+                match (self.sum_value(left), self.sum_value(right)) {
+                    (Some(left), Some(right)) => Truth::from(holds(*relation, &left, &right)),
+                    _ => Truth::Unknown,
+                }
             }
+            Condition::Not(inner) => !value(inner),
+            Condition::And(left, right) => value(left).min(value(right)),
+            Condition::Or(left, right) => value(left).max(value(right)),
+            Condition::Implies(left, right) => (!value(left)).max(value(right)),
         }
-        Condition::Not(inner) => !value(inner),
-        Condition::And(left, right) => value(left).min(value(right)),
-        Condition::Or(left, right) => value(left).max(value(right)),
-        Condition::Implies(left, right) => (!value(left)).max(value(right)),
+    }
+
+    /// The exact value of a sum; nothing if it names a reference that is not present.
+    fn sum_value(&self, sum: &Sum) -> Option<Rational> {
+        let value = |inner: &Sum| self.sum_value(inner);
+        match sum {
+            Sum::Literal(value, decimals) => Some(Rational::of(*value, (*decimals).into())),
+            Sum::Instance => Some(Rational::of(self.i, 0)),
+            Sum::Reference(number) => match self.statuses[*number] {
+                Status::Present(note) => Some(Rational::of(note, self.decimals)),
+                Status::Void | Status::Pending => None,
+            },
+            Sum::Add(left, right) => Some(value(left)? + value(right)?),
+            Sum::Subtract(left, right) => Some(value(left)? - value(right)?),
+            Sum::Multiply(left, right) => Some(value(left)? * value(right)?),
+            Sum::Abs(inner) => value(inner).map(|value| value.abs()),
+        }
     }
 }
 
-fn holds(relation: Relation, left: i128, right: i128) -> bool {
+fn holds(relation: Relation, left: &Rational, right: &Rational) -> bool {
     match relation {
         Relation::Equal => left == right,
         Relation::Unequal => left != right,
@@ -75,22 +109,5 @@ fn holds(relation: Relation, left: i128, right: i128) -> bool {
         Relation::AtMost => left <= right,
         Relation::Greater => left > right,
         Relation::AtLeast => left >= right,
-    }
-}
-
-/// The exact value of a sum; nothing if it names a reference that is not present.
-fn sum_value(sum: &Sum, i: u32, statuses: &[Status]) -> Option<i128> {
-    let value = |inner: &Sum| sum_value(inner, i, statuses);
-    match sum {
-        Sum::Literal(value) => Some(i128::from(*value)),
-        Sum::Instance => Some(i128::from(i)),
-        Sum::Reference(number) => match statuses[*number] {
-            Status::Present(note) => Some(i128::from(note)),
-            Status::Void | Status::Pending => None,
-        },
-        Sum::Add(left, right) => Some(value(left)? + value(right)?),
-        Sum::Subtract(left, right) => Some(value(left)? - value(right)?),
-        Sum::Multiply(left, right) => Some(value(left)? * value(right)?),
-        Sum::Abs(inner) => value(inner).map(i128::abs),
     }
 }

@@ -3,7 +3,7 @@
 use crate::shared::random::Random;
 
 /// One spelling of each token, and of tokens that no rule has.
-const TOKENS: [&str; 33] = [
+const TOKENS: [&str; 40] = [
     "events",
     "notes",
     "i",
@@ -15,6 +15,13 @@ const TOKENS: [&str; 33] = [
     "0",
     "10000",
     "2147483648",
+    "scale",
+    "2.5",
+    "0.000000",
+    "0.0000000",
+    "2147483.647",
+    "2147483.648",
+    ".",
     ";",
     "->",
     "||",
@@ -44,7 +51,7 @@ pub fn damage_bytes(random: &mut Random, bytes: &mut Vec<u8>) {
     let place = random.below(bytes.len() + 1);
     let byte = match random.below(3) {
         0 => random.below(256) as u8,
-        1 => random.pick(b"abefint0129;->|&!{}=<>+*()[] \n"),
+        1 => random.pick(b"abcefilnst0129.;->|&!{}=<>+*()[] \n"),
         _ => random.pick(b"\0\t\r?#.,'Az@[`{/:\x7f\x80\xff"),
     };
     match random.below(6) {
@@ -55,6 +62,48 @@ pub fn damage_bytes(random: &mut Random, bytes: &mut Vec<u8>) {
         3 if place < bytes.len() => bytes.insert(place, bytes[place]),
         4 if place < bytes.len() && random.once_in(4) => bytes.truncate(place),
         _ => bytes.insert(place, byte),
+    }
+}
+
+/// Adds a point or a zero beside a digit, zeros behind a point, takes a point away, adds a blank or a point beside one, makes the
+/// clause's number another, or writes the clause's word somewhere.
+pub fn damage_points(random: &mut Random, bytes: &mut Vec<u8>) {
+    let of = |test: fn(&u8) -> bool| -> Vec<usize> {
+        let places = 0..bytes.len();
+        places.filter(|place| test(&bytes[*place])).collect()
+    };
+    let (digits, points) = (of(u8::is_ascii_digit), of(|byte| *byte == b'.'));
+    match random.below(7) {
+        0 | 1 if !digits.is_empty() => {
+            let place = random.pick(&digits) + random.below(2);
+            bytes.insert(place, random.pick(b"..0"));
+        }
+        2 | 3 if !points.is_empty() => {
+            let behind = random.pick(&points) + 1;
+            let zeros = 1 + random.below(7);
+            bytes.splice(behind..behind, vec![b'0'; zeros]);
+        }
+        4 if !points.is_empty() => {
+            bytes.remove(random.pick(&points));
+        }
+        5 if !points.is_empty() => {
+            let place = random.pick(&points) + random.below(2);
+            bytes.insert(place, random.pick(b" ."));
+        }
+        2..=5 if !digits.is_empty() => bytes[digits[0]] = random.pick(b"0678"),
+        _ => {
+            let place = random.below(bytes.len() + 1);
+            let words = [
+                "scale",
+                " scale 1;",
+                "; scale 2;",
+                "scale 7;",
+                ".5",
+                "1.",
+                "scale ",
+            ];
+            bytes.splice(place..place, random.pick(&words).bytes());
+        }
     }
 }
 

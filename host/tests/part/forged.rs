@@ -2,7 +2,7 @@
 
 use crate::pair::Pair;
 use crate::quota::Quota;
-use crate::shared::damage::damage_frames;
+use crate::shared::damage::{damage_decimals, damage_frames};
 use crate::shared::driven::Driven;
 use crate::shared::forged::number;
 use crate::shared::log::{events, random_line};
@@ -103,7 +103,7 @@ fn profile(random: &mut Random) -> u32 {
 
 /// Changes one field, or two that go together.
 pub fn change(random: &mut Random, state: &mut State) {
-    match random.below(13) {
+    match random.below(14) {
         0 => state.frames[random.below(512)] = random.below(256) as u8,
         1 => {
             let mut frames = state.frames[..8 * state.len.min(64) as usize].to_vec();
@@ -124,6 +124,14 @@ pub fn change(random: &mut Random, state: &mut State) {
         9 => state.profile = profile(random),
         10 => (state.profile, state.w) = (1, random.pick(&[31, 32, 33, 33, 34])),
         11 => state.sum = near(random, state.sum),
+        12 => {
+            // All frames, so that the state may still pass.
+            let mut frames = state.frames[..8 * state.len.min(64) as usize].to_vec();
+            damage_decimals(random, &mut frames);
+            state.len = frames.len() as u32 / 8;
+            frames.resize(512, 0);
+            state.frames.copy_from_slice(&frames);
+        }
         _ => {
             // p and a total together, so that the sum may stay right.
             let less = random.pick(&[1, 2, 3, 9, 300, 9_999]);
@@ -210,6 +218,8 @@ fn forged_states_and_windows() {
     let mut seen = Seen::default();
     // States that 12 refuses for their profile alone: those above a board's limits, and those of no profile.
     let (mut above, mut none) = (0, 0);
+    // States with the frame of a scale that 12 lets through, and that it refuses.
+    let mut scaled = [0; 2];
     for seed in 0..20_000 {
         let random = &mut Random::new(seed + 70_000_000);
         let (mut state, events) = honest(random);
@@ -229,11 +239,16 @@ fn forged_states_and_windows() {
             above += usize::from(state.profile == 1);
             none += usize::from(state.profile > 1);
         }
+        if state.frames[0] == 4 {
+            let refused = state.refusal(&[]) == Some(Refusal::of(12));
+            scaled[usize::from(refused)] += 1;
+        }
         calls(random, state, &events, &mut seen);
     }
     // Accepted, ignored, 12, 13, 27, 15, 16, 17; three verdicts, waiting, 12, 13, 27, 14.
     seen.more_than(16, 100);
     assert!(above > 100 && none > 100, "{above} {none}");
+    assert!(scaled.iter().all(|times| *times > 500), "{scaled:?}");
     quota.end();
 }
 

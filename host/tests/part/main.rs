@@ -7,6 +7,7 @@ mod assumed;
 mod board;
 mod charges;
 mod damage;
+mod decimals;
 mod earlier;
 mod examples;
 mod forged;

@@ -59,8 +59,11 @@ fn every_value_of_every_byte() {
 fn every_short_list_of_frames() {
     let quota = Quota::begin("short lists of frames");
     let large = [1, 0, 0, 0, 0x7f, 0xff, 0xff, 0xff];
+    let decimals = [1, 2, 0, 0, 0, 0, 0, 125];
     let steps = [
         REFERENCE,
+        [4, 3, 0, 0, 0, 0, 0, 0],
+        decimals,
         large,
         operator(0x14),
         operator(0x11),
@@ -71,8 +74,8 @@ fn every_short_list_of_frames() {
     ];
     let mut seen: BTreeMap<u8, usize> = BTreeMap::new();
     for length in 1..=5 {
-        for list in 0..8_usize.pow(length) {
-            let step = |k| steps[list / 8_usize.pow(k) % 8];
+        for list in 0..10_usize.pow(length) {
+            let step = |k| steps[list / 10_usize.pow(k) % 10];
             let frames: Vec<u8> = (0..length).flat_map(step).collect();
             *seen.entry(number(&frames)).or_default() += 1;
         }

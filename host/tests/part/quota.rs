@@ -6,14 +6,20 @@ use std::cell::Cell;
 const LEAST: usize = 200_000;
 
 /// The fewest calls of each test that makes many.
-const OF_TESTS: [(&str, usize); 45] = [
-    ("vectors", 14_900),
+const OF_TESTS: [(&str, usize); 51] = [
+    ("vectors", 18_900),
     ("random texts", 9_000),
-    ("damaged texts", 20_000),
-    ("bytes of a text", 12_000),
+    ("damaged texts", 30_000),
+    ("bytes of a text", 31_000),
     ("bytes of frames", 60_000),
-    ("short lists of frames", 37_000),
+    ("short lists of frames", 111_000),
     ("damaged frames", 40_000),
+    ("relations of every scale", 24_600),
+    ("magnitudes with decimals", 1_600),
+    ("bytes of frames with a scale", 8_000),
+    ("near the limit", 18_000),
+    ("values of random rules", 18_000),
+    ("forged states with a scale", 40_000),
     ("bytes of a line", 8_700),
     ("random lists of calls", 235_000),
     ("lists of late rules", 235_000),

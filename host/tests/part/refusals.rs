@@ -1,4 +1,4 @@
-//! Every refusal, 1 to 17 and 23 to 29, by a call of the part; the last line of an event.
+//! Every refusal, 1 to 18 and 23 to 29, by a call of the part; the last line of an event.
 
 use crate::pair::{refusal, Pair};
 use crate::quota::{count, Quota};

@@ -208,7 +208,7 @@ fn events_of(frames: &[u8]) -> Vec<usize> {
 fn one_view_after_each_report() {
     let quota = Quota::begin("views after reports");
     let (mut views, mut late) = (0, 0);
-    for seed in 0..600 {
+    for seed in 0..900 {
         let random = &mut Random::new(seed + 110_000_000);
         let frames = frames(random);
         let events = events_of(&frames);

@@ -1,118 +1,76 @@
 -- `rule::check` meets its contract. Assumes nothing.
-use mathlib.Core.Path.{_≡_, sym, _∙_}
+use mathlib.Core.Path.{_≡_, sym, ap, _∙_, subst}
 use mathlib.Core.Bool.{true, false}
-use Prim.Native.Nat.{_≤_}
+use mathlib.Core.List.{List}
+use Prim.Native.Nat.{ℕ, _*_, _≤_}
 use native.Mathlib.Omega.{arith}
 use lib.ListN.{length}
 use borrow.Author.Needs.{needs}
-use borrow.Author.Tests.{eq-eqb, ne-eqb}
-use Rattle.rule.specs.Frames.{frameCount}
+use Rattle.rule.specs.Limits.{frameLimit, frameBytes, decimalLimit}
+use Rattle.rule.specs.Scale.{scaleOf, headFine, body}
 use Rattle.rule.specs.Order.{orderOf}
-use Rattle.rule.specs.Sizes.{sizesFit}
-use Rattle.rule.specs.Check.{wholeFrames, checkedOf}
-use Rattle.rule.specs.declared.order.Ordered.the-variants.{Fine, At}
-use Rattle.rule.proofs.FrameOrder.{place-le, fine-order}
+use Rattle.rule.specs.Stack.{HeadIs}
+use Rattle.rule.specs.Check.{wholeFrames, afterOrder, checkedBody, checkedOf}
+use Rattle.rule.specs.declared.Head.{Head}
 use Rattle.rule.proofs.FrameLength.{true-whole}
+use Rattle.rule.proofs.FrameHeads.{head-few, decimals-few, body-length, body-part}
 use Rattle.rule.proofs.check.Statement.{statement}
 use Rattle.rule.proofs.check.Tie as tie
 
-cast-refuse : tie.Need-cast-refuse
-cast-refuse c =
-    let at-found = c .before in
-    let at-order = at-found .before .before in
-    let at-if1 = at-order .before in
-    let at-whole-frames = at-if1 .before in
-    let entry = at-whole-frames .before .before in
-    let s = entry .args .frames .now in
-    let w : wholeFrames (length s) ≡ true = sym (at-whole-frames .whole-frames .ensures) ∙ at-if1 .if1 .taken in
-    let p = at-found .found .given .0 .0 in
-    let o : orderOf s ≡ At p = sym (at-order .order .ensures) ∙ at-found .found .given .1 in
-    let h : p ≤ frameCount s = place-le s p o in
-    let n : length s ≤ 512 = true-whole (length s) w .most in
-    record { fits = omega arith }
+-- the check of the body's part is that of the body by the scale
+checked-part : {s : List ℕ} {h : Head} → HeadIs s h → (t : List ℕ) → t ≡ body s → afterOrder (h .frames) (h .decimals) t (orderOf (h .most) t) ≡ checkedBody (scaleOf s) (body s)
+checked-part i t e = rw (e, i .frames, i .decimals, i .most)
 
-sizes-fit-requires : tie.Need-sizes-fit-requires
-sizes-fit-requires c κs =
-    let at-found2 = c .before .before in
-    let at-order = at-found2 .before .before in
-    let at-if1 = at-order .before in
-    let at-whole-frames = at-if1 .before in
-    let entry = at-whole-frames .before .before in
-    let s = entry .args .frames .now in
-    let w : wholeFrames (length s) ≡ true = sym (at-whole-frames .whole-frames .ensures) ∙ at-if1 .if1 .taken in
-    let m = at-found2 .found2 .given .0 .0 in
-    let o : orderOf s ≡ Fine m = sym (at-order .order .ensures) ∙ at-found2 .found2 .given .1 in
-    (fine-order s m o, true-whole (length s) w .most)
+mul-at : tie.Need-mul-at
+mul-at c = omega (arith, c .before .head-of .ensures .frames, head-few (c .before .before .before .before .before .before .before .args .frames .now) .frames-few)
+
+sub-check-body : tie.Need-sub-check-body
+sub-check-body c = omega (arith, c .before .head-of .ensures .frames, head-few (c .before .before .before .before .before .before .before .args .frames .now) .frames-in)
+
+part-check-body-start : tie.Need-part-check-body-start
+part-check-body-start c = omega (arith, c .before .head-of .ensures .frames, head-few (c .before .before .before .before .before .before .before .args .frames .now) .frames-in)
+
+part-check-body-end : tie.Need-part-check-body-end
+part-check-body-end c = omega (arith, c .before .head-of .ensures .frames, head-few (c .before .before .before .before .before .before .before .args .frames .now) .frames-in)
+
+check-body-requires : tie.Need-check-body-requires
+check-body-requires c κs =
+    let s = c .before .before .before .before .before .before .before .before .args .frames .now in
+    let i = c .before .before .head-of .ensures in
+    let w : wholeFrames (length s) ≡ true = sym (c .before .before .before .before .before .before .whole-frames .ensures) ∙ c .before .before .before .before .before .if1 .taken in
+    let h : headFine s ≡ true = sym (c .before .before .before .before .head-fine .ensures) ∙ c .before .before .before .if2 .taken in
+    let n : length s ≤ frameLimit * frameBytes = true-whole (length s) w .most in
+    let b = body-length s in (
+      subst (λ (t : List ℕ). length t ≤ frameLimit * frameBytes) (sym (body-part i)) (omega arith),
+      (
+        subst (λ (n : ℕ). n ≤ 1) (sym (i .frames)) (head-few s .frames-few),
+        (subst (λ (n : ℕ). n ≤ decimalLimit) (sym (i .decimals)) (decimals-few s h), subst (λ (n : ℕ). n ≤ decimalLimit) (sym (i .most)) (head-few s .most-few)),
+      ),
+    )
 
 returns : tie.Need-returns
 unfolding checkedOf
 returns c =
-    let at-found = c .before .before in
-    let at-order = at-found .before .before in
-    let at-if1 = at-order .before in
-    let at-whole-frames = at-if1 .before in
-    let entry = at-whole-frames .before .before in
-    let s = entry .args .frames .now in
-    let w : wholeFrames (length s) ≡ true = sym (at-whole-frames .whole-frames .ensures) ∙ at-if1 .if1 .taken in
-    let p = at-found .found .given .0 .0 in
-    let o : orderOf s ≡ At p = sym (at-order .order .ensures) ∙ at-found .found .given .1 in
-    rw (w, o) (c .refuse .ensures)
+    let s = c .before .before .before .before .before .before .before .before .before .args .frames .now in
+    let i = c .before .before .before .head-of .ensures in
+    let w : wholeFrames (length s) ≡ true = sym (c .before .before .before .before .before .before .before .whole-frames .ensures) ∙ c .before .before .before .before .before .before .if1 .taken in
+    let h : headFine s ≡ true = sym (c .before .before .before .before .before .head-fine .ensures) ∙ c .before .before .before .before .if2 .taken in
+    rw (w, h) (c .check-body .ensures ∙ checked-part i _ (body-part i))
 
 returns-2 : tie.Need-returns-2
 unfolding checkedOf
 returns-2 c =
-    let at-found2 = c .before .before .before in
-    let at-order = at-found2 .before .before in
-    let at-if1 = at-order .before in
-    let at-whole-frames = at-if1 .before in
-    let entry = at-whole-frames .before .before in
-    let s = entry .args .frames .now in
-    let w : wholeFrames (length s) ≡ true = sym (at-whole-frames .whole-frames .ensures) ∙ at-if1 .if1 .taken in
-    let m = at-found2 .found2 .given .0 .0 in
-    let o : orderOf s ≡ Fine m = sym (at-order .order .ensures) ∙ at-found2 .found2 .given .1 in
-    rw (w, o, eq-eqb m 0 (c .before .if2 .taken)) (c .refuse2 .ensures)
+    let s = c .before .before .before .before .before .before .args .frames .now in
+    let w : wholeFrames (length s) ≡ true = sym (c .before .before .before .before .whole-frames .ensures) ∙ c .before .before .before .if1 .taken in
+    let h : headFine s ≡ false = sym (c .before .before .head-fine .ensures) ∙ c .before .if2 .left in
+    rw (w, h) (c .refuse .ensures)
 
 returns-3 : tie.Need-returns-3
 unfolding checkedOf
 returns-3 c =
-    let at-if2 = c .before .before in
-    let at-found2 = at-if2 .before .before in
-    let at-order = at-found2 .before .before in
-    let at-if1 = at-order .before in
-    let at-whole-frames = at-if1 .before in
-    let entry = at-whole-frames .before .before in
-    let s = entry .args .frames .now in
-    let w : wholeFrames (length s) ≡ true = sym (at-whole-frames .whole-frames .ensures) ∙ at-if1 .if1 .taken in
-    let m = at-found2 .found2 .given .0 .0 in
-    let o : orderOf s ≡ Fine m = sym (at-order .order .ensures) ∙ at-found2 .found2 .given .1 in
-    let z : sizesFit s ≡ true = sym (c .before .sizes-fit .ensures) ∙ c .if3 .taken in
-    rw (w, o, ne-eqb m 0 (at-if2 .if2 .left), z)
-
-returns-4 : tie.Need-returns-4
-unfolding checkedOf
-returns-4 c =
-    let at-sizes-fit = c .before .before in
-    let at-if2 = at-sizes-fit .before in
-    let at-found2 = at-if2 .before .before in
-    let at-order = at-found2 .before .before in
-    let at-if1 = at-order .before in
-    let at-whole-frames = at-if1 .before in
-    let entry = at-whole-frames .before .before in
-    let s = entry .args .frames .now in
-    let w : wholeFrames (length s) ≡ true = sym (at-whole-frames .whole-frames .ensures) ∙ at-if1 .if1 .taken in
-    let m = at-found2 .found2 .given .0 .0 in
-    let o : orderOf s ≡ Fine m = sym (at-order .order .ensures) ∙ at-found2 .found2 .given .1 in
-    let z : sizesFit s ≡ false = sym (at-sizes-fit .sizes-fit .ensures) ∙ c .before .if3 .left in
-    rw (w, o, ne-eqb m 0 (at-if2 .if2 .left), z) (c .refuse3 .ensures)
-
-returns-5 : tie.Need-returns-5
-unfolding checkedOf
-returns-5 c =
-    let at-whole-frames = c .before .before in
-    let entry = at-whole-frames .before .before in
-    let s = entry .args .frames .now in
-    let w : wholeFrames (length s) ≡ false = sym (at-whole-frames .whole-frames .ensures) ∙ c .before .if1 .left in
-    rw w (c .refuse4 .ensures)
+    let s = c .before .before .before .before .args .frames .now in
+    let w : wholeFrames (length s) ≡ false = sym (c .before .before .whole-frames .ensures) ∙ c .before .if1 .left in
+    rw w (c .refuse2 .ensures)
 
 pub check-spec : {M : Type 1} → statement M
 check-spec =
@@ -120,16 +78,14 @@ check-spec =
     (tie.spec
     (λ c κs. search needs)
     (λ c κs. search needs)
-    (λ c. search needs)
-    cast-refuse
     (λ c κs. search needs)
-    (λ c. search needs)
-    (λ c κs. search needs)
-    sizes-fit-requires
+    mul-at
+    sub-check-body
+    part-check-body-start
+    part-check-body-end
+    check-body-requires
     (λ c κs. search needs)
     (λ c κs. search needs)
     returns
     returns-2
-    returns-3
-    returns-4
-    returns-5)
+    returns-3)

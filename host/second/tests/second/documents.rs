@@ -234,7 +234,24 @@ fn the_examples_in_the_rules_are_refused_as_said() {
         assert_eq!(read(text.as_bytes(), 512), Err(refusal), "{text}");
         texts += 1;
     }
-    assert_eq!(texts, 6);
+    assert_eq!(texts, 7);
+}
+
+#[test]
+fn the_texts_around_decimals_are_refused_as_said() {
+    let all = rows(&document("docs/RULES.md"), ["Text", "Refused", "Why"]);
+    assert_eq!(all.len(), 12);
+    for [text, refused, _] in all {
+        let text = format!("events a; notes t; {}", text.trim_matches('`'));
+        let (number, rest) = refused.split_once(" at ").expect("it has a place");
+        let place = rest.split(',').next().unwrap();
+        let [number, place]: [usize; 2] = [number, place].map(|digits| digits.parse().unwrap());
+        let refusal = Refusal {
+            number: number as u8,
+            place,
+        };
+        assert_eq!(read(text.as_bytes(), 512), Err(refusal), "{text}");
+    }
 }
 
 /// The text of a document, the header's without its line breaks.

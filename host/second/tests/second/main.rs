@@ -7,6 +7,7 @@ mod bench;
 mod board;
 mod calls;
 mod common;
+mod decimals;
 mod documents;
 mod earlier;
 mod examples;

@@ -4,9 +4,9 @@ use crate::shared::random::{rule, text, Random};
 use dillplatter_second::read;
 
 /// One spelling of each token, and of tokens that no rule has.
-const TOKENS: [&str; 29] = [
+const TOKENS: [&str; 32] = [
     "events", "notes", "i", "abs", "x", "7", ";", "->", "||", "&&", "!", "{", "}", "=", "!=", "<",
-    "<=", ">", ">=", "+", "-", "*", "(", ")", "[", "]", "|", "&", "?",
+    "<=", ">", ">=", "+", "-", "*", "(", ")", "[", "]", "|", "&", "?", "scale", "2.50", ".",
 ];
 
 #[derive(Clone, Copy, PartialEq)]
@@ -17,6 +17,11 @@ enum Stage {
     Notes,
     FirstNote,
     MoreNotes,
+    /// Behind the notes, where the clause may begin.
+    AfterNotes,
+    /// Behind the word `scale` there: the clause's number comes, or the parenthesis of a note with that name.
+    Scale,
+    ScaleEnd,
     Unit,
     Operand,
     AbsGroup,
@@ -40,6 +45,8 @@ struct Automaton {
     groups: Vec<&'static str>,
     /// Whether the relation of the unit at hand was seen.
     related: bool,
+    /// Whether the clause was seen, so that points are taken.
+    points: bool,
 }
 
 /// The sort of a token: itself, or that it is a name or a number.
@@ -48,6 +55,7 @@ fn sort(token: &str) -> &str {
     match token {
         "events" | "notes" | "i" | "abs" => token,
         _ if first.is_ascii_lowercase() => "name",
+        _ if first.is_ascii_digit() && token.contains('.') => "decimal",
         _ if first.is_ascii_digit() => "number",
         _ => token,
     }
@@ -62,7 +70,10 @@ fn declared(stage: Stage, sort: &str) -> Option<Stage> {
         (MoreEvents, ";") => Some(Notes),
         (Notes, "notes") => Some(FirstNote),
         (FirstNote | MoreNotes, "name") => Some(MoreNotes),
-        (MoreNotes, ";") => Some(Unit),
+        (MoreNotes, ";") => Some(AfterNotes),
+        (Scale, "number") => Some(ScaleEnd),
+        (ScaleEnd, ";") => Some(Unit),
+        (Scale, "(") => Some(RefEvent),
         _ => None,
     }
 }
@@ -86,8 +97,29 @@ fn referenced(stage: Stage, sort: &str) -> Option<Stage> {
 }
 
 impl Automaton {
-    /// Takes one token; false if the list then begins no rule.
-    fn take(&mut self, token: &str) -> bool {
+    /// Takes one token; the answer is where in it the list ceases to begin a rule.
+    fn take(&mut self, token: &str) -> Option<usize> {
+        match token.split_once('.') {
+            // Without the clause these are digits, a point and digits.
+            Some((digits, _)) if !self.points && !digits.is_empty() => {
+                let wrong = !self.take_whole(digits);
+                Some(if wrong { 0 } else { digits.len() })
+            }
+            _ => (!self.take_whole(token)).then_some(0),
+        }
+    }
+
+    /// Takes one token that is one whether points are taken or not; false if the list then begins no rule.
+    fn take_whole(&mut self, token: &str) -> bool {
+        if self.stage == Stage::AfterNotes {
+            if token == "scale" {
+                self.related = false;
+                self.stage = Stage::Scale;
+                return true;
+            }
+            self.stage = Stage::Unit;
+        }
+        self.points |= self.stage == Stage::ScaleEnd;
         let sort = sort(token);
         let next = declared(self.stage, sort)
             .or_else(|| referenced(self.stage, sort))
@@ -110,7 +142,7 @@ impl Automaton {
                 self.groups.push("{");
                 Some(Unit)
             }
-            (Operand, "number" | "i") => Some(AfterOperand),
+            (Operand, "number" | "decimal" | "i") => Some(AfterOperand),
             (Operand | AbsGroup, "(") => {
                 self.groups.push("(");
                 Some(Operand)
@@ -152,25 +184,26 @@ impl Automaton {
     }
 }
 
-/// The number of the first wrong token, or of tokens if the end is wrong; nothing if all is in order.
-fn misfit(tokens: &[&str]) -> Option<usize> {
+/// The place where tokens at given places cease to begin a rule, or an end if only the end is wrong; nothing if all is in order.
+fn misfit(tokens: &[&str], places: &[usize], end: usize) -> Option<usize> {
     let mut automaton = Automaton {
         stage: Stage::Events,
         groups: Vec::new(),
         related: false,
+        points: false,
     };
-    for (k, token) in tokens.iter().enumerate() {
-        if !automaton.take(token) {
-            return Some(k);
+    for (token, place) in tokens.iter().zip(places) {
+        if let Some(within) = automaton.take(token) {
+            return Some(place + within);
         }
     }
     let whole = automaton.unit_may_end() && automaton.groups.is_empty();
-    (!whole).then_some(tokens.len())
+    (!whole).then_some(end)
 }
 
 /// Compares the place of 3 in a text whose tokens stand at given places; the answer is whether 3 came.
 fn compare(text: &str, tokens: &[&str], places: &[usize]) -> bool {
-    let expected = misfit(tokens).map(|k| places.get(k).copied().unwrap_or(text.len()));
+    let expected = misfit(tokens, places, text.len());
     let found = match read(text.as_bytes(), 512) {
         Err(refusal) if refusal.number == 3 => Some(refusal.place),
         _ => None,
@@ -186,6 +219,11 @@ fn all_short_lists_behind_some_beginnings() {
         ("events a", 2),
         ("events a ; notes t", 2),
         ("events a ; notes t ;", 3),
+        ("events a ; notes t ; scale", 3),
+        ("events a ; notes t ; scale 7 ;", 3),
+        ("events a ; notes t ; scale 7 ; i", 2),
+        ("events a ; notes t ; scale 7 ; i = 2.50", 2),
+        ("events a ; notes t ; scale 7 ; t ( a [", 3),
         ("events a ; notes t ; i", 2),
         ("events a ; notes t ; i = 1", 3),
         ("events a ; notes t ; { i = 1", 2),
@@ -216,8 +254,9 @@ fn all_short_lists_behind_some_beginnings() {
             }
         }
     }
-    // By hand: 24 of the form 'i = i', 12 behind 'i', 7 behind 'i = 1', and 1 behind four others.
-    assert_eq!(rules, 47);
+    // By hand: 24 of the form 'i = i', 12 behind 'i', 7 behind 'i = 1', and 1 behind four others; with a clause, where a decimal is
+    // an operand too, 54, 18 and 10.
+    assert_eq!(rules, 47 + 82);
 }
 
 #[test]

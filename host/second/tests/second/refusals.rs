@@ -1,4 +1,4 @@
-//! Every refusal, 1 to 17 and 23 to 29, by the call that has it.
+//! Every refusal, 1 to 18 and 23 to 29, by the call that has it.
 
 use crate::common::{feed, machine, pull, reads};
 use crate::shared::driven::Twin;

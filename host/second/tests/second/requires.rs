@@ -11,6 +11,7 @@ struct Function {
     crate_name: String,
     module: String,
     name: String,
+    public: bool,
     requires: bool,
 }
 
@@ -42,6 +43,7 @@ fn functions() -> Vec<Function> {
                     crate_name: stem(&folder),
                     module: stem(&file),
                     name,
+                    public: line.starts_with("pub "),
                     requires,
                 });
             }
@@ -154,7 +156,8 @@ fn those_of_other_crates_are_the_ones_it_says() {
     let exported = |f: &Function| {
         let lib = Path::new(TOP).join(format!("crates/{}/src/lib.rt", f.crate_name));
         let lib = std::fs::read_to_string(lib).unwrap_or_default();
-        f.module == "lib" || lib.contains(&format!("pub use {}::{};", f.module, f.name))
+        (f.module == "lib" && f.public)
+            || lib.contains(&format!("pub use {}::{};", f.module, f.name))
     };
     let found: BTreeSet<&str> = all
         .iter()

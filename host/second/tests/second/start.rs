@@ -38,6 +38,7 @@ fn totals_sum_to_p_less_the_start() {
 /// A rule that has some references, whatever its condition.
 fn rule(references: Vec<Reference>) -> Rule {
     Rule {
+        scale: None,
         condition: Condition::Relation(Relation::Equal, Sum::Instance, Sum::Instance),
         references,
     }

@@ -12,9 +12,11 @@ fn frames_of_random_rules() {
         let random = &mut Random::new(seed);
         let size = random.pick(&[2, 8, 20, 40, 80]);
         let made = rule(random, size);
-        let (text, _) = text(random, &made.tokens);
+        let (text, places) = text(random, &made.tokens);
         let expected = if text.len() > 1_024 {
             Err((2, 0))
+        } else if let Some(token) = made.long {
+            Err((18, places[token]))
         } else if made.depth > 16 || made.frames.len() > 64 {
             Err((6, 0))
         } else if made.references == 0 {
@@ -31,7 +33,7 @@ fn frames_of_random_rules() {
             assert!(open(&frames, 1, 32).is_ok(), "seed {seed}: {text}");
         }
     }
-    for number in [0, 2, 6, 7, 8] {
+    for number in [0, 2, 6, 7, 8, 18] {
         let times = seen.get(&number).copied().unwrap_or(0);
         assert!(times >= 100, "{number} came {times} times");
     }

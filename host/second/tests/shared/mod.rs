@@ -2,6 +2,7 @@
 
 pub mod board;
 pub mod damage;
+pub mod decimals;
 pub mod documents;
 pub mod driven;
 pub mod examples;

@@ -25,10 +25,80 @@ impl Openings {
     }
 }
 
+/// What a frame of a scale, or a literal's decimals, had to do with an answer, and how often.
+#[derive(Debug, Default)]
+struct Scales {
+    /// Opened with a scale, and with one and a literal that has decimals.
+    opened: usize,
+    with_decimals: usize,
+    /// Refused with 10 at a scale's frame that is first: over 6 decimals, another byte set.
+    over_six: usize,
+    other_byte: usize,
+    /// Refused with 10 at one elsewhere.
+    elsewhere: usize,
+    /// Refused with 10 at a literal: over 6 decimals, decimals without a scale.
+    literal_over_six: usize,
+    without_scale: usize,
+    /// Refused with 8 for a scale.
+    large: usize,
+}
+
+impl Scales {
+    fn count(&mut self, frames: &[u8], refusal: Option<Refusal>) {
+        let has_scale = frames.first() == Some(&4);
+        let counter = match refusal {
+            None if has_scale => {
+                let decimals = |frame: &[u8]| frame[0] == 1 && frame[1] > 0;
+                let some = frames.chunks_exact(8).any(decimals);
+                self.with_decimals += usize::from(some);
+                &mut self.opened
+            }
+            Some(Refusal { number: 8, .. }) if has_scale => &mut self.large,
+            Some(Refusal { number: 10, place }) if 8 * place < frames.len() => {
+                let frame = &frames[8 * place..][..8];
+                match (frame[0], place, frame[1]) {
+                    (4, 0, 7..) => &mut self.over_six,
+                    (4, 0, _) => &mut self.other_byte,
+                    (4, _, 0..=6) if frame[2..] == [0; 6] => &mut self.elsewhere,
+                    (1, _, 7..) if has_scale => &mut self.literal_over_six,
+                    (1, _, 1..=6) if !has_scale => &mut self.without_scale,
+                    _ => return,
+                }
+            }
+            _ => return,
+        };
+        *counter += 1;
+    }
+
+    #[track_caller]
+    fn at_least(&self, times: usize) {
+        let Scales {
+            opened,
+            with_decimals,
+            over_six,
+            other_byte,
+            elsewhere,
+            literal_over_six,
+            without_scale,
+            large,
+        } = self;
+        let places = [
+            over_six,
+            other_byte,
+            elsewhere,
+            literal_over_six,
+            without_scale,
+        ];
+        let mut all = [opened, with_decimals, large].into_iter().chain(places);
+        assert!(all.all(|seen| *seen >= times), "{self:?}");
+    }
+}
+
 /// Random rules, most of them damaged, with any W and window, opened at a desk and on a board. What the desk refuses the board
 /// refuses with the same number and place; of the rest it refuses with 26 what is above its limits.
 pub fn damaged_frames<C: Driven>() {
     let (mut desk, mut board) = (Openings::default(), Openings::default());
+    let mut scales = Scales::default();
     // What is above: the frames, W, both.
     let mut above = [0; 3];
     for seed in 0..20_000 {
@@ -59,6 +129,7 @@ pub fn damaged_frames<C: Driven>() {
         let [at_desk, on_board] = [Profile::Desk, Profile::Board]
             .map(|profile| C::open_as(profile, &frames, w, &window).err());
         desk.count(at_desk);
+        scales.count(&frames, at_desk);
         board.count(on_board);
         let (wide, long) = (w > 32, frames.len() > 8 * 16);
         let expected = at_desk.or((wide || long).then_some(Refusal::of(26)));
@@ -70,4 +141,5 @@ pub fn damaged_frames<C: Driven>() {
     desk.at_least(&[0, 7, 8, 9, 10, 11], 100);
     board.at_least(&[0, 7, 8, 9, 10, 11, 26], 100);
     assert!(above.iter().all(|times| *times > 100), "{above:?}");
+    scales.at_least(100);
 }

@@ -41,6 +41,26 @@ pub struct Made {
     pub references: usize,
     /// Whether a magnitude exceeds 2^62.
     pub over: bool,
+    /// The number of the first token with more than 6 decimals, the clause's number or a literal.
+    pub long: Option<usize>,
+}
+
+/// The magnitude of a sum, and its count of decimals.
+#[derive(Clone, Copy)]
+struct Size {
+    magnitude: u128,
+    count: u32,
+}
+
+impl Size {
+    /// Brought to a count that is not less. Over 10^18 only 0 stays within 2^62.
+    fn brought(self, count: u32) -> u128 {
+        match (self.magnitude, count - self.count) {
+            (0, _) => 0,
+            (magnitude, power @ 0..=18) => magnitude.saturating_mul(10_u128.pow(power)),
+            _ => u128::MAX,
+        }
+    }
 }
 
 /// Makes one; a larger size gives a longer rule.
@@ -61,7 +81,9 @@ fn make(random: &mut Random, size: usize, late: bool) -> Made {
             depth: 0,
             references: 0,
             over: false,
+            long: None,
         },
+        scale: None,
         events: 1 + random.below(8),
         notes: 1 + random.below(4),
         left: size,
@@ -71,6 +93,7 @@ fn make(random: &mut Random, size: usize, late: bool) -> Made {
     let (events, notes) = (maker.events, maker.notes);
     maker.list("events", events, event_name);
     maker.list("notes", notes, note_name);
+    maker.clause();
     maker.cond(0);
     maker.made
 }
@@ -126,11 +149,21 @@ pub fn width(random: &mut Random, profile: Profile) -> u32 {
 }
 
 fn event_name(number: usize) -> String {
-    ["in", "out", "x", "ii", "eventsx", "abcdefghijkl", "t", "a"][number].into()
+    let names = "in out scale ii eventsx abcdefghijkl t absx";
+    names.split(' ').nth(number).expect("a name").into()
 }
 
 fn note_name(number: usize) -> String {
-    ["t", "absx", "in", "abcdefghijkl"][number].into()
+    ["t", "scale", "in", "abcdefghijkl"][number].into()
+}
+
+/// Digits with so many of them behind a point, and zeros before them; none behind a point is no point.
+pub fn with_point(value: usize, decimals: usize, zeros: usize) -> String {
+    let mut digits = format!("{value:0>width$}", width = decimals + 1);
+    if decimals > 0 {
+        digits.insert(digits.len() - decimals, '.');
+    }
+    "0".repeat(zeros) + &digits
 }
 
 struct Maker<'r> {
@@ -138,6 +171,8 @@ struct Maker<'r> {
     made: Made,
     events: usize,
     notes: usize,
+    /// The clause's number.
+    scale: Option<u32>,
     /// How many choices may still make the rule longer.
     left: usize,
     /// Whether offsets are mostly negative.
@@ -155,6 +190,30 @@ impl Maker<'_> {
             self.token(name(number));
         }
         self.token(";");
+    }
+
+    /// The clause of a scale, mostly of 0 to 6 decimals, or none.
+    fn clause(&mut self) {
+        if !self.random.once_in(3) {
+            return;
+        }
+        let few = self.random.below(7);
+        let scale = self.random.pick(&[few, few, few, 0, 1, 1, 2, 2, 3, 6]);
+        let scale = if self.random.once_in(40) { 7 } else { scale };
+        self.token("scale");
+        self.note_long(scale);
+        let zeros = self.random.pick(&[0, 0, 0, 0, 1, 12]);
+        self.token(with_point(scale, 0, zeros));
+        self.token(";");
+        self.operand(0x04, [scale as u8, 0, 0], 0, 0);
+        self.scale = Some(scale as u32);
+    }
+
+    /// A token with so many decimals comes next.
+    fn note_long(&mut self, decimals: usize) {
+        if decimals > 6 {
+            self.made.long.get_or_insert(self.made.tokens.len());
+        }
     }
 
     fn frame(&mut self, kind: u8) {
@@ -214,44 +273,51 @@ impl Maker<'_> {
             self.cond(depth + 1);
             self.token("}");
         } else {
-            self.sum(depth);
+            let left = self.sum(depth);
             let relation = self.random.below(6);
             self.token(["=", "!=", "<", "<=", ">", ">="][relation]);
-            self.sum(depth);
+            let right = self.sum(depth);
+            let count = left.count.max(right.count);
+            for side in [left, right] {
+                self.sized(side.brought(count), count);
+            }
             self.frame(0x21 + relation as u8);
         }
     }
 
-    /// A sum; the answer is its magnitude.
-    fn sum(&mut self, depth: usize) -> u128 {
+    /// A sum; the answer is its magnitude with its count.
+    fn sum(&mut self, depth: usize) -> Size {
         let mut size = self.prod(depth);
         while self.more(3) {
             let minus = self.random.once_in(2);
             self.token(if minus { "-" } else { "+" });
             let right = self.prod(depth);
-            size = self.sized(size.saturating_add(right));
+            let count = size.count.max(right.count);
+            let both = size.brought(count).saturating_add(right.brought(count));
+            size = self.sized(both, count);
             self.frame(if minus { 0x12 } else { 0x11 });
         }
         size
     }
 
-    fn prod(&mut self, depth: usize) -> u128 {
+    fn prod(&mut self, depth: usize) -> Size {
         let mut size = self.factor(depth);
         while self.more(6) {
             self.token("*");
             let right = self.factor(depth);
-            size = self.sized(size.saturating_mul(right));
+            let both = size.magnitude.saturating_mul(right.magnitude);
+            size = self.sized(both, size.count + right.count);
             self.frame(0x13);
         }
         size
     }
 
-    fn sized(&mut self, size: u128) -> u128 {
-        self.made.over |= size > 1 << 62;
-        size
+    fn sized(&mut self, magnitude: u128, count: u32) -> Size {
+        self.made.over |= magnitude > 1 << 62;
+        Size { magnitude, count }
     }
 
-    fn factor(&mut self, depth: usize) -> u128 {
+    fn factor(&mut self, depth: usize) -> Size {
         if self.more(5) {
             self.token("(");
             let size = self.sum(depth + 1);
@@ -267,24 +333,36 @@ impl Maker<'_> {
             return size;
         }
         match self.random.below(6) {
-            0 => {
-                let small = self.random.below(20);
-                let value = self.random.pick(&[0, 1, 25, small, small, 2_147_483_647]);
-                let zeros = "0".repeat(self.random.pick(&[0, 0, 0, 0, 1, 12]));
-                self.token(format!("{zeros}{value}"));
-                self.operand(0x01, [0; 3], value as i32, depth);
-                value as u128
-            }
+            0 => self.literal(depth),
             1 => {
                 self.token("i");
                 self.operand(0x02, [0; 3], 0, depth);
-                1 << 20
+                self.sized(1 << 20, 0)
             }
             _ => {
                 self.reference(depth);
-                1 << 31
+                self.sized(1 << 31, self.scale.unwrap_or_default())
             }
         }
+    }
+
+    /// A literal, behind the clause mostly with a point.
+    fn literal(&mut self, depth: usize) -> Size {
+        let small = self.random.below(20);
+        let value = self.random.pick(&[0, 1, 25, small, small, 2_147_483_647]);
+        let zeros = self.random.pick(&[0, 0, 0, 0, 1, 12]);
+        let mut decimals = 0;
+        if self.scale.is_some() {
+            let few = self.random.below(7);
+            decimals = self.random.pick(&[0, 1, 2, few, few, few]);
+            if self.random.once_in(60) {
+                decimals = self.random.pick(&[7, 8]);
+            }
+        }
+        self.note_long(decimals);
+        self.token(with_point(value, decimals, zeros));
+        self.operand(0x01, [decimals as u8, 0, 0], value as i32, depth);
+        self.sized(value as u128, decimals as u32)
     }
 
     fn reference(&mut self, depth: usize) {
@@ -349,7 +427,8 @@ pub fn text(random: &mut Random, tokens: &[String]) -> (String, Vec<usize>) {
         let blanks = random.pick(&["", "", "", " ", "\n", "  ", " \n"]);
         let touch = |before: char, after: char| {
             before.is_ascii_lowercase() && after.is_ascii_lowercase()
-                || before.is_ascii_digit() && after.is_ascii_digit()
+                || before.is_ascii_digit() && (after.is_ascii_digit() || after == '.')
+                || before == '.' && after.is_ascii_digit()
                 || before.is_ascii_punctuation() && after.is_ascii_punctuation()
         };
         let close = text.chars().last().zip(token.chars().next());

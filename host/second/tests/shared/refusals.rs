@@ -62,6 +62,12 @@ fn reading<C: Driven>() -> Vec<Row> {
         (3, 30, of("events a b; notes t; t(a[i]) >> 0")),
         (4, 21, of("events a b; notes t; u(a[i]) > 0")),
         (5, 31, of("events a b; notes t; t(a[i]) > 2147483648")),
+        (18, 27, of("events a b; notes t; scale 7; t(a[i]) > 0")),
+        (
+            18,
+            40,
+            of("events a b; notes t; scale 1; t(a[i]) > 0.5000000"),
+        ),
         (6, 0, of(&RULE.replace("t(a", "!!!!!!!!!!!!!!!!!t(a"))),
         (7, 0, of("events a b; notes t; i > 0")),
         (8, 0, of("events a b; notes t; t(a[i]) * i * i > 0")),

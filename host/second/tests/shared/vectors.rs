@@ -37,33 +37,73 @@ pub fn hex(bytes: &[u8]) -> String {
     bytes.iter().map(|byte| format!("{byte:02x}")).collect()
 }
 
-/// reading.txt.
+/// The files of texts, with how many texts each has, how many of them are read, how many with a scale, and how many are refused
+/// with 18.
+const READING: [(&str, [usize; 4]); 2] = [
+    ("reading.txt", [700, 271, 0, 0]),
+    ("points/01/reading.txt", [500, 186, 96, 0]),
+];
+
+/// Each file of texts.
 pub fn reading<C: Driven>() {
-    let lines = vector_lines("reading.txt");
-    assert_eq!(lines.len(), 700);
-    for (at, line) in lines {
-        let (text, expected) = line.split_once(' ').unwrap();
-        let answer = match C::frames_of(&unhex(text)) {
-            Ok(frames) => format!("frames {} {}", frames.len() / 8, hex(&frames)),
-            Err(refusal) => refusal_words(refusal),
-        };
-        assert_eq!(answer, expected, "reading.txt line {at}");
+    for (name, counts) in READING {
+        assert_eq!(reading_of::<C>(name), counts, "{name}");
     }
 }
 
-/// opening.txt.
+/// A file of texts; the answer is how many there are, are read, are read with a scale, are refused with 18.
+fn reading_of<C: Driven>(name: &str) -> [usize; 4] {
+    let [mut texts, mut read, mut scaled, mut long] = [0; 4];
+    for (at, line) in vector_lines(name) {
+        let (text, expected) = line.split_once(' ').unwrap();
+        texts += 1;
+        let answer = match C::frames_of(&unhex(text)) {
+            Ok(frames) => {
+                read += 1;
+                scaled += usize::from(frames[0] == 4);
+                format!("frames {} {}", frames.len() / 8, hex(&frames))
+            }
+            Err(refusal) => {
+                long += usize::from(refusal.number == 18);
+                refusal_words(refusal)
+            }
+        };
+        assert_eq!(answer, expected, "{name} line {at}");
+    }
+    [texts, read, scaled, long]
+}
+
+/// The files of openings, with how many each has, how many of them open, and how many with a scale.
+const OPENING: [(&str, [usize; 3]); 2] = [
+    ("opening.txt", [500, 44, 0]),
+    ("points/01/opening.txt", [400, 31, 11]),
+];
+
+/// Each file of openings.
 pub fn opening<C: Driven>() {
-    let lines = vector_lines("opening.txt");
-    assert_eq!(lines.len(), 500);
-    for (at, line) in lines {
+    for (name, counts) in OPENING {
+        assert_eq!(opening_of::<C>(name), counts, "{name}");
+    }
+}
+
+/// A file of openings; the answer is how many there are, open, open with a scale.
+fn opening_of<C: Driven>(name: &str) -> [usize; 3] {
+    let [mut openings, mut opened, mut scaled] = [0; 3];
+    for (at, line) in vector_lines(name) {
         let mut fields = line.splitn(4, ' ');
         let mut field = || fields.next().unwrap();
         let frames = unhex(field());
         let w = field().parse().unwrap();
         let words: usize = field().parse().unwrap();
         let answer = opened_words(C::open(&frames, w, &vec![-1; words]));
-        assert_eq!(answer, field(), "opening.txt line {at}");
+        openings += 1;
+        if answer == "opened" {
+            opened += 1;
+            scaled += usize::from(frames[0] == 4);
+        }
+        assert_eq!(answer, field(), "{name} line {at}");
     }
+    [openings, opened, scaled]
 }
 
 /// points/09/board.txt.
@@ -100,8 +140,9 @@ fn opened_words<C>(answer: Result<C, Refusal>) -> String {
 }
 
 /// The files of calls, with how many rules, feeds, pulls and written words each has, and how many answers with 27.
-const CALLS: [(&str, [usize; 5]); 3] = [
+const CALLS: [(&str, [usize; 5]); 4] = [
     ("calls.txt", [86, 2_812, 2_264, 0, 0]),
+    ("points/01/calls.txt", [63, 1_723, 1_341, 0, 0]),
     ("points/02/calls.txt", [60, 1_994, 1_548, 0, 0]),
     ("points/11/strays.txt", [60, 1_955, 1_940, 658, 719]),
 ];
@@ -296,7 +337,11 @@ fn refusal_words(refusal: Refusal) -> String {
 }
 
 /// The folders of cases of the bench program, with how many each has.
-const BENCH: [(&str, usize); 2] = [("bench", 40), ("points/02/bench", 16)];
+const BENCH: [(&str, usize); 3] = [
+    ("bench", 40),
+    ("points/01/bench", 16),
+    ("points/02/bench", 16),
+];
 
 /// A case of the bench program.
 pub struct Case {

@@ -95,7 +95,8 @@ fn pull(rule: &Rule) -> String {
         let each = (0..rule.references.len()).map(|r| format!("s{r} {sign}"));
         each.collect::<Vec<String>>().join(between)
     };
-    script += &format!("    value = {}\n", condition(&rule.condition));
+    let value = condition(&rule.condition, rule.note_decimals());
+    script += &format!("    value = {value}\n");
     script += &format!(
         "    if ({}) if (value == 1 || !({})) return 0\n",
         all("== 1", " || "),
@@ -122,23 +123,28 @@ fn pull(rule: &Rule) -> String {
     script + "    return 1\n}\n"
 }
 
-fn condition(tree: &Condition) -> String {
+/// A condition, with so many decimals of each note.
+fn condition(tree: &Condition, of_notes: u32) -> String {
+    let value = |inner: &Condition| condition(inner, of_notes);
     match tree {
         Condition::Relation(relation, left, right) => {
             let mut used = BTreeSet::new();
-            let (left, right) = (sum(left, &mut used), sum(right, &mut used));
-            let holds = format!("({left} {} {right} ? 2 : 0)", sign(*relation));
+            let (left, right) = (
+                sum(left, of_notes, &mut used),
+                sum(right, of_notes, &mut used),
+            );
+            let holds = format!("({} ? 2 : 0)", together(left, sign(*relation), right).0);
             let missing: Vec<String> = used.into_iter().map(|r| format!("s{r}")).collect();
             if missing.is_empty() {
                 return holds;
             }
             format!("({} ? 1 : {holds})", missing.join(" || "))
         }
-        Condition::Not(inner) => format!("(2 - {})", condition(inner)),
-        Condition::And(left, right) => format!("min({}, {})", condition(left), condition(right)),
-        Condition::Or(left, right) => format!("max({}, {})", condition(left), condition(right)),
+        Condition::Not(inner) => format!("(2 - {})", value(inner)),
+        Condition::And(left, right) => format!("min({}, {})", value(left), value(right)),
+        Condition::Or(left, right) => format!("max({}, {})", value(left), value(right)),
         Condition::Implies(left, right) => {
-            format!("max(2 - {}, {})", condition(left), condition(right))
+            format!("max(2 - {}, {})", value(left), value(right))
         }
     }
 }
@@ -154,22 +160,51 @@ fn sign(relation: Relation) -> &'static str {
     }
 }
 
-/// A sum; the references that it names are added to a set.
-fn sum(tree: &Sum, used: &mut BTreeSet<usize>) -> String {
-    let mut two = |left: &Sum, sign: &str, right: &Sum| {
-        let left = sum(left, used);
-        format!("({left} {sign} {})", sum(right, used))
+/// A sum as a whole number, and how many of its digits are decimals.
+type Scaled = (String, u32);
+
+/// A sum; the references that it names are added to a set. Awk's numbers are exact up to 2^53.
+fn sum(tree: &Sum, of_notes: u32, used: &mut BTreeSet<usize>) -> Scaled {
+    let mut two = |left: &Sum, right: &Sum| {
+        let left = sum(left, of_notes, used);
+        (left, sum(right, of_notes, used))
     };
     match tree {
-        Sum::Literal(value) => value.to_string(),
-        Sum::Instance => "p".into(),
+        Sum::Literal(value, decimals) => (value.to_string(), u32::from(*decimals)),
+        Sum::Instance => ("p".into(), 0),
         Sum::Reference(number) => {
             used.insert(*number);
-            format!("v{number}")
+            (format!("v{number}"), of_notes)
         }
-        Sum::Add(left, right) => two(left, "+", right),
-        Sum::Subtract(left, right) => two(left, "-", right),
-        Sum::Multiply(left, right) => two(left, "*", right),
-        Sum::Abs(inner) => format!("abs({})", sum(inner, used)),
+        Sum::Add(left, right) => {
+            let (left, right) = two(left, right);
+            in_group(together(left, "+", right))
+        }
+        Sum::Subtract(left, right) => {
+            let (left, right) = two(left, right);
+            in_group(together(left, "-", right))
+        }
+        Sum::Multiply(left, right) => {
+            let (left, right) = two(left, right);
+            (format!("({} * {})", left.0, right.0), left.1 + right.1)
+        }
+        Sum::Abs(inner) => {
+            let (inner, decimals) = sum(inner, of_notes, used);
+            (format!("abs({inner})"), decimals)
+        }
     }
+}
+
+fn in_group((text, decimals): Scaled) -> Scaled {
+    (format!("({text})"), decimals)
+}
+
+/// Two sums with a sign between them, both with the decimals of the one that has more.
+fn together(left: Scaled, sign: &str, right: Scaled) -> Scaled {
+    let decimals = left.1.max(right.1);
+    let [left, right] = [left, right].map(|(text, fewer)| match decimals - fewer {
+        0 => text,
+        more => format!("({text} * {})", 10_u64.pow(more)),
+    });
+    (format!("{left} {sign} {right}"), decimals)
 }

@@ -11,6 +11,7 @@ use Rattle.rule.specs.Machine.{step, finish, out, want, doing}
 use Rattle.rule.specs.Machine as machine
 use Rattle.rule.specs.Draft.{alone}
 use Rattle.rule.proofs.ReaderParts.{then, stop, then-does, idle, as-is, least, same, take, beyond}
+use Rattle.rule.specs.ReadsPart.{in-body}
 use borrow.Author.Needs.{needs}
 use borrow.Fn.Kinds.{In}
 use borrow.Fn.PlainCycle.{Measures, is, falls, and}
@@ -141,7 +142,7 @@ ands-unit-requires t c κs =
     let at-token-at = c .before .before .before in
     let entry = at-token-at .before .before in
     let ne : at-token-at .token-at .result .kind ≡ 0 → ⊥ = λ e. omega arith in
-    let v = beyond (now (entry .args .text)) (entry .args .at) (at-token-at .token-at .result) (entry .pre .1) (at-token-at .token-at .ensures) ne in
+    let v = beyond _ (now (entry .args .text)) (entry .args .at) (at-token-at .token-at .result) (entry .pre .1) (at-token-at .token-at .ensures) ne in
     omega arith
 
 ands-ands-requires : (t : ℕ) → ands-lts.Need-ands-requires (ands-calls t) (ands-at t) ands.Post
@@ -151,7 +152,7 @@ ands-ands-requires t c κs =
     let at-token-at = at-unit .before .before .before .before in
     let entry = at-token-at .before .before in
     let ne : at-token-at .token-at .result .kind ≡ 0 → ⊥ = λ e. omega arith in
-    let v = beyond (now (entry .args .text)) (entry .args .at) (at-token-at .token-at .result) (entry .pre .1) (at-token-at .token-at .ensures) ne in
+    let v = beyond _ (now (entry .args .text)) (entry .args .at) (at-token-at .token-at .result) (entry .pre .1) (at-token-at .token-at .ensures) ne in
     let d = as-is (at-unit .unit .ensures) (at-a .a .given .1) in
     let w = d .within in
     omega arith
@@ -164,7 +165,7 @@ ands-returns-2 t c =
     let at-token-at = at-if1 .before .before in
     let entry = at-token-at .before .before in
     let ne : at-token-at .token-at .result .kind ≡ 0 → ⊥ = λ e. omega arith in
-    let v = beyond (now (entry .args .text)) (entry .args .at) (at-token-at .token-at .result) (entry .pre .1) (at-token-at .token-at .ensures) ne in
+    let v = beyond _ (now (entry .args .text)) (entry .args .at) (at-token-at .token-at .result) (entry .pre .1) (at-token-at .token-at .ensures) ne in
     take (entry .pre .1) (at-token-at .token-at .ensures) ne (stop (λ s. doing (out (alone (Kind.connective Connective.and))) ∷ machine.ands (entry .args .d) ∷ s) _ (as-is (at-unit .unit .ensures) (c .before .q .given .1))) (λ s. rw (at-if1 .if1 .left))
 
 ands-returns-3 : (t : ℕ) → ands-lts.Need-returns-3 (ands-calls t) (ands-at t) ands.Post
@@ -177,7 +178,7 @@ ands-returns-3 t c =
     let at-token-at = at-if1 .before .before in
     let entry = at-token-at .before .before in
     let ne : at-token-at .token-at .result .kind ≡ 0 → ⊥ = λ e. omega arith in
-    let v = beyond (now (entry .args .text)) (entry .args .at) (at-token-at .token-at .result) (entry .pre .1) (at-token-at .token-at .ensures) ne in
+    let v = beyond _ (now (entry .args .text)) (entry .args .at) (at-token-at .token-at .result) (entry .pre .1) (at-token-at .token-at .ensures) ne in
     let d = as-is (at-unit .unit .ensures) (at-a .a .given .1) in
     let w = d .within in
     take (entry .pre .1) (at-token-at .token-at .ensures) ne (then (then-does (out (alone (Kind.connective Connective.and))) d (at-emit-kind .emit-kind .ensures (now (entry .args .text)) (now (entry .args .names)))) (c .ands .ensures) (omega arith)) (λ s. rw (at-if1 .if1 .left))
@@ -194,7 +195,7 @@ arrow-condition-requires t c κs =
     let at-token-at = c .before .before .before .before .before in
     let entry = at-token-at .before .before in
     let ne : at-token-at .token-at .result .kind ≡ 0 → ⊥ = λ e. omega arith in
-    let v = beyond (now (entry .args .text)) (entry .args .at) (at-token-at .token-at .result) (entry .pre .1) (at-token-at .token-at .ensures) ne in
+    let v = beyond _ (now (entry .args .text)) (entry .args .at) (at-token-at .token-at .result) (entry .pre .1) (at-token-at .token-at .ensures) ne in
     omega arith
 
 arrow-returns-2 : (t : ℕ) → arrow-lts.Need-returns-2 (arrow-calls t) (arrow-at t) arrow.Post
@@ -207,7 +208,7 @@ arrow-returns-2 t c =
     let at-token-at = at-if1 .before .before in
     let entry = at-token-at .before .before in
     let ne : at-token-at .token-at .result .kind ≡ 0 → ⊥ = λ e. omega arith in
-    let v = beyond (now (entry .args .text)) (entry .args .at) (at-token-at .token-at .result) (entry .pre .1) (at-token-at .token-at .ensures) ne in
+    let v = beyond _ (now (entry .args .text)) (entry .args .at) (at-token-at .token-at .result) (entry .pre .1) (at-token-at .token-at .ensures) ne in
     take (entry .pre .1) (at-token-at .token-at .ensures) ne (stop (λ s. doing (out (alone (Kind.connective Connective.implies))) ∷ s) _ (rw (at-entered .entered .ensures (now (entry .args .text)) (now (entry .args .names)) (now (entry .args .buf))) at (as-is (at-condition .condition .ensures) (c .before .q .given .1)))) (λ s. rw (at-if1 .if1 .left, ← at-deeper .deeper .ensures))
 
 arrow-returns-3 : (t : ℕ) → arrow-lts.Need-returns-3 (arrow-calls t) (arrow-at t) arrow.Post
@@ -221,7 +222,7 @@ arrow-returns-3 t c =
     let at-token-at = at-if1 .before .before in
     let entry = at-token-at .before .before in
     let ne : at-token-at .token-at .result .kind ≡ 0 → ⊥ = λ e. omega arith in
-    let v = beyond (now (entry .args .text)) (entry .args .at) (at-token-at .token-at .result) (entry .pre .1) (at-token-at .token-at .ensures) ne in
+    let v = beyond _ (now (entry .args .text)) (entry .args .at) (at-token-at .token-at .result) (entry .pre .1) (at-token-at .token-at .ensures) ne in
     let d = rw (at-entered .entered .ensures (now (entry .args .text)) (now (entry .args .names)) (now (entry .args .buf))) at (as-is (at-condition .condition .ensures) (at-a .a .given .1)) in
     let w = d .within in
     take (entry .pre .1) (at-token-at .token-at .ensures) ne (least (omega arith) (then-does (out (alone (Kind.connective Connective.implies))) d (c .emit-kind .ensures (now (entry .args .text)) (now (entry .args .names))))) (λ s. rw (at-if1 .if1 .left, ← at-deeper .deeper .ensures))
@@ -247,7 +248,7 @@ braces-returns-2 t c =
     let at-condition = at-a .before .before in
     let d = as-is (at-condition .condition .ensures) (at-a .a .given .1) in
     let w = d .within in
-    then d (c .expect .ensures _ _) (omega arith)
+    then d (c .expect .ensures _ in-body _ _) (omega arith)
 
 condition-conj-requires : (t : ℕ) → condition-lts.Need-conj-requires (condition-calls t) (condition-at t) condition.Post
 condition-conj-requires t c κs = omega arith
@@ -338,7 +339,7 @@ ors-conj-requires t c κs =
     let at-token-at = c .before .before .before in
     let entry = at-token-at .before .before in
     let ne : at-token-at .token-at .result .kind ≡ 0 → ⊥ = λ e. omega arith in
-    let v = beyond (now (entry .args .text)) (entry .args .at) (at-token-at .token-at .result) (entry .pre .1) (at-token-at .token-at .ensures) ne in
+    let v = beyond _ (now (entry .args .text)) (entry .args .at) (at-token-at .token-at .result) (entry .pre .1) (at-token-at .token-at .ensures) ne in
     omega arith
 
 ors-ors-requires : (t : ℕ) → ors-lts.Need-ors-requires (ors-calls t) (ors-at t) ors.Post
@@ -348,7 +349,7 @@ ors-ors-requires t c κs =
     let at-token-at = at-conj .before .before .before .before in
     let entry = at-token-at .before .before in
     let ne : at-token-at .token-at .result .kind ≡ 0 → ⊥ = λ e. omega arith in
-    let v = beyond (now (entry .args .text)) (entry .args .at) (at-token-at .token-at .result) (entry .pre .1) (at-token-at .token-at .ensures) ne in
+    let v = beyond _ (now (entry .args .text)) (entry .args .at) (at-token-at .token-at .result) (entry .pre .1) (at-token-at .token-at .ensures) ne in
     let d = as-is (at-conj .conj .ensures) (at-a .a .given .1) in
     let w = d .within in
     omega arith
@@ -361,7 +362,7 @@ ors-returns-2 t c =
     let at-token-at = at-if1 .before .before in
     let entry = at-token-at .before .before in
     let ne : at-token-at .token-at .result .kind ≡ 0 → ⊥ = λ e. omega arith in
-    let v = beyond (now (entry .args .text)) (entry .args .at) (at-token-at .token-at .result) (entry .pre .1) (at-token-at .token-at .ensures) ne in
+    let v = beyond _ (now (entry .args .text)) (entry .args .at) (at-token-at .token-at .result) (entry .pre .1) (at-token-at .token-at .ensures) ne in
     take (entry .pre .1) (at-token-at .token-at .ensures) ne (stop (λ s. doing (out (alone (Kind.connective Connective.or))) ∷ machine.ors (entry .args .d) ∷ s) _ (as-is (at-conj .conj .ensures) (c .before .q .given .1))) (λ s. rw (at-if1 .if1 .left))
 
 ors-returns-3 : (t : ℕ) → ors-lts.Need-returns-3 (ors-calls t) (ors-at t) ors.Post
@@ -374,7 +375,7 @@ ors-returns-3 t c =
     let at-token-at = at-if1 .before .before in
     let entry = at-token-at .before .before in
     let ne : at-token-at .token-at .result .kind ≡ 0 → ⊥ = λ e. omega arith in
-    let v = beyond (now (entry .args .text)) (entry .args .at) (at-token-at .token-at .result) (entry .pre .1) (at-token-at .token-at .ensures) ne in
+    let v = beyond _ (now (entry .args .text)) (entry .args .at) (at-token-at .token-at .result) (entry .pre .1) (at-token-at .token-at .ensures) ne in
     let d = as-is (at-conj .conj .ensures) (at-a .a .given .1) in
     let w = d .within in
     take (entry .pre .1) (at-token-at .token-at .ensures) ne (then (then-does (out (alone (Kind.connective Connective.or))) d (at-emit-kind .emit-kind .ensures (now (entry .args .text)) (now (entry .args .names)))) (c .ors .ensures) (omega arith)) (λ s. rw (at-if1 .if1 .left))
@@ -384,7 +385,7 @@ unit-braces-requires t c κs =
     let at-token-at = c .before .before .before .before .before in
     let entry = at-token-at .before .before in
     let ne : at-token-at .token-at .result .kind ≡ 0 → ⊥ = λ e. omega arith in
-    let v = beyond (now (entry .args .text)) (entry .args .at) (at-token-at .token-at .result) (entry .pre .1) (at-token-at .token-at .ensures) ne in
+    let v = beyond _ (now (entry .args .text)) (entry .args .at) (at-token-at .token-at .result) (entry .pre .1) (at-token-at .token-at .ensures) ne in
     omega arith
 
 unit-returns : (t : ℕ) → unit-lts.Need-returns (unit-calls t) (unit-at t) unit.Post
@@ -396,7 +397,7 @@ unit-returns t c =
     let at-token-at = at-deeper .before in
     let entry = at-token-at .before .before in
     let ne : at-token-at .token-at .result .kind ≡ 0 → ⊥ = λ e. omega arith in
-    let v = beyond (now (entry .args .text)) (entry .args .at) (at-token-at .token-at .result) (entry .pre .1) (at-token-at .token-at .ensures) ne in
+    let v = beyond _ (now (entry .args .text)) (entry .args .at) (at-token-at .token-at .result) (entry .pre .1) (at-token-at .token-at .ensures) ne in
     take (entry .pre .1) (at-token-at .token-at .ensures) ne (least (omega arith) (rw (at-entered .entered .ensures (now (entry .args .text)) (now (entry .args .names)) (now (entry .args .buf))) at (c .braces .ensures))) (λ s. rw (at-if1 .if1 .taken, ← at-deeper .deeper .ensures))
 
 unit-relation-requires : (t : ℕ) → unit-lts.Need-relation-requires (unit-calls t) (unit-at t) unit.Post
@@ -418,7 +419,7 @@ unit-unit-requires t c κs =
     let at-token-at = c .before .before .before .before .before .before .before in
     let entry = at-token-at .before .before in
     let ne : at-token-at .token-at .result .kind ≡ 0 → ⊥ = λ e. omega arith in
-    let v = beyond (now (entry .args .text)) (entry .args .at) (at-token-at .token-at .result) (entry .pre .1) (at-token-at .token-at .ensures) ne in
+    let v = beyond _ (now (entry .args .text)) (entry .args .at) (at-token-at .token-at .result) (entry .pre .1) (at-token-at .token-at .ensures) ne in
     omega arith
 
 unit-returns-3 : (t : ℕ) → unit-lts.Need-returns-3 (unit-calls t) (unit-at t) unit.Post
@@ -431,7 +432,7 @@ unit-returns-3 t c =
     let at-token-at = at-deeper .before in
     let entry = at-token-at .before .before in
     let ne : at-token-at .token-at .result .kind ≡ 0 → ⊥ = λ e. omega arith in
-    let v = beyond (now (entry .args .text)) (entry .args .at) (at-token-at .token-at .result) (entry .pre .1) (at-token-at .token-at .ensures) ne in
+    let v = beyond _ (now (entry .args .text)) (entry .args .at) (at-token-at .token-at .result) (entry .pre .1) (at-token-at .token-at .ensures) ne in
     take (entry .pre .1) (at-token-at .token-at .ensures) ne (stop (λ s. doing (out (alone Kind.negation)) ∷ s) _ (rw (at-entered2 .entered2 .ensures (now (entry .args .text)) (now (entry .args .names)) (now (entry .args .buf))) at (as-is (at-unit .unit .ensures) (c .before .q .given .1)))) (λ s. rw (at-if2 .if2 .left, ← at-deeper .deeper .ensures))
 
 unit-returns-4 : (t : ℕ) → unit-lts.Need-returns-4 (unit-calls t) (unit-at t) unit.Post
@@ -445,7 +446,7 @@ unit-returns-4 t c =
     let at-token-at = at-deeper .before in
     let entry = at-token-at .before .before in
     let ne : at-token-at .token-at .result .kind ≡ 0 → ⊥ = λ e. omega arith in
-    let v = beyond (now (entry .args .text)) (entry .args .at) (at-token-at .token-at .result) (entry .pre .1) (at-token-at .token-at .ensures) ne in
+    let v = beyond _ (now (entry .args .text)) (entry .args .at) (at-token-at .token-at .result) (entry .pre .1) (at-token-at .token-at .ensures) ne in
     let d = rw (at-entered2 .entered2 .ensures (now (entry .args .text)) (now (entry .args .names)) (now (entry .args .buf))) at (as-is (at-unit .unit .ensures) (at-a .a .given .1)) in
     let w = d .within in
     take (entry .pre .1) (at-token-at .token-at .ensures) ne (least (omega arith) (then-does (out (alone Kind.negation)) d (c .emit-kind .ensures (now (entry .args .text)) (now (entry .args .names))))) (λ s. rw (at-if2 .if2 .left, ← at-deeper .deeper .ensures))

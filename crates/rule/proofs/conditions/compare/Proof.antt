@@ -25,7 +25,7 @@ sum-requires c κs =
     let entry = at-token-at .before .before in
     let nz : relByte (at-token-at .token-at .result .kind) ≡ 0 → ⊥ = λ e. c .before .if1 .left (at-rel-kind .rel-kind .ensures ∙ e) in
     let ne = rel-some (at-token-at .token-at .result .kind) nz in
-    let v = beyond (now (entry .args .text)) (entry .args .at) (at-token-at .token-at .result) (entry .pre) (at-token-at .token-at .ensures) ne in
+    let v = beyond _ (now (entry .args .text)) (entry .args .at) (at-token-at .token-at .result) (entry .pre) (at-token-at .token-at .ensures) ne in
     v .1
 
 returns-2 : tie.Need-returns-2
@@ -37,7 +37,7 @@ returns-2 c =
     let entry = at-token-at .before .before in
     let nz : relByte (at-token-at .token-at .result .kind) ≡ 0 → ⊥ = λ e. at-if1 .if1 .left (at-rel-kind .rel-kind .ensures ∙ e) in
     let ne = rel-some (at-token-at .token-at .result .kind) nz in
-    let v = beyond (now (entry .args .text)) (entry .args .at) (at-token-at .token-at .result) (entry .pre) (at-token-at .token-at .ensures) ne in
+    let v = beyond _ (now (entry .args .text)) (entry .args .at) (at-token-at .token-at .result) (entry .pre) (at-token-at .token-at .ensures) ne in
     take (entry .pre) (at-token-at .token-at .ensures) ne (stop (λ s. doing (out (plain (relByte (at-token-at .token-at .result .kind)))) ∷ s) _ (as-is (at-sum .sum .ensures) (c .before .q .given .1))) (λ s. rel-step _ _ _ _ _ _ _ nz)
 
 returns-3 : tie.Need-returns-3
@@ -50,7 +50,7 @@ returns-3 c =
     let entry = at-token-at .before .before in
     let nz : relByte (at-token-at .token-at .result .kind) ≡ 0 → ⊥ = λ e. at-if1 .if1 .left (at-rel-kind .rel-kind .ensures ∙ e) in
     let ne = rel-some (at-token-at .token-at .result .kind) nz in
-    let v = beyond (now (entry .args .text)) (entry .args .at) (at-token-at .token-at .result) (entry .pre) (at-token-at .token-at .ensures) ne in
+    let v = beyond _ (now (entry .args .text)) (entry .args .at) (at-token-at .token-at .result) (entry .pre) (at-token-at .token-at .ensures) ne in
     let d = as-is (at-sum .sum .ensures) (at-a .a .given .1) in
     let w = d .within in
     take (entry .pre) (at-token-at .token-at .ensures) ne (least (omega arith) (then-does (out (plain (at-rel-kind .rel-kind .result))) d (c .emit-kind .ensures (now (entry .args .text)) (now (entry .args .names))))) (λ s. rw (at-rel-kind .rel-kind .ensures) (rel-step _ _ _ _ _ _ _ nz))

@@ -6,10 +6,15 @@ use Rattle.rule.proofs.emit.emit_literal.Tie as tie
 
 returns : tie.Need-returns
 unfolding acts
-returns c =
-    let at-number-at = c .before .before in
-    let at-sized = at-number-at .before in
-    λ tb. c .emit .ensures tb ∙ rw (at-sized .sized .ensures tb _, at-number-at .number-at .ensures)
+returns c = λ tb. c .emit .ensures tb ∙ rw (c .before .before .before .before .sized .ensures tb _, c .before .before .before .number-at .ensures, c .before .before .decimals-at .ensures)
 
 pub emit-literal-spec : {M : Type 1} → statement M
-emit-literal-spec = tie.close (tie.spec (λ c κs. search needs) (λ c κs. search needs) (λ c κs. search needs) returns)
+emit-literal-spec =
+    tie.close
+    (tie.spec
+    (λ c κs. search needs)
+    (λ c κs. search needs)
+    (λ c κs. search needs)
+    (λ c. search needs)
+    (λ c κs. search needs)
+    returns)

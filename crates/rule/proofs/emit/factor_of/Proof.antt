@@ -1,7 +1,7 @@
 use denote.Ref.{now}
 use lib.ListN.{length}
-use Rattle.rule.specs.ReadsPart.{InsideScale}
-use Rattle.rule.specs.declared.parts.Scale.{Scale}
+use Rattle.rule.specs.ReadsPart.{InsideMultiple}
+use Rattle.rule.specs.declared.parts.Multiple.{Multiple}
 use mathlib.Core.Path.{subst}
 use borrow.Author.Needs.{needs}
 use Rattle.rule.proofs.emit.factor_of.Statement.{statement}
@@ -10,7 +10,7 @@ use Rattle.rule.proofs.emit.factor_of.Tie as tie
 number-at-requires : tie.Need-number-at-requires
 number-at-requires c κs =
     let entry = c .before .before .before .before in
-    subst (λ (x : Scale). InsideScale (length (now (entry .args .text))) x) (c .before .f .given .1) (entry .pre)
+    subst (λ (x : Multiple). InsideMultiple (length (now (entry .args .text))) x) (c .before .f .given .1) (entry .pre)
 
 returns : tie.Need-returns
 returns c = rw (c .enum-told .given .1)

@@ -1,8 +1,8 @@
 use borrow.Author.Tests.{eq-eqb, ne-eqb}
-use mathlib.Core.Path.{_≡_, refl}
+use mathlib.Core.Path.{_≡_, refl, _∙_}
 use denote.Ref.{now}
 use Rattle.rule.specs.Machine.{step, finish}
-use Rattle.rule.proofs.ReaderParts.{idle, fail, take, beyond}
+use Rattle.rule.proofs.ReaderParts.{idle, fail, take, beyond, reads-next}
 use native.Mathlib.Omega.{arith}
 use borrow.Author.Needs.{needs}
 use Rattle.rule.proofs.expect.expect.Statement.{statement}
@@ -15,8 +15,8 @@ returns c =
     let entry = at-token-at .before .before in
     let a = entry .args in
     let h = entry .pre in
-    λ tb b. let ne : at-token-at .token-at .result .kind ≡ 0 → ⊥ = λ e. omega arith in
-    let v = beyond (now (a .text)) (a .at) (at-token-at .token-at .result) (h .0) (at-token-at .token-at .ensures) ne in take (h .0) (at-token-at .token-at .ensures) ne (idle (omega arith) (v .1) refl) (λ s. rw (eq-eqb _ _ (c .if1 .taken)))
+    λ md rd tb b. let ne : at-token-at .token-at .result .kind ≡ 0 → ⊥ = λ e. omega arith in
+    let v = beyond _ (now (a .text)) (a .at) (at-token-at .token-at .result) (h .0) (at-token-at .token-at .ensures) ne in rw (← c .if1 .taken) (take (h .0) (at-token-at .token-at .ensures ∙ reads-next rd _ _) ne (idle (omega arith) (v .1) refl) (λ s. rw (eq-eqb (at-token-at .token-at .result .kind) (at-token-at .token-at .result .kind) refl)))
 
 returns-2 : tie.Need-returns-2
 unfolding step finish
@@ -24,7 +24,7 @@ returns-2 c =
     let at-token-at = c .before .before in
     let entry = at-token-at .before .before in
     let h = entry .pre in
-    λ tb b. fail (h .0) (at-token-at .token-at .ensures) (λ s. rw (ne-eqb _ _ (c .if1 .left))) (λ s. refl)
+    λ md rd tb b. fail (h .0) (at-token-at .token-at .ensures ∙ reads-next rd _ _) (λ s. rw (ne-eqb _ _ (c .if1 .left))) (λ s. refl)
 
 pub expect-spec : {M : Type 1} → statement M
 expect-spec = tie.close (tie.spec (λ c κs. search needs) returns returns-2)

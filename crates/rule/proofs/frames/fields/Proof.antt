@@ -16,7 +16,7 @@ returns-3 : tie.Need-returns-3
 returns-3 c =
     let entry = c .before .before in
     let r = c .before .match .rest in
-    c .of-bare .ensures ∙ sym (bare-kind (entry .args .x .kind) (entry .args .x) (r .0 .1) (r .1))
+    c .of-bare .ensures ∙ sym (bare-kind (entry .args .most) (entry .args .x .kind) (entry .args .x) (r .0 .1) (r .1))
 
 pub fields-spec : {M : Type 1} → statement M
 fields-spec =

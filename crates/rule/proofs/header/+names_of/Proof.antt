@@ -5,7 +5,7 @@ use Prim.Native.Nat.{ℕ, _<_, _-_}
 use lib.ListN.{length}
 use denote.Ref.{now}
 use Rattle.rule.specs.Machine.{step, finish}
-use Rattle.rule.proofs.ReaderParts.{idle, least, same, take, beyond, inside}
+use Rattle.rule.proofs.ReaderParts.{idle, least, same, take-to, stays, beyond, inside}
 use borrow.Author.Needs.{needs}
 use borrow.Fn.Kinds.{In}
 use borrow.Fn.PlainCycle.{Measures, is, falls, and}
@@ -35,14 +35,14 @@ unfolding step finish
 names-of-returns t c =
     let at-token-at = c .before .before in
     let entry = at-token-at .before .before in
-    (λ b. same (entry .pre .1 .0) (at-token-at .token-at .ensures) (idle (omega arith) (entry .pre .1 .0) refl) (λ s. rw (ne-eqb _ _ (c .if1 .taken))) (λ s. refl), entry .pre .1 .1)
+    (λ n b. same (entry .pre .1 .0) (at-token-at .token-at .ensures) (idle (omega arith) (entry .pre .1 .0) refl) (λ s. rw (ne-eqb _ _ (c .if1 .taken))) (λ s. refl), entry .pre .1 .1)
 
 names-of-declare-requires : (t : ℕ) → names-of-lts.Need-declare-requires (names-of-calls t) (names-of-at t) names-of.Post
 names-of-declare-requires t c κs =
     let at-token-at = c .before .before .before in
     let entry = at-token-at .before .before in
     let ne : at-token-at .token-at .result .kind ≡ 0 → ⊥ = λ e. omega arith in
-    let i = inside (now (entry .args .text)) (entry .args .at) (at-token-at .token-at .result) (entry .pre .1 .0) (at-token-at .token-at .ensures) ne in
+    let i = inside _ (now (entry .args .text)) (entry .args .at) (at-token-at .token-at .result) (entry .pre .1 .0) (at-token-at .token-at .ensures) ne in
     (i, entry .pre .1 .1)
 
 names-of-names-of-requires : (t : ℕ) → names-of-lts.Need-names-of-requires (names-of-calls t) (names-of-at t) names-of.Post
@@ -50,7 +50,7 @@ names-of-names-of-requires t c κs =
     let at-token-at = c .before .before .before .before .before in
     let entry = at-token-at .before .before in
     let ne : at-token-at .token-at .result .kind ≡ 0 → ⊥ = λ e. omega arith in
-    let v = beyond (now (entry .args .text)) (entry .args .at) (at-token-at .token-at .result) (entry .pre .1 .0) (at-token-at .token-at .ensures) ne in
+    let v = beyond _ (now (entry .args .text)) (entry .args .at) (at-token-at .token-at .result) (entry .pre .1 .0) (at-token-at .token-at .ensures) ne in
     (omega arith, (v .1, c .before .declare .ensures .1))
 
 names-of-returns-2 : (t : ℕ) → names-of-lts.Need-returns-2 (names-of-calls t) (names-of-at t) names-of.Post
@@ -61,8 +61,8 @@ names-of-returns-2 t c =
     let at-token-at = at-if1 .before .before in
     let entry = at-token-at .before .before in
     let ne : at-token-at .token-at .result .kind ≡ 0 → ⊥ = λ e. omega arith in
-    let v = beyond (now (entry .args .text)) (entry .args .at) (at-token-at .token-at .result) (entry .pre .1 .0) (at-token-at .token-at .ensures) ne in
-    (λ b. take (entry .pre .1 .0) (at-token-at .token-at .ensures) ne (least (omega arith) (rw (at-declare .declare .ensures .0 b) at (c .names-of .ensures .0 b))) (λ s. rw (at-if1 .if1 .left)), c .names-of .ensures .1)
+    let v = beyond _ (now (entry .args .text)) (entry .args .at) (at-token-at .token-at .result) (entry .pre .1 .0) (at-token-at .token-at .ensures) ne in
+    (λ n b. take-to (entry .pre .1 .0) (at-token-at .token-at .ensures) ne (stays n (at-token-at .token-at .result .kind) (omega arith)) (least (omega arith) (rw (at-declare .declare .ensures .0 b) at (c .names-of .ensures .0 n b))) (λ s. rw (at-if1 .if1 .left)), c .names-of .ensures .1)
 
 pub +names-of-spec : {M : Type 1} → statement M
 +names-of-spec =

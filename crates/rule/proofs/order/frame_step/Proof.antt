@@ -15,13 +15,13 @@ step-requires c κs = search needs
 returns : tie.Need-returns
 returns c =
     let x = c .before .before .before .args .x in
-    let t : fieldsOf (kindOf (x .kind)) x ≡ true = sym (c .before .before .fields .ensures) ∙ c .before .if1 .taken in
+    let t : fieldsOf (c .before .before .before .args .most) (kindOf (x .kind)) x ≡ true = sym (c .before .before .fields .ensures) ∙ c .before .if1 .taken in
     rw t (c .step .ensures)
 
 returns-2 : tie.Need-returns-2
 returns-2 c =
     let x = c .before .before .args .x in
-    let t : fieldsOf (kindOf (x .kind)) x ≡ false = sym (c .before .fields .ensures) ∙ c .if1 .left in
+    let t : fieldsOf (c .before .before .args .most) (kindOf (x .kind)) x ≡ false = sym (c .before .fields .ensures) ∙ c .if1 .left in
     rw t
 
 pub frame-step-spec : {M : Type 1} → statement M

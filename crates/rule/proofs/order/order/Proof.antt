@@ -12,10 +12,10 @@ use Rattle.rule.proofs.order.order.Statement.{statement}
 use Rattle.rule.proofs.order.order.Tie as tie
 
 abbrev Inv-loop : tie.InvT-loop
-Inv-loop frames n i₀ c₀ k₀ m₀ i c k m = (i ≤ n) × ((prefixAt frames i ≡ viable c k) × (referencesTo oneMore frames 0 i ≡ m))
+Inv-loop frames most n i₀ c₀ k₀ m₀ i c k m = (i ≤ n) × ((prefixAt most frames i ≡ viable c k) × (referencesTo oneMore frames 0 i ≡ m))
 
 abbrev μ-loop : tie.MeasureT-loop
-μ-loop frames n i₀ c₀ k₀ m₀ i c k m = n - i
+μ-loop frames most n i₀ c₀ k₀ m₀ i c k m = n - i
 
 loop-holds : tie.Need-loop-holds Inv-loop μ-loop
 loop-holds c = (search needs, (refl, refl))
@@ -28,7 +28,7 @@ frame-step-requires c κs =
     let at-loop = c .before .before in
     let entry = at-loop .before .before in
     let l = at-loop .loop in
-    let h : l .c + l .k ≤ l .i = counts (entry .args .frames .now) (l .i) (l .c) (l .k) (l .inv .1 .0) in
+    let h : l .c + l .k ≤ l .i = counts (entry .args .most) (entry .args .frames .now) (l .i) (l .c) (l .k) (l .inv .1 .0) in
     omega arith
 
 returns : tie.Need-returns Inv-loop μ-loop
@@ -42,8 +42,8 @@ returns c =
     let s = entry .args .frames .now in
     let x = at-frame-at .frame-at in
     let g = at-frame-step .frame-step in
-    let bad : prefixAt s (l .i + 1) ≡ stuck (l .i) = prefix-next s (l .i) (l .c) (l .k) (l .inv .1 .0) (x .result) (x .ensures) (g .result) (g .ensures) ∙ ap (orderAt (l .i)) (c .enum-told .given .1) in
-    sym (ap (ended (frameCount s) (referenceCount s)) (stuck-at s (l .i + 1) (frameCount s) (l .i) (omega arith) bad))
+    let bad : prefixAt (entry .args .most) s (l .i + 1) ≡ stuck (l .i) = prefix-next (entry .args .most) s (l .i) (l .c) (l .k) (l .inv .1 .0) (x .result) (x .ensures) (g .result) (g .ensures) ∙ ap (orderAt (l .i)) (c .enum-told .given .1) in
+    sym (ap (ended (frameCount s) (referenceCount s)) (stuck-at (entry .args .most) s (l .i + 1) (frameCount s) (l .i) (omega arith) bad))
 
 counted-requires : tie.Need-counted-requires Inv-loop μ-loop
 counted-requires c κs =
@@ -72,7 +72,7 @@ loop-again c =
     let g = at-frame-step .frame-step in (
       omega arith,
       (
-        prefix-next s (l .i) (l .c) (l .k) (l .inv .1 .0) (x .result) (x .ensures) (g .result) (g .ensures) ∙ ap (orderAt (l .i)) (at-next .next .given .1),
+        prefix-next (entry .args .most) s (l .i) (l .c) (l .k) (l .inv .1 .0) (x .result) (x .ensures) (g .result) (g .ensures) ∙ ap (orderAt (l .i)) (at-next .next .given .1),
         count-next s (l .i) (l .m) (l .inv .1 .1) (x .result .kind) (ap (λ (y : Frame). y .kind) (x .ensures)) (c .counted .result) (c .counted .ensures),
       ),
     )
@@ -83,7 +83,7 @@ returns-2 c =
     let l = c .before .before .loop in
     let s = c .before .before .before .before .args .frames .now in
     let e : l .i ≡ frameCount s = omega arith in
-    let d : prefixAt s (frameCount s) ≡ viable (l .c) (l .k) = rw e at (l .inv .1 .0) in
+    let d : prefixAt (c .before .before .before .before .args .most) s (frameCount s) ≡ viable (l .c) (l .k) = rw e at (l .inv .1 .0) in
     let m : referencesTo oneMore s 0 (frameCount s) ≡ l .m = rw e at (l .inv .1 .1) in
     rw (d, m, c .if1 .taken)
 
@@ -93,7 +93,7 @@ returns-3 c =
     let l = c .before .before .loop in
     let s = c .before .before .before .before .args .frames .now in
     let e : l .i ≡ frameCount s = omega arith in
-    let d : prefixAt s (frameCount s) ≡ viable (l .c) (l .k) = rw e at (l .inv .1 .0) in
+    let d : prefixAt (c .before .before .before .before .args .most) s (frameCount s) ≡ viable (l .c) (l .k) = rw e at (l .inv .1 .0) in
     rw (d, c .if1 .left)
 
 pub order-spec : {M : Type 1} → statement M

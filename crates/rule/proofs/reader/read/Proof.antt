@@ -10,7 +10,7 @@ use Rattle.rule.specs.Reading.{readerAnswer}
 use Rattle.rule.specs.ReadTold.{ReadAnswer}
 use Rattle.rule.specs.declared.memory.Step.{Step}
 use Rattle.rule.proofs.ReaderEnd.{OkA}
-use Rattle.rule.proofs.ReaderConclusion.{one, two-none, two-many, three, starts, judged-ok, kept-name, kept-number, kept-long}
+use Rattle.rule.proofs.ReaderConclusion.{one, two-none, two-many, three, starts, judged-ok, kept-name, kept-number, kept-decimals, kept-long}
 use borrow.Author.Needs.{needs}
 use Rattle.rule.proofs.reader.read.Statement.{statement}
 use Rattle.rule.proofs.reader.read.Tie as tie
@@ -66,7 +66,7 @@ conclude-requires c κs =
     let j = starts (now (entry .args .text)) (replicate 12 0) ∙ (at-whole .whole .ensures ∙ ap (λ (q : Step). readerAnswer q (at-whole .whole .last .1 .0) (at-whole .whole .last .1 .1 .0)) (at-m .m .given .1)) in
     let o = subst (λ (a : MachineAnswer Mem). OkA (now (entry .args .text)) (length (now (entry .args .text))) a) j (judged-ok (now (entry .args .text))) in
     let l = at-if3 .if3 .left in
-    (kept-long _ _ _ _ o, at-if1 .if1 .left, (let y = kept-name _ _ _ _ o in omega arith), (let y = kept-number _ _ _ _ o in omega arith))
+    (kept-long _ _ _ _ o, at-if1 .if1 .left, (let y = kept-name _ _ _ _ o in omega arith), (let y = kept-number _ _ _ _ o in omega arith), (let y = kept-decimals _ _ _ _ o in omega arith))
 
 returns-4 : tie.Need-returns-4
 returns-4 c =

@@ -14,37 +14,30 @@ use Rattle.rule.proofs.reader.whole.Statement.{statement}
 use Rattle.rule.proofs.reader.whole.Tie as tie
 
 declarations-requires : tie.Need-declarations-requires
-declarations-requires c κs = (omega arith, c .before .before .pre, omega arith)
+declarations-requires c κs = (omega arith, c .before .before .pre, omega arith, omega arith)
 
 declarations-requires-2 : tie.Need-declarations-requires-2
 declarations-requires-2 c κs =
     let at-a = c .before .before in
     let at-declarations = at-a .before .before in
-    let d = as-is (at-declarations .declarations .ensures .0 []) (at-a .a .given .1) in
+    let d = as-is (at-declarations .declarations .ensures .0 1 []) (at-a .a .given .1) in
     let w = d .within in
-    (w .1, at-declarations .declarations .ensures .1, omega arith)
+    (w .1, at-declarations .declarations .ensures .1, omega arith, omega arith)
 
-condition-requires : tie.Need-condition-requires
-condition-requires c κs =
+scaled-requires : tie.Need-scaled-requires
+scaled-requires c κs =
     let at-z = c .before .before .before in
     let at-declarations2 = at-z .before .before in
-    let f = as-is (at-declarations2 .declarations2 .ensures .0 []) (at-z .z .given .1) in
+    let f = as-is (at-declarations2 .declarations2 .ensures .0 0 []) (at-z .z .given .1) in
     let x = f .within in
     x .1
-
-ended-requires : tie.Need-ended-requires
-ended-requires c κs =
-    let at-condition = c .before .before .before in
-    let g = as-is (at-condition .condition .ensures) (c .before .e .given .1) in
-    let y = g .within in
-    y .1
 
 returns : tie.Need-returns
 unfolding readOn
 returns c =
     let at-declarations = c .before .before .before in
     let entry = at-declarations .before .before .before in
-    stop (λ s. want notesKind ∷ machine.name-of Note ∷ machine.names-of Note ∷ want semicolon ∷ machine.condition 0 s) 0 {tb′ = []} {b′ = []} (as-is (at-declarations .declarations .ensures .0 (now (entry .args .buf))) (c .before .q .given .1)) .runs []
+    as-is (at-declarations .declarations .ensures .0 1 (now (entry .args .buf))) (c .before .q .given .1) .runs (want notesKind ∷ machine.name-of Note ∷ machine.names-of Note ∷ want semicolon ∷ machine.clause ∷ machine.condition 0 [])
 
 returns-2 : tie.Need-returns-2
 unfolding readOn
@@ -53,42 +46,21 @@ returns-2 c =
     let at-a = at-declarations2 .before .before .before in
     let at-declarations = at-a .before .before in
     let entry = at-declarations .before .before .before in
-    let d = as-is (at-declarations .declarations .ensures .0 (now (entry .args .buf))) (at-a .a .given .1) in
-    let w = d .within in
-    then {lo″ = 0} d (stop (λ s. machine.condition 0 s) 0 {tb′ = []} {b′ = []} (as-is (at-declarations2 .declarations2 .ensures .0 (now (entry .args .buf))) (c .before .q2 .given .1))) (omega arith) .runs []
+    let d = as-is (at-declarations .declarations .ensures .0 1 (now (entry .args .buf))) (at-a .a .given .1) in
+    let f = as-is (at-declarations2 .declarations2 .ensures .0 0 (now (entry .args .buf))) (c .before .q2 .given .1) in
+    then {lo″ = 0} d f (omega arith) .runs (machine.clause ∷ machine.condition 0 [])
 
 returns-3 : tie.Need-returns-3
 unfolding readOn
 returns-3 c =
-    let at-condition = c .before .before .before in
-    let at-z = at-condition .before .before .before .before in
+    let at-z = c .before .before .before .before in
     let at-declarations2 = at-z .before .before in
     let at-a = at-declarations2 .before .before .before in
     let at-declarations = at-a .before .before in
     let entry = at-declarations .before .before .before in
-    let d = as-is (at-declarations .declarations .ensures .0 (now (entry .args .buf))) (at-a .a .given .1) in
-    let w = d .within in
-    let f = as-is (at-declarations2 .declarations2 .ensures .0 (now (entry .args .buf))) (at-z .z .given .1) in
-    let x = f .within in
-    then {lo″ = 0} d (then {lo″ = 0} f (as-is (at-condition .condition .ensures) (c .before .q3 .given .1)) (omega arith)) (omega arith) .runs []
-
-returns-4 : tie.Need-returns-4
-unfolding readOn
-returns-4 c =
-    let at-e = c .before .before in
-    let at-condition = at-e .before .before in
-    let at-z = at-condition .before .before .before .before in
-    let at-declarations2 = at-z .before .before in
-    let at-a = at-declarations2 .before .before .before in
-    let at-declarations = at-a .before .before in
-    let entry = at-declarations .before .before .before in
-    let d = as-is (at-declarations .declarations .ensures .0 (now (entry .args .buf))) (at-a .a .given .1) in
-    let w = d .within in
-    let f = as-is (at-declarations2 .declarations2 .ensures .0 (now (entry .args .buf))) (at-z .z .given .1) in
-    let x = f .within in
-    let g = as-is (at-condition .condition .ensures) (at-e .e .given .1) in
-    let y = g .within in
-    then {lo″ = 0} d (then {lo″ = 0} f g (omega arith)) (omega arith) .runs [] ∙ c .ended .ensures _ _
+    let d = as-is (at-declarations .declarations .ensures .0 1 (now (entry .args .buf))) (at-a .a .given .1) in
+    let f = as-is (at-declarations2 .declarations2 .ensures .0 0 (now (entry .args .buf))) (at-z .z .given .1) in
+    then {lo″ = 0} d f (omega arith) .runs (machine.clause ∷ machine.condition 0 []) ∙ c .scaled .ensures
 
 pub whole-spec : {M : Type 1} → statement M
 whole-spec = tie.close (tie.spec
@@ -98,11 +70,7 @@ whole-spec = tie.close (tie.spec
     declarations-requires-2
     (λ c. search needs)
     (λ c. search needs)
-    condition-requires
-    (λ c. search needs)
-    (λ c. search needs)
-    ended-requires
+    scaled-requires
     returns
     returns-2
-    returns-3
-    returns-4)
+    returns-3)

@@ -23,7 +23,7 @@ sized-requires c κs =
     let a = entry .args in
     let h = entry .pre in
     let ne : at-token-at .token-at .result .kind ≡ 0 → ⊥ = λ e. omega arith in
-    let i = inside (now (a .text)) (a .at) (at-token-at .token-at .result) (h .0) (at-token-at .token-at .ensures) ne in i
+    let i = inside _ (now (a .text)) (a .at) (at-token-at .token-at .result) (h .0) (at-token-at .token-at .ensures) ne in i
 
 emit-reference-requires : tie.Need-emit-reference-requires
 emit-reference-requires c κs =
@@ -32,7 +32,7 @@ emit-reference-requires c κs =
     let a = entry .args in
     let h = entry .pre in
     let ne : at-token-at .token-at .result .kind ≡ 0 → ⊥ = λ e. omega arith in
-    let i = inside (now (a .text)) (a .at) (at-token-at .token-at .result) (h .0) (at-token-at .token-at .ensures) ne in (h .1, h .2, h .3, i)
+    let i = inside _ (now (a .text)) (a .at) (at-token-at .token-at .result) (h .0) (at-token-at .token-at .ensures) ne in (h .1, h .2, h .3, i)
 
 returns-2 : tie.Need-returns-2
 unfolding step
@@ -44,7 +44,7 @@ returns-2 c =
     let a = entry .args in
     let h = entry .pre in
     let ne : at-token-at .token-at .result .kind ≡ 0 → ⊥ = λ e. omega arith in
-    let v = beyond (now (a .text)) (a .at) (at-token-at .token-at .result) (h .0) (at-token-at .token-at .ensures) ne in take (h .0) (at-token-at .token-at .ensures) ne (idle (omega arith) (v .1) (rw (at-sized .sized .ensures (now (a .names)) (now (a .buf))) at (c .emit-reference .ensures))) (λ s. rw (at-if1 .if1 .left))
+    let v = beyond _ (now (a .text)) (a .at) (at-token-at .token-at .result) (h .0) (at-token-at .token-at .ensures) ne in take (h .0) (at-token-at .token-at .ensures) ne (idle (omega arith) (v .1) (rw (at-sized .sized .ensures (now (a .names)) (now (a .buf))) at (c .emit-reference .ensures))) (λ s. rw (at-if1 .if1 .left))
 
 pub ref-by-spec : {M : Type 1} → statement M
 ref-by-spec =

@@ -23,7 +23,7 @@ named-requires c κs =
     let a = entry .args in
     let h = entry .pre in
     let ne : at-token-at .token-at .result .kind ≡ 0 → ⊥ = λ e. omega arith in
-    let i = inside (now (a .text)) (a .at) (at-token-at .token-at .result) (h .0) (at-token-at .token-at .ensures) ne in i
+    let i = inside _ (now (a .text)) (a .at) (at-token-at .token-at .result) (h .0) (at-token-at .token-at .ensures) ne in i
 
 ref-brackets-requires : tie.Need-ref-brackets-requires
 ref-brackets-requires c κs =
@@ -32,8 +32,8 @@ ref-brackets-requires c κs =
     let a = entry .args in
     let h = entry .pre in
     let ne : at-token-at .token-at .result .kind ≡ 0 → ⊥ = λ e. omega arith in
-    let v = beyond (now (a .text)) (a .at) (at-token-at .token-at .result) (h .0) (at-token-at .token-at .ensures) ne in
-    let i = inside (now (a .text)) (a .at) (at-token-at .token-at .result) (h .0) (at-token-at .token-at .ensures) ne in (v .1, h .1, i)
+    let v = beyond _ (now (a .text)) (a .at) (at-token-at .token-at .result) (h .0) (at-token-at .token-at .ensures) ne in
+    let i = inside _ (now (a .text)) (a .at) (at-token-at .token-at .result) (h .0) (at-token-at .token-at .ensures) ne in (v .1, h .1, i)
 
 returns-2 : tie.Need-returns-2
 unfolding step
@@ -45,7 +45,7 @@ returns-2 c =
     let a = entry .args in
     let h = entry .pre in
     let ne : at-token-at .token-at .result .kind ≡ 0 → ⊥ = λ e. omega arith in
-    let v = beyond (now (a .text)) (a .at) (at-token-at .token-at .result) (h .0) (at-token-at .token-at .ensures) ne in take (h .0) (at-token-at .token-at .ensures) ne (least (omega arith) (rw (at-named .named .ensures (now (a .buf))) at (c .ref-brackets .ensures))) (λ s. rw (at-if1 .if1 .left))
+    let v = beyond _ (now (a .text)) (a .at) (at-token-at .token-at .result) (h .0) (at-token-at .token-at .ensures) ne in take (h .0) (at-token-at .token-at .ensures) ne (least (omega arith) (rw (at-named .named .ensures (now (a .buf))) at (c .ref-brackets .ensures))) (λ s. rw (at-if1 .if1 .left))
 
 pub ref-event-spec : {M : Type 1} → statement M
 ref-event-spec =

@@ -15,17 +15,17 @@ sized-requires c κs =
     let a = entry .args in
     let h = entry .pre in
     let ne : at-token-at .token-at .result .kind ≡ 0 → ⊥ = λ e. omega arith in
-    let i = inside (now (a .text)) (a .at) (at-token-at .token-at .result) (h .0) (at-token-at .token-at .ensures) ne in i
+    let i = inside _ (now (a .text)) (a .at) (at-token-at .token-at .result) (h .0) (at-token-at .token-at .ensures) ne in i
 
-ref-scaled-requires : tie.Need-ref-scaled-requires
-ref-scaled-requires c κs =
+ref-times-requires : tie.Need-ref-times-requires
+ref-times-requires c κs =
     let at-token-at = c .before .before .before .before in
     let entry = at-token-at .before .before in
     let a = entry .args in
     let h = entry .pre in
     let ne : at-token-at .token-at .result .kind ≡ 0 → ⊥ = λ e. omega arith in
-    let v = beyond (now (a .text)) (a .at) (at-token-at .token-at .result) (h .0) (at-token-at .token-at .ensures) ne in
-    let i = inside (now (a .text)) (a .at) (at-token-at .token-at .result) (h .0) (at-token-at .token-at .ensures) ne in (v .1, h .1, h .2, i)
+    let v = beyond _ (now (a .text)) (a .at) (at-token-at .token-at .result) (h .0) (at-token-at .token-at .ensures) ne in
+    let i = inside _ (now (a .text)) (a .at) (at-token-at .token-at .result) (h .0) (at-token-at .token-at .ensures) ne in (v .1, h .1, h .2, i)
 
 returns : tie.Need-returns
 unfolding step
@@ -37,7 +37,7 @@ returns c =
     let a = entry .args in
     let h = entry .pre in
     let ne : at-token-at .token-at .result .kind ≡ 0 → ⊥ = λ e. omega arith in
-    let v = beyond (now (a .text)) (a .at) (at-token-at .token-at .result) (h .0) (at-token-at .token-at .ensures) ne in take (h .0) (at-token-at .token-at .ensures) ne (least (omega arith) (rw (at-sized .sized .ensures (now (a .names)) (now (a .buf))) at (c .ref-scaled .ensures))) (λ s. rw (at-if1 .if1 .taken))
+    let v = beyond _ (now (a .text)) (a .at) (at-token-at .token-at .result) (h .0) (at-token-at .token-at .ensures) ne in take (h .0) (at-token-at .token-at .ensures) ne (least (omega arith) (rw (at-sized .sized .ensures (now (a .names)) (now (a .buf))) at (c .ref-times .ensures))) (λ s. rw (at-if1 .if1 .taken))
 
 ref-shift-requires : tie.Need-ref-shift-requires
 ref-shift-requires c κs =
@@ -46,7 +46,7 @@ ref-shift-requires c κs =
     let a = entry .args in
     let h = entry .pre in
     let ne : at-token-at .token-at .result .kind ≡ 0 → ⊥ = λ e. omega arith in
-    let v = beyond (now (a .text)) (a .at) (at-token-at .token-at .result) (h .0) (at-token-at .token-at .ensures) ne in (v .1, h .1, h .2, tt)
+    let v = beyond _ (now (a .text)) (a .at) (at-token-at .token-at .result) (h .0) (at-token-at .token-at .ensures) ne in (v .1, h .1, h .2, tt)
 
 returns-2 : tie.Need-returns-2
 unfolding step
@@ -57,7 +57,7 @@ returns-2 c =
     let a = entry .args in
     let h = entry .pre in
     let ne : at-token-at .token-at .result .kind ≡ 0 → ⊥ = λ e. omega arith in
-    let v = beyond (now (a .text)) (a .at) (at-token-at .token-at .result) (h .0) (at-token-at .token-at .ensures) ne in take (h .0) (at-token-at .token-at .ensures) ne (least (omega arith) (c .ref-shift .ensures)) (λ s. rw (at-if2 .if2 .taken))
+    let v = beyond _ (now (a .text)) (a .at) (at-token-at .token-at .result) (h .0) (at-token-at .token-at .ensures) ne in take (h .0) (at-token-at .token-at .ensures) ne (least (omega arith) (c .ref-shift .ensures)) (λ s. rw (at-if2 .if2 .taken))
 
 returns-3 : tie.Need-returns-3
 unfolding step finish
@@ -74,7 +74,7 @@ ref-index-spec =
     (tie.spec
     (λ c κs. search needs)
     sized-requires
-    ref-scaled-requires
+    ref-times-requires
     returns
     ref-shift-requires
     returns-2

@@ -17,7 +17,7 @@ ref-by-requires c κs =
     let a = entry .args in
     let h = entry .pre in
     let ne : at-token-at .token-at .result .kind ≡ 0 → ⊥ = λ e. omega arith in
-    let v = beyond (now (a .text)) (a .at) (at-token-at .token-at .result) (h .0) (at-token-at .token-at .ensures) ne in (v .1, h .1, h .2, h .3)
+    let v = beyond _ (now (a .text)) (a .at) (at-token-at .token-at .result) (h .0) (at-token-at .token-at .ensures) ne in (v .1, h .1, h .2, h .3)
 
 returns : tie.Need-returns
 unfolding step
@@ -28,7 +28,7 @@ returns c =
     let a = entry .args in
     let h = entry .pre in
     let ne : at-token-at .token-at .result .kind ≡ 0 → ⊥ = λ e. omega arith in
-    let v = beyond (now (a .text)) (a .at) (at-token-at .token-at .result) (h .0) (at-token-at .token-at .ensures) ne in take (h .0) (at-token-at .token-at .ensures) ne (least (omega arith) (c .ref-by .ensures)) (λ s. rw (at-if1 .if1 .taken))
+    let v = beyond _ (now (a .text)) (a .at) (at-token-at .token-at .result) (h .0) (at-token-at .token-at .ensures) ne in take (h .0) (at-token-at .token-at .ensures) ne (least (omega arith) (c .ref-by .ensures)) (λ s. rw (at-if1 .if1 .taken))
 
 ref-by-requires-2 : tie.Need-ref-by-requires-2
 ref-by-requires-2 c κs =
@@ -37,7 +37,7 @@ ref-by-requires-2 c κs =
     let a = entry .args in
     let h = entry .pre in
     let ne : at-token-at .token-at .result .kind ≡ 0 → ⊥ = λ e. omega arith in
-    let v = beyond (now (a .text)) (a .at) (at-token-at .token-at .result) (h .0) (at-token-at .token-at .ensures) ne in (v .1, h .1, h .2, h .3)
+    let v = beyond _ (now (a .text)) (a .at) (at-token-at .token-at .result) (h .0) (at-token-at .token-at .ensures) ne in (v .1, h .1, h .2, h .3)
 
 returns-2 : tie.Need-returns-2
 unfolding step
@@ -48,7 +48,7 @@ returns-2 c =
     let a = entry .args in
     let h = entry .pre in
     let ne : at-token-at .token-at .result .kind ≡ 0 → ⊥ = λ e. omega arith in
-    let v = beyond (now (a .text)) (a .at) (at-token-at .token-at .result) (h .0) (at-token-at .token-at .ensures) ne in take (h .0) (at-token-at .token-at .ensures) ne (least (omega arith) (c .ref-by2 .ensures)) (λ s. rw (at-if2 .if2 .taken))
+    let v = beyond _ (now (a .text)) (a .at) (at-token-at .token-at .result) (h .0) (at-token-at .token-at .ensures) ne in take (h .0) (at-token-at .token-at .ensures) ne (least (omega arith) (c .ref-by2 .ensures)) (λ s. rw (at-if2 .if2 .taken))
 
 emit-reference-requires : tie.Need-emit-reference-requires
 emit-reference-requires c κs =

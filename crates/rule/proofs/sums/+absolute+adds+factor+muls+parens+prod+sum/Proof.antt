@@ -13,6 +13,7 @@ use Rattle.rule.specs.Draft.{alone, plain}
 use Rattle.rule.specs.ReadsPart.{signByte}
 use Rattle.rule.proofs.ReaderParts.{then, stop, then-does, idle, as-is, least, same, fail, take, beyond, inside}
 use Rattle.rule.proofs.ReaderMarks.{sign-some, sign-pass, sign-step}
+use Rattle.rule.specs.ReadsPart.{in-body}
 use borrow.Author.Needs.{needs}
 use borrow.Fn.Kinds.{In}
 use borrow.Fn.PlainCycle.{Measures, is, falls, and}
@@ -143,7 +144,7 @@ absolute-parens-requires t c κs =
     let at-a = c .before .before in
     let at-expect = at-a .before .before in
     let entry = at-expect .before .before in
-    let d = as-is (at-expect .expect .ensures (now (entry .args .names)) (now (entry .args .buf))) (at-a .a .given .1) in
+    let d = as-is (at-expect .expect .ensures _ in-body (now (entry .args .names)) (now (entry .args .buf))) (at-a .a .given .1) in
     let w = d .within in
     omega arith
 
@@ -151,7 +152,7 @@ absolute-returns : (t : ℕ) → absolute-lts.Need-returns (absolute-calls t) (a
 absolute-returns t c =
     let at-expect = c .before .before .before in
     let entry = at-expect .before .before in
-    stop (λ s. machine.sum (entry .args .d) (want closeParen ∷ doing (out (alone Kind.absolute)) ∷ s)) _ (as-is (at-expect .expect .ensures (now (entry .args .names)) (now (entry .args .buf))) (c .before .q .given .1))
+    stop (λ s. machine.sum (entry .args .d) (want closeParen ∷ doing (out (alone Kind.absolute)) ∷ s)) _ (as-is (at-expect .expect .ensures _ in-body (now (entry .args .names)) (now (entry .args .buf))) (c .before .q .given .1))
 
 absolute-returns-2 : (t : ℕ) → absolute-lts.Need-returns-2 (absolute-calls t) (absolute-at t) absolute.Post
 absolute-returns-2 t c =
@@ -159,7 +160,7 @@ absolute-returns-2 t c =
     let at-a = at-parens .before .before .before in
     let at-expect = at-a .before .before in
     let entry = at-expect .before .before in
-    let d = as-is (at-expect .expect .ensures (now (entry .args .names)) (now (entry .args .buf))) (at-a .a .given .1) in
+    let d = as-is (at-expect .expect .ensures _ in-body (now (entry .args .names)) (now (entry .args .buf))) (at-a .a .given .1) in
     let w = d .within in
     then d (stop (λ s. doing (out (alone Kind.absolute)) ∷ s) (entry .args .at) (as-is (at-parens .parens .ensures) (c .before .q2 .given .1))) (omega arith)
 
@@ -170,7 +171,7 @@ absolute-returns-3 t c =
     let at-a = at-parens .before .before .before in
     let at-expect = at-a .before .before in
     let entry = at-expect .before .before in
-    let d = as-is (at-expect .expect .ensures (now (entry .args .names)) (now (entry .args .buf))) (at-a .a .given .1) in
+    let d = as-is (at-expect .expect .ensures _ in-body (now (entry .args .names)) (now (entry .args .buf))) (at-a .a .given .1) in
     let w = d .within in
     let e = as-is (at-parens .parens .ensures) (at-z .z .given .1) in
     let x = e .within in
@@ -190,7 +191,7 @@ adds-prod-requires t c κs =
     let entry = at-token-at .before .before in
     let nz : signByte (at-token-at .token-at .result .kind) ≡ 0 → ⊥ = λ e. c .before .if1 .left (at-sign-kind .sign-kind .ensures ∙ e) in
     let ne = sign-some (at-token-at .token-at .result .kind) nz in
-    let v = beyond (now (entry .args .text)) (entry .args .at) (at-token-at .token-at .result) (entry .pre .1) (at-token-at .token-at .ensures) ne in
+    let v = beyond _ (now (entry .args .text)) (entry .args .at) (at-token-at .token-at .result) (entry .pre .1) (at-token-at .token-at .ensures) ne in
     omega arith
 
 adds-adds-requires : (t : ℕ) → adds-lts.Need-adds-requires (adds-calls t) (adds-at t) adds.Post
@@ -203,7 +204,7 @@ adds-adds-requires t c κs =
     let entry = at-token-at .before .before in
     let nz : signByte (at-token-at .token-at .result .kind) ≡ 0 → ⊥ = λ e. at-if1 .if1 .left (at-sign-kind .sign-kind .ensures ∙ e) in
     let ne = sign-some (at-token-at .token-at .result .kind) nz in
-    let v = beyond (now (entry .args .text)) (entry .args .at) (at-token-at .token-at .result) (entry .pre .1) (at-token-at .token-at .ensures) ne in
+    let v = beyond _ (now (entry .args .text)) (entry .args .at) (at-token-at .token-at .result) (entry .pre .1) (at-token-at .token-at .ensures) ne in
     let d = as-is (at-prod .prod .ensures) (at-a .a .given .1) in
     let w = d .within in
     omega arith
@@ -217,7 +218,7 @@ adds-returns-2 t c =
     let entry = at-token-at .before .before in
     let nz : signByte (at-token-at .token-at .result .kind) ≡ 0 → ⊥ = λ e. at-if1 .if1 .left (at-sign-kind .sign-kind .ensures ∙ e) in
     let ne = sign-some (at-token-at .token-at .result .kind) nz in
-    let v = beyond (now (entry .args .text)) (entry .args .at) (at-token-at .token-at .result) (entry .pre .1) (at-token-at .token-at .ensures) ne in
+    let v = beyond _ (now (entry .args .text)) (entry .args .at) (at-token-at .token-at .result) (entry .pre .1) (at-token-at .token-at .ensures) ne in
     take (entry .pre .1) (at-token-at .token-at .ensures) ne (stop (λ s. doing (out (plain (signByte (at-token-at .token-at .result .kind)))) ∷ machine.adds (entry .args .d) ∷ s) _ (as-is (at-prod .prod .ensures) (c .before .q .given .1))) (λ s. sign-step _ _ _ _ _ _ _ nz)
 
 adds-returns-3 : (t : ℕ) → adds-lts.Need-returns-3 (adds-calls t) (adds-at t) adds.Post
@@ -231,7 +232,7 @@ adds-returns-3 t c =
     let entry = at-token-at .before .before in
     let nz : signByte (at-token-at .token-at .result .kind) ≡ 0 → ⊥ = λ e. at-if1 .if1 .left (at-sign-kind .sign-kind .ensures ∙ e) in
     let ne = sign-some (at-token-at .token-at .result .kind) nz in
-    let v = beyond (now (entry .args .text)) (entry .args .at) (at-token-at .token-at .result) (entry .pre .1) (at-token-at .token-at .ensures) ne in
+    let v = beyond _ (now (entry .args .text)) (entry .args .at) (at-token-at .token-at .result) (entry .pre .1) (at-token-at .token-at .ensures) ne in
     let d = as-is (at-prod .prod .ensures) (at-a .a .given .1) in
     let w = d .within in
     take (entry .pre .1) (at-token-at .token-at .ensures) ne (then (then-does (out (plain (at-sign-kind .sign-kind .result))) d (at-emit-kind .emit-kind .ensures (now (entry .args .text)) (now (entry .args .names)))) (c .adds .ensures) (omega arith)) (λ s. rw (at-sign-kind .sign-kind .ensures) (sign-step _ _ _ _ _ _ _ nz))
@@ -241,7 +242,7 @@ factor-emit-literal-requires t c κs =
     let at-token-at = c .before .before .before in
     let entry = at-token-at .before .before in
     let ne : at-token-at .token-at .result .kind ≡ 0 → ⊥ = λ e. omega arith in
-    let i = inside (now (entry .args .text)) (entry .args .at) (at-token-at .token-at .result) (entry .pre .1) (at-token-at .token-at .ensures) ne in
+    let i = inside _ (now (entry .args .text)) (entry .args .at) (at-token-at .token-at .result) (entry .pre .1) (at-token-at .token-at .ensures) ne in
     i
 
 factor-returns : (t : ℕ) → factor-lts.Need-returns (factor-calls t) (factor-at t) factor.Post
@@ -251,7 +252,7 @@ factor-returns t c =
     let at-token-at = at-if1 .before .before in
     let entry = at-token-at .before .before in
     let ne : at-token-at .token-at .result .kind ≡ 0 → ⊥ = λ e. omega arith in
-    let v = beyond (now (entry .args .text)) (entry .args .at) (at-token-at .token-at .result) (entry .pre .1) (at-token-at .token-at .ensures) ne in
+    let v = beyond _ (now (entry .args .text)) (entry .args .at) (at-token-at .token-at .result) (entry .pre .1) (at-token-at .token-at .ensures) ne in
     take (entry .pre .1) (at-token-at .token-at .ensures) ne (idle (omega arith) (v .1) (c .emit-literal .ensures (now (entry .args .names)))) (λ s. rw (at-if1 .if1 .taken))
 
 factor-returns-2 : (t : ℕ) → factor-lts.Need-returns-2 (factor-calls t) (factor-at t) factor.Post
@@ -261,7 +262,7 @@ factor-returns-2 t c =
     let at-token-at = at-if2 .before .before .before .before in
     let entry = at-token-at .before .before in
     let ne : at-token-at .token-at .result .kind ≡ 0 → ⊥ = λ e. omega arith in
-    let v = beyond (now (entry .args .text)) (entry .args .at) (at-token-at .token-at .result) (entry .pre .1) (at-token-at .token-at .ensures) ne in
+    let v = beyond _ (now (entry .args .text)) (entry .args .at) (at-token-at .token-at .result) (entry .pre .1) (at-token-at .token-at .ensures) ne in
     take (entry .pre .1) (at-token-at .token-at .ensures) ne (idle (omega arith) (v .1) (c .emit-instance .ensures (now (entry .args .text)) (now (entry .args .names)))) (λ s. rw (at-if2 .if2 .taken))
 
 factor-named-requires : (t : ℕ) → factor-lts.Need-named-requires (factor-calls t) (factor-at t) factor.Post
@@ -269,7 +270,7 @@ factor-named-requires t c κs =
     let at-token-at = c .before .before .before .before .before .before in
     let entry = at-token-at .before .before in
     let ne : at-token-at .token-at .result .kind ≡ 0 → ⊥ = λ e. omega arith in
-    let i = inside (now (entry .args .text)) (entry .args .at) (at-token-at .token-at .result) (entry .pre .1) (at-token-at .token-at .ensures) ne in
+    let i = inside _ (now (entry .args .text)) (entry .args .at) (at-token-at .token-at .result) (entry .pre .1) (at-token-at .token-at .ensures) ne in
     i
 
 factor-reference-requires : (t : ℕ) → factor-lts.Need-reference-requires (factor-calls t) (factor-at t) factor.Post
@@ -277,8 +278,8 @@ factor-reference-requires t c κs =
     let at-token-at = c .before .before .before .before .before .before .before .before in
     let entry = at-token-at .before .before in
     let ne : at-token-at .token-at .result .kind ≡ 0 → ⊥ = λ e. omega arith in
-    let v = beyond (now (entry .args .text)) (entry .args .at) (at-token-at .token-at .result) (entry .pre .1) (at-token-at .token-at .ensures) ne in
-    let i = inside (now (entry .args .text)) (entry .args .at) (at-token-at .token-at .result) (entry .pre .1) (at-token-at .token-at .ensures) ne in
+    let v = beyond _ (now (entry .args .text)) (entry .args .at) (at-token-at .token-at .result) (entry .pre .1) (at-token-at .token-at .ensures) ne in
+    let i = inside _ (now (entry .args .text)) (entry .args .at) (at-token-at .token-at .result) (entry .pre .1) (at-token-at .token-at .ensures) ne in
     (v .1, i)
 
 factor-returns-3 : (t : ℕ) → factor-lts.Need-returns-3 (factor-calls t) (factor-at t) factor.Post
@@ -289,7 +290,7 @@ factor-returns-3 t c =
     let at-token-at = at-if3 .before .before .before .before .before .before in
     let entry = at-token-at .before .before in
     let ne : at-token-at .token-at .result .kind ≡ 0 → ⊥ = λ e. omega arith in
-    let v = beyond (now (entry .args .text)) (entry .args .at) (at-token-at .token-at .result) (entry .pre .1) (at-token-at .token-at .ensures) ne in
+    let v = beyond _ (now (entry .args .text)) (entry .args .at) (at-token-at .token-at .result) (entry .pre .1) (at-token-at .token-at .ensures) ne in
     take (entry .pre .1) (at-token-at .token-at .ensures) ne (least (omega arith) (rw (at-named .named .ensures (now (entry .args .buf))) at (c .reference .ensures))) (λ s. rw (at-if3 .if3 .taken))
 
 factor-parens-requires : (t : ℕ) → factor-lts.Need-parens-requires (factor-calls t) (factor-at t) factor.Post
@@ -297,7 +298,7 @@ factor-parens-requires t c κs =
     let at-token-at = c .before .before .before .before .before .before .before .before .before .before .before in
     let entry = at-token-at .before .before in
     let ne : at-token-at .token-at .result .kind ≡ 0 → ⊥ = λ e. omega arith in
-    let v = beyond (now (entry .args .text)) (entry .args .at) (at-token-at .token-at .result) (entry .pre .1) (at-token-at .token-at .ensures) ne in
+    let v = beyond _ (now (entry .args .text)) (entry .args .at) (at-token-at .token-at .result) (entry .pre .1) (at-token-at .token-at .ensures) ne in
     omega arith
 
 factor-returns-4 : (t : ℕ) → factor-lts.Need-returns-4 (factor-calls t) (factor-at t) factor.Post
@@ -309,7 +310,7 @@ factor-returns-4 t c =
     let at-token-at = at-deeper .before .before .before .before .before .before .before in
     let entry = at-token-at .before .before in
     let ne : at-token-at .token-at .result .kind ≡ 0 → ⊥ = λ e. omega arith in
-    let v = beyond (now (entry .args .text)) (entry .args .at) (at-token-at .token-at .result) (entry .pre .1) (at-token-at .token-at .ensures) ne in
+    let v = beyond _ (now (entry .args .text)) (entry .args .at) (at-token-at .token-at .result) (entry .pre .1) (at-token-at .token-at .ensures) ne in
     take (entry .pre .1) (at-token-at .token-at .ensures) ne (least (omega arith) (rw (at-entered .entered .ensures (now (entry .args .text)) (now (entry .args .names)) (now (entry .args .buf))) at (c .parens .ensures))) (λ s. rw (at-if4 .if4 .taken, ← at-deeper .deeper .ensures))
 
 factor-absolute-requires : (t : ℕ) → factor-lts.Need-absolute-requires (factor-calls t) (factor-at t) factor.Post
@@ -317,7 +318,7 @@ factor-absolute-requires t c κs =
     let at-token-at = c .before .before .before .before .before .before .before .before .before .before .before .before .before in
     let entry = at-token-at .before .before in
     let ne : at-token-at .token-at .result .kind ≡ 0 → ⊥ = λ e. omega arith in
-    let v = beyond (now (entry .args .text)) (entry .args .at) (at-token-at .token-at .result) (entry .pre .1) (at-token-at .token-at .ensures) ne in
+    let v = beyond _ (now (entry .args .text)) (entry .args .at) (at-token-at .token-at .result) (entry .pre .1) (at-token-at .token-at .ensures) ne in
     omega arith
 
 factor-returns-5 : (t : ℕ) → factor-lts.Need-returns-5 (factor-calls t) (factor-at t) factor.Post
@@ -329,19 +330,38 @@ factor-returns-5 t c =
     let at-token-at = at-deeper .before .before .before .before .before .before .before in
     let entry = at-token-at .before .before in
     let ne : at-token-at .token-at .result .kind ≡ 0 → ⊥ = λ e. omega arith in
-    let v = beyond (now (entry .args .text)) (entry .args .at) (at-token-at .token-at .result) (entry .pre .1) (at-token-at .token-at .ensures) ne in
+    let v = beyond _ (now (entry .args .text)) (entry .args .at) (at-token-at .token-at .result) (entry .pre .1) (at-token-at .token-at .ensures) ne in
     take (entry .pre .1) (at-token-at .token-at .ensures) ne (least (omega arith) (rw (at-entered2 .entered2 .ensures (now (entry .args .text)) (now (entry .args .names)) (now (entry .args .buf))) at (c .absolute .ensures))) (λ s. rw (at-if5 .if5 .taken, ← at-deeper .deeper .ensures))
 
+factor-emit-literal-requires-2 : (t : ℕ) → factor-lts.Need-emit-literal-requires-2 (factor-calls t) (factor-at t) factor.Post
+factor-emit-literal-requires-2 t c κs =
+    let at-token-at = c .before .before .before .before .before .before .before .before .before .before .before .before .before .before in
+    let entry = at-token-at .before .before in
+    let ne : at-token-at .token-at .result .kind ≡ 0 → ⊥ = λ e. omega arith in
+    let i = inside _ (now (entry .args .text)) (entry .args .at) (at-token-at .token-at .result) (entry .pre .1) (at-token-at .token-at .ensures) ne in
+    i
+
 factor-returns-6 : (t : ℕ) → factor-lts.Need-returns-6 (factor-calls t) (factor-at t) factor.Post
-unfolding step startFactor finish
+unfolding step startFactor
 factor-returns-6 t c =
-    let at-if4 = c .before .before in
+    let at-if6 = c .before .before in
+    let at-token-at = at-if6 .before .before .before .before .before .before .before .before .before .before .before .before .before in
+    let entry = at-token-at .before .before in
+    let ne : at-token-at .token-at .result .kind ≡ 0 → ⊥ = λ e. omega arith in
+    let v = beyond _ (now (entry .args .text)) (entry .args .at) (at-token-at .token-at .result) (entry .pre .1) (at-token-at .token-at .ensures) ne in
+    take (entry .pre .1) (at-token-at .token-at .ensures) ne (idle (omega arith) (v .1) (c .emit-literal2 .ensures (now (entry .args .names)))) (λ s. rw (at-if6 .if6 .taken))
+
+factor-returns-7 : (t : ℕ) → factor-lts.Need-returns-7 (factor-calls t) (factor-at t) factor.Post
+unfolding step startFactor finish
+factor-returns-7 t c =
+    let at-if5 = c .before .before in
+    let at-if4 = at-if5 .before .before in
     let at-if3 = at-if4 .before .before .before in
     let at-if2 = at-if3 .before .before in
     let at-if1 = at-if2 .before .before in
     let at-token-at = at-if1 .before .before in
     let entry = at-token-at .before .before in
-    fail (entry .pre .1) (at-token-at .token-at .ensures) (λ s. rw (ne-eqb _ _ (at-if1 .if1 .left), ne-eqb _ _ (at-if2 .if2 .left), ne-eqb _ _ (at-if3 .if3 .left), ne-eqb _ _ (at-if4 .if4 .left), ne-eqb _ _ (c .if5 .left))) (λ s. refl)
+    fail (entry .pre .1) (at-token-at .token-at .ensures) (λ s. rw (ne-eqb _ _ (at-if1 .if1 .left), ne-eqb _ _ (at-if2 .if2 .left), ne-eqb _ _ (at-if3 .if3 .left), ne-eqb _ _ (at-if4 .if4 .left), ne-eqb _ _ (at-if5 .if5 .left), ne-eqb _ _ (c .if6 .left))) (λ s. refl)
 
 muls-returns : (t : ℕ) → muls-lts.Need-returns (muls-calls t) (muls-at t) muls.Post
 unfolding step finish
@@ -355,7 +375,7 @@ muls-factor-requires t c κs =
     let at-token-at = c .before .before .before in
     let entry = at-token-at .before .before in
     let ne : at-token-at .token-at .result .kind ≡ 0 → ⊥ = λ e. omega arith in
-    let v = beyond (now (entry .args .text)) (entry .args .at) (at-token-at .token-at .result) (entry .pre .1) (at-token-at .token-at .ensures) ne in
+    let v = beyond _ (now (entry .args .text)) (entry .args .at) (at-token-at .token-at .result) (entry .pre .1) (at-token-at .token-at .ensures) ne in
     omega arith
 
 muls-muls-requires : (t : ℕ) → muls-lts.Need-muls-requires (muls-calls t) (muls-at t) muls.Post
@@ -365,7 +385,7 @@ muls-muls-requires t c κs =
     let at-token-at = at-factor .before .before .before .before in
     let entry = at-token-at .before .before in
     let ne : at-token-at .token-at .result .kind ≡ 0 → ⊥ = λ e. omega arith in
-    let v = beyond (now (entry .args .text)) (entry .args .at) (at-token-at .token-at .result) (entry .pre .1) (at-token-at .token-at .ensures) ne in
+    let v = beyond _ (now (entry .args .text)) (entry .args .at) (at-token-at .token-at .result) (entry .pre .1) (at-token-at .token-at .ensures) ne in
     let d = as-is (at-factor .factor .ensures) (at-a .a .given .1) in
     let w = d .within in
     omega arith
@@ -378,7 +398,7 @@ muls-returns-2 t c =
     let at-token-at = at-if1 .before .before in
     let entry = at-token-at .before .before in
     let ne : at-token-at .token-at .result .kind ≡ 0 → ⊥ = λ e. omega arith in
-    let v = beyond (now (entry .args .text)) (entry .args .at) (at-token-at .token-at .result) (entry .pre .1) (at-token-at .token-at .ensures) ne in
+    let v = beyond _ (now (entry .args .text)) (entry .args .at) (at-token-at .token-at .result) (entry .pre .1) (at-token-at .token-at .ensures) ne in
     take (entry .pre .1) (at-token-at .token-at .ensures) ne (stop (λ s. doing (out (alone (Kind.arithmetic Arithmetic.multiply))) ∷ machine.muls (entry .args .d) ∷ s) _ (as-is (at-factor .factor .ensures) (c .before .q .given .1))) (λ s. rw (at-if1 .if1 .left))
 
 muls-returns-3 : (t : ℕ) → muls-lts.Need-returns-3 (muls-calls t) (muls-at t) muls.Post
@@ -391,7 +411,7 @@ muls-returns-3 t c =
     let at-token-at = at-if1 .before .before in
     let entry = at-token-at .before .before in
     let ne : at-token-at .token-at .result .kind ≡ 0 → ⊥ = λ e. omega arith in
-    let v = beyond (now (entry .args .text)) (entry .args .at) (at-token-at .token-at .result) (entry .pre .1) (at-token-at .token-at .ensures) ne in
+    let v = beyond _ (now (entry .args .text)) (entry .args .at) (at-token-at .token-at .result) (entry .pre .1) (at-token-at .token-at .ensures) ne in
     let d = as-is (at-factor .factor .ensures) (at-a .a .given .1) in
     let w = d .within in
     take (entry .pre .1) (at-token-at .token-at .ensures) ne (then (then-does (out (alone (Kind.arithmetic Arithmetic.multiply))) d (at-emit-kind .emit-kind .ensures (now (entry .args .text)) (now (entry .args .names)))) (c .muls .ensures) (omega arith)) (λ s. rw (at-if1 .if1 .left))
@@ -417,7 +437,7 @@ parens-returns-2 t c =
     let at-sum = at-a .before .before in
     let d = as-is (at-sum .sum .ensures) (at-a .a .given .1) in
     let w = d .within in
-    then d (c .expect .ensures _ _) (omega arith)
+    then d (c .expect .ensures _ in-body _ _) (omega arith)
 
 prod-factor-requires : (t : ℕ) → prod-lts.Need-factor-requires (prod-calls t) (prod-at t) prod.Post
 prod-factor-requires t c κs = omega arith
@@ -510,7 +530,9 @@ pub +absolute+adds+factor+muls+parens+prod+sum-spec : {M : Type 1} → statement
     (λ c κs. search needs)
     (factor-absolute-requires t)
     (factor-returns-5 t)
-    (factor-returns-6 t))
+    (factor-emit-literal-requires-2 t)
+    (factor-returns-6 t)
+    (factor-returns-7 t))
     (λ t. muls-lts.spec (muls-calls t) (muls-at t) muls.Post
     (λ c κs. search needs)
     (muls-returns t)

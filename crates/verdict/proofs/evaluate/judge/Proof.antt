@@ -1,104 +1,126 @@
--- `verdict::evaluate::judge` meets its contract. The invariant: the arrays hold the pass after k frames, each sum within its magnitude. The measure is what is left of the frames.
--- Assumes nothing.
-use mathlib.Core.Path.{refl, ap, _∙_}
-use Prim.Native.Nat.{_≤_, _-_}
+-- `verdict::evaluate::judge` meets its contract. Assumes nothing.
+use mathlib.Core.Path.{_≡_, refl, sym, ap, _∙_, subst}
+use mathlib.Core.List.{List}
+use Prim.Native.Nat.{ℕ, _-_, _*_, _≤_}
 use native.Mathlib.Omega.{arith}
-use borrow.Author.Needs.{sfits-of, needs}
-use lib.IntN.{pos}
-use lib.ListN.{getD}
-use lib.Signed.{natAbs-le}
-use mir.ValLaws.{toZ-ofZ}
-use mir.Syntax.{w32}
-use Rattle.verdict.specs.Settled.{judgedBy}
-use Rattle.verdict.proofs.Loop.{Held, begun, again, last}
+use borrow.Author.Needs.{needs}
+use lib.IntN.{ℤ}
+use lib.ListN.{length, take, drop, length-drop}
+use lib.Seq.{take-all}
+use Rattle.rule.specs.Limits.{frameLimit, frameBytes, decimalLimit}
+use Rattle.rule.specs.Frames.{frameCount}
+use Rattle.rule.specs.Scale.{noteDecimals, headFrames, scaleOf, body}
+use Rattle.rule.specs.Stack.{HeadIs}
+use Rattle.rule.specs.declared.Head.{Head}
+use Rattle.rule.proofs.Laws.{Passed, passed, head-few, decimals-few, body-length, body-part}
+use Rattle.verdict.specs.Marks.{Judgeable}
+use Rattle.verdict.specs.Pass.{bodyJudgement, judgementOf}
+use Rattle.verdict.specs.Stacks.{BodyJudgeable}
 use Rattle.verdict.proofs.evaluate.judge.Statement.{statement}
 use Rattle.verdict.proofs.evaluate.judge.Tie as tie
 
-abbrev Inv-loop : tie.InvT-loop
-Inv-loop frames i marks notes n sums₀ conds₀ top₀ k₀ sums conds top k = (k ≤ n) × Held frames (i .0) marks notes sums conds top k
+-- the rest of a slice, as the code takes it
+rest : {A : Type 0} {s : List ℕ} {h : Head} → HeadIs s h → (l : List A) → take (length l - h .frames) (drop (h .frames) l) ≡ drop (headFrames (scaleOf s)) l
+rest {A} {s} i l =
+    let d = length-drop (headFrames (scaleOf s)) l in
+    rw (i .frames) (take-all (length l - headFrames (scaleOf s)) (drop (headFrames (scaleOf s)) l) (omega arith))
 
-abbrev μ-loop : tie.MeasureT-loop
-μ-loop frames i marks notes n sums₀ conds₀ top₀ k₀ sums conds top k = n - k
+-- what judge requires is what the body's judging requires
+bodied : {s : List ℕ} {i : ℕ} {marks : List ℕ} {notes : List ℤ} → Judgeable s i marks notes
+    → BodyJudgeable (noteDecimals (scaleOf s)) (body s) i (drop (headFrames (scaleOf s)) marks) (drop (headFrames (scaleOf s)) notes)
+bodied {s} {i} {marks} {notes} j =
+    let p : Passed s = passed s (j .accepted) in
+    let b = body-length s in
+    let n : length s ≤ frameLimit * frameBytes = p .whole .most in
+    let w = length-drop (headFrames (scaleOf s) * frameBytes) s in
+    let x = length-drop (headFrames (scaleOf s)) marks in
+    let y = length-drop (headFrames (scaleOf s)) notes in
+    record {
+      short = omega arith;
+      scale-in = decimals-few s (p .head);
+      order = record { most = _; few = head-few s .most-few; order = p .order };
+      sizes = p .sizes;
+      instance-in = j .instance-in;
+      marked = omega (arith, j .marked);
+      noted = omega (arith, j .noted);
+    }
 
-loop-holds : tie.Need-loop-holds Inv-loop μ-loop
-loop-holds c = (search needs, record { long = refl; long-c = refl; within = tt; pass = refl })
+same-judgement : (s : List ℕ) (h : Head) (k : HeadIs s h) (i : ℕ) (marks : List ℕ) (notes : List ℤ) (t m : List ℕ) (n : List ℤ) → t ≡ body s → m ≡ drop (headFrames (scaleOf s)) marks → n ≡ drop (headFrames (scaleOf s)) notes
+    → bodyJudgement (h .decimals) t i m n ≡ judgementOf s i marks notes
+unfolding judgementOf
+same-judgement s h k i marks notes t m n e f g = rw (k .decimals, e, f, g)
 
-frame-at-requires : tie.Need-frame-at-requires Inv-loop μ-loop
-frame-at-requires c κs = omega arith
+same-body : (s : List ℕ) (h : Head) (k : HeadIs s h) (i : ℕ) (marks : List ℕ) (notes : List ℤ) (t m : List ℕ) (n : List ℤ) → t ≡ body s → m ≡ drop (headFrames (scaleOf s)) marks → n ≡ drop (headFrames (scaleOf s)) notes
+    → Judgeable s i marks notes → BodyJudgeable (h .decimals) t i m n
+same-body s h k i marks notes t m n e f g j = rw (k .decimals, e, f, g) (bodied j)
 
-shared-slice-read-step : tie.Need-shared-slice-read-step Inv-loop μ-loop
-shared-slice-read-step c =
-    let entry = c .before .before .before .before .before .before in
-    omega (arith, entry .pre .marked)
+-- the head is within each slice
+head-in : {s : List ℕ} {h : Head} {i : ℕ} {marks : List ℕ} {notes : List ℤ} → HeadIs s h → Judgeable s i marks notes → (h .frames * 8 ≤ length s) × ((h .frames ≤ length marks) × (h .frames ≤ length notes))
+head-in {s} {h} k j =
+    let f = head-few s .frames-in in
+    let e = k .frames in
+    (omega arith, (omega (arith, j .marked), omega (arith, j .noted)))
 
-mul-step : tie.Need-mul-step Inv-loop μ-loop
-mul-step c =
-    let entry = c .before .before .before .before .before .before in
-    omega (arith, entry .pre .noted)
+mul-at : tie.Need-mul-at
+mul-at c = omega (arith, c .head-of .ensures .frames, head-few (c .before .before .before .args .frames .now) .frames-few)
 
-shared-slice-copy-out-step : tie.Need-shared-slice-copy-out-step Inv-loop μ-loop
-shared-slice-copy-out-step c =
-    let entry = c .before .before .before .before .before .before in
-    omega (arith, entry .pre .noted)
+sub-judge-body : tie.Need-sub-judge-body
+sub-judge-body c = omega (arith, head-in (c .head-of .ensures) (c .before .before .before .pre) .0)
 
-step-requires : tie.Need-step-requires Inv-loop μ-loop
-step-requires c κs =
-    let at-step-arg = c .before .before in
-    let at-frame-at = at-step-arg .before .before in
-    let at-loop = at-frame-at .before .before in
-    let s = at-loop .before .before .before in
-    let a = s .args in
-    let l = at-loop .loop in
-    let z = getD (a .notes .now) (l .k) (pos 0) in
-    rw (toZ-ofZ w32 z (sfits-of (at-step-arg .step-arg .given)))
-    (begun (a .frames .now) (a .i .0) (a .marks .now) (a .notes .now) (s .pre) (l .sums) (l .conds) (l .top) (l .k) (l .inv .1) (at-frame-at .frame-at .result) (at-frame-at .frame-at .ensures) (natAbs-le z (at-step-arg .step-arg .given)) (omega arith))
+part-judge-body-start : tie.Need-part-judge-body-start
+part-judge-body-start c = omega (arith, head-in (c .head-of .ensures) (c .before .before .before .pre) .0)
 
-add-k : tie.Need-add-k Inv-loop μ-loop
-add-k c = omega arith
+part-judge-body-end : tie.Need-part-judge-body-end
+part-judge-body-end c = omega (arith, head-in (c .head-of .ensures) (c .before .before .before .pre) .0)
 
-loop-less : tie.Need-loop-less Inv-loop μ-loop
-loop-less c = omega arith
+sub-judge-body-2 : tie.Need-sub-judge-body-2
+sub-judge-body-2 c = omega (arith, head-in (c .before .head-of .ensures) (c .before .before .before .before .pre) .1 .0)
 
-loop-again : tie.Need-loop-again Inv-loop μ-loop
-loop-again c =
-    let at-step-arg = c .before .before .before in
-    let at-frame-at = at-step-arg .before .before in
-    let at-loop = at-frame-at .before .before in
-    let s = at-loop .before .before .before in
-    let a = s .args in
-    let l = at-loop .loop in
-    let g = c .step in
-    let z = getD (a .notes .now) (l .k) (pos 0) in (
-      omega arith,
-      again (a .frames .now) (a .i .0) (a .marks .now) (a .notes .now) (s .pre) (l .sums) (l .conds) (l .top) (l .k) (l .inv .1) (at-frame-at .frame-at .result) (at-frame-at .frame-at .ensures) (natAbs-le z (at-step-arg .step-arg .given)) _ _ _ (g .ensures .0 .0) (g .ensures .0 .1)
-          (rw (toZ-ofZ w32 z (sfits-of (at-step-arg .step-arg .given))) at (g .ensures .1)),
-    )
+part-judge-body-start-2 : tie.Need-part-judge-body-start-2
+part-judge-body-start-2 c = omega (arith, head-in (c .before .head-of .ensures) (c .before .before .before .before .pre) .1 .0)
 
-returns : tie.Need-returns Inv-loop μ-loop
+part-judge-body-end-2 : tie.Need-part-judge-body-end-2
+part-judge-body-end-2 c = omega (arith, head-in (c .before .head-of .ensures) (c .before .before .before .before .pre) .1 .0)
+
+mul-judge-body : tie.Need-mul-judge-body
+mul-judge-body c = omega (arith, c .before .before .head-of .ensures .frames, head-few (c .before .before .before .before .before .args .frames .now) .frames-few)
+
+sub-judge-body-3 : tie.Need-sub-judge-body-3
+sub-judge-body-3 c = omega (arith, head-in (c .before .before .head-of .ensures) (c .before .before .before .before .before .pre) .1 .1)
+
+part-judge-body-start-3 : tie.Need-part-judge-body-start-3
+part-judge-body-start-3 c = omega (arith, head-in (c .before .before .head-of .ensures) (c .before .before .before .before .before .pre) .1 .1)
+
+part-judge-body-end-3 : tie.Need-part-judge-body-end-3
+part-judge-body-end-3 c = omega (arith, head-in (c .before .before .head-of .ensures) (c .before .before .before .before .before .pre) .1 .1)
+
+judge-body-requires : tie.Need-judge-body-requires
+judge-body-requires c κs =
+    let a = c .before .before .before .before .before .before .args in
+    let k = c .before .before .before .head-of .ensures in
+    same-body (a .frames .now) (c .before .before .before .head-of .result) k (a .i .0) (a .marks .now) (a .notes .now) _ _ _ (body-part k) (rest k (a .marks .now)) (rest k (a .notes .now)) (c .before .before .before .before .before .before .pre)
+
+returns : tie.Need-returns
 returns c =
-    let at-loop = c .before .before .before in
-    let s = at-loop .before .before .before in
-    let a = s .args in
-    let l = at-loop .loop in
-    c .judged .ensures ∙ ap (judgedBy (l .top .pending) (l .top .present)) (c .before .decoded .ensures)
-    ∙ last (a .frames .now) (a .i .0) (a .marks .now) (a .notes .now) (s .pre) (l .sums) (l .conds) (l .top) (l .k) (l .inv .1) (omega arith)
+    let a = c .before .before .before .before .before .before .before .args in
+    let k = c .before .before .before .before .head-of .ensures in
+    c .judge-body .ensures ∙ same-judgement (a .frames .now) (c .before .before .before .before .head-of .result) k (a .i .0) (a .marks .now) (a .notes .now) _ _ _ (body-part k) (rest k (a .marks .now)) (rest k (a .notes .now))
 
 pub judge-spec : {M : Type 1} → statement M
 judge-spec =
     tie.close
     (tie.spec
-    Inv-loop
-    μ-loop
-    loop-holds
-    frame-at-requires
-    shared-slice-read-step
-    mul-step
-    shared-slice-copy-out-step
-    step-requires
-    add-k
-    loop-less
-    loop-again
-    (λ c. search needs)
     (λ c κs. search needs)
-    (λ c κs. search needs)
+    mul-at
+    sub-judge-body
+    part-judge-body-start
+    part-judge-body-end
+    sub-judge-body-2
+    part-judge-body-start-2
+    part-judge-body-end-2
+    mul-judge-body
+    sub-judge-body-3
+    part-judge-body-start-3
+    part-judge-body-end-3
+    judge-body-requires
     returns)

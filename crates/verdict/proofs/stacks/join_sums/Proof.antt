@@ -1,62 +1,29 @@
 -- `verdict::stacks::join_sums` meets its contract. Assumes nothing.
-use mathlib.Core.Path.{_≡_, sym, ap, _∙_}
-use Prim.Native.Nat.{_-_}
-use native.Mathlib.Omega.{arith}
-use borrow.Author.Needs.{sfits-of, needs}
-use lib.IntN.{ℤ, pos}
-use lib.ListN.{getD, set, length-set}
-use mir.ValLaws.{toZ-ofZ}
-use mir.Syntax.{w64}
-use mir.Val.{toZ, ofZ}
-use Rattle.rule.specs.Frames.{arithmeticAt}
-use Rattle.rule.specs.Build.{top2}
-use Rattle.rule.specs.Stack.{stackOf}
-use Rattle.rule.proofs.Laws.{stack-two, stack-fold}
-use Rattle.verdict.specs.Value.{computed}
-use Rattle.verdict.proofs.Numbers.{small-fits}
+use mathlib.Core.Path.{_≡_, sym, ap, subst}
+use borrow.Author.Needs.{needs}
+use Rattle.rule.specs.Frames.{Arithmetic, arithmeticAt}
+use Rattle.verdict.specs.Stacks.{Joinable}
+use Rattle.verdict.proofs.ByKind.{else-multiply}
 use Rattle.verdict.proofs.stacks.join_sums.Statement.{statement}
 use Rattle.verdict.proofs.stacks.join_sums.Tie as tie
 
-compute-requires : tie.Need-compute-requires
-compute-requires c κs =
-    let st = c .before .before in
-    let s = st .args .sums .now in
-    let k = st .args .k in
-    let b = rw (stack-two (pos 0) s k (omega arith)) at (st .pre .1 .1 .1) in
-    rw (toZ-ofZ w64 (getD s (k - 2) (pos 0)) (sfits-of (c .before .a .given)), toZ-ofZ w64 (getD s (k - 1) (pos 0)) (sfits-of (c .b .given)))
-    (small-fits _ (b .0))
+add-sums-requires : tie.Need-add-sums-requires
+add-sums-requires c κs = subst (λ (o : Arithmetic). Joinable o (c .before .before .before .args .sums .now) (c .before .before .before .args .counts .now) (c .before .before .before .args .k)) (ap arithmeticAt (c .before .before .match .keys1)) (c .before .before .before .pre)
+
+subtract-sums-requires : tie.Need-subtract-sums-requires
+subtract-sums-requires c κs = subst (λ (o : Arithmetic). Joinable o (c .before .before .before .args .sums .now) (c .before .before .before .args .counts .now) (c .before .before .before .args .k)) (ap arithmeticAt (c .before .before .match .keys2)) (c .before .before .before .pre)
+
+multiply-sums-requires : tie.Need-multiply-sums-requires
+multiply-sums-requires c κs = subst (λ (o : Arithmetic). Joinable o (c .before .before .before .args .sums .now) (c .before .before .before .args .counts .now) (c .before .before .before .args .k)) (else-multiply (c .before .before .before .args .kind) (c .before .before .match .rest .0 .1) (c .before .before .match .rest .1)) (c .before .before .before .pre)
 
 returns : tie.Need-returns
-returns c =
-    let at-a = c .before .before in
-    let st = at-a .before in
-    let s = st .args .sums .now in
-    let k = st .args .k in
-    let f = computed (arithmeticAt (st .args .kind)) in
-    let x = getD s (k - 2) (pos 0) in
-    let y = getD s (k - 1) (pos 0) in
-    let e : toZ w64 (ofZ w64 (c .compute .result)) ≡ f x y =
-    toZ-ofZ w64 (c .compute .result) (sfits-of (c .compute .ok)) ∙ c .compute .ensures
-    ∙ rw (toZ-ofZ w64 x (sfits-of (at-a .a .given)), toZ-ofZ w64 y (sfits-of (c .before .b .given))) in (
-      length-set s (k - 2) (toZ w64 (ofZ w64 (c .compute .result))) ∙ st .pre .0,
-      ap (λ (v : ℤ). stackOf (pos 0) (set s (k - 2) v) (k - 1)) e
-          ∙ stack-fold (pos 0) s k (f x y) (omega arith) (omega arith)
-          ∙ ap (top2 f) (sym (stack-two (pos 0) s k (omega arith))),
-    )
+returns c = rw (ap arithmeticAt (c .before .before .before .match .keys1)) (c .add-sums .ensures)
+
+returns-2 : tie.Need-returns-2
+returns-2 c = rw (ap arithmeticAt (c .before .before .before .match .keys2)) (c .subtract-sums .ensures)
+
+returns-3 : tie.Need-returns-3
+returns-3 c = rw (else-multiply (c .before .before .before .before .args .kind) (c .before .before .before .match .rest .0 .1) (c .before .before .before .match .rest .1)) (c .multiply-sums .ensures)
 
 pub join-sums-spec : {M : Type 1} → statement M
-join-sums-spec =
-    tie.close
-    (tie.spec
-    (λ c. search needs)
-    (λ c. search needs)
-    (λ c. search needs)
-    (λ c. search needs)
-    (λ c. search needs)
-    (λ c. search needs)
-    compute-requires
-    (λ c. search needs)
-    (λ c. search needs)
-    (λ c. search needs)
-    (λ c. search needs)
-    returns)
+join-sums-spec = tie.close (tie.spec add-sums-requires subtract-sums-requires multiply-sums-requires returns returns-2 returns-3)

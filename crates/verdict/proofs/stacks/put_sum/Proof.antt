@@ -6,24 +6,25 @@ use lib.IntN.{pos}
 use lib.ListN.{length-set}
 use mir.ValLaws.{toZ-ofZ}
 use mir.Syntax.{w64}
-use Rattle.rule.proofs.Laws.{stack-push}
+use Rattle.rule.proofs.Laws.{terms-push}
 use Rattle.verdict.proofs.stacks.put_sum.Statement.{statement}
 use Rattle.verdict.proofs.stacks.put_sum.Tie as tie
 
-mul-v : tie.Need-mul-v
-mul-v c = search needs
-
 element-set-from-v : tie.Need-element-set-from-v
-element-set-from-v c = search needs
+element-set-from-v c = omega (arith, c .pre .0 .0)
 
-add-result : tie.Need-add-result
-add-result c = search needs
+element-write-counts : tie.Need-element-write-counts
+element-write-counts c = omega (arith, c .pre .0 .1)
 
 returns : tie.Need-returns
 returns c =
-    let s = c .args .sums .now in
-    rw (toZ-ofZ w64 (c .args .v) (c .fits .v))
-    (length-set s (c .args .k) (c .args .v) ∙ c .pre .0, stack-push (pos 0) s (c .args .k) (c .args .v) (omega arith))
+    let a = c .args in
+    let x = a .sums .now in
+    let y = a .counts .now in
+    rw (toZ-ofZ w64 (a .v) (c .fits .v)) (
+      (length-set x (a .k) (a .v) ∙ c .pre .0 .0, length-set y (a .k) (a .d) ∙ c .pre .0 .1),
+      terms-push (pos 0) x y (a .k) (a .v) (a .d) (omega (arith, c .pre .0 .0)) (omega (arith, c .pre .0 .1)),
+    )
 
 pub put-sum-spec : {M : Type 1} → statement M
-put-sum-spec = tie.close (tie.spec mul-v element-set-from-v add-result returns)
+put-sum-spec = tie.close (tie.spec (λ c. search needs) element-set-from-v (λ c. search needs) element-write-counts (λ c. search needs) returns)
