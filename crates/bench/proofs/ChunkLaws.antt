@@ -2,11 +2,11 @@
 use Rattle.std.proofs.Common.{◌≡◌, ℕ, zero, suc, ◌+◌, ◌-◌, ◌<◌, ◌≤◌, min, Bool, true, false, cond, eqb, ltb, List, [], ◌∷◌, ◌++◌, length, take, drop, ℤ, sym, refl, ap, ◌∙◌, append_assoc, append-nil, arith, length-append, length-drop, drop_of_length-le, length-take, length-take-le, take_all, take-take, drop-drop, ltb-false, ltb-true, lt-ltb}
 use native.Mathlib.Decide.{dec_lt}
 use lib.Seq.{take-append-le}
-use Rattle.log.specs.Digit.{is_digit}
-use Rattle.log.specs.Line.{LineAnswer, digits_at_front, bad_place, line_of, refused}
-use Rattle.log.specs.Walk.{to_lf, end_of, line_at}
-use Rattle.log.specs.declared.walk.Found.TheVariants.{Line, End}
-use Rattle.log.proofs.Main.{line-of-other, end_of_within}
+use Rattle.log_lines.specs.Digit.{is_digit}
+use Rattle.log_lines.specs.Line.{LineAnswer, digits_at_front, bad_place, line_of, refused}
+use Rattle.log_lines.specs.Walk.{to_lf, end_of, line_at}
+use Rattle.log_lines.specs.declared.walk.Found.TheVariants.{Line, End}
+use Rattle.log_lines.proofs.Main.{line-of-other, end_of_within}
 use Rattle.checker.specs.Admission.{Admission, admitted, barred, admission}
 use Rattle.checker.specs.Feed.{fed_by, line_in, fed_if, feed_def}
 use Rattle.checker.specs.Ready.{Ready}

@@ -4,10 +4,10 @@ use Rattle.rule.specs.Limits.{frame_limit, frame_bytes}
 use Rattle.rule.specs.Frames.{Bytes}
 use Rattle.rule.specs.Reading.{read_of}
 use Rattle.rule.specs.ReadTold as reading
-use Rattle.log.specs.Digit.{hex_digit}
-use Rattle.log.specs.Pair.{pair_of}
-use Rattle.log.specs.Walk.{lines_of}
-use Rattle.log.specs.declared.digit.Pair.TheVariants.{Byte}
+use Rattle.log_lines.specs.Digit.{hex_digit}
+use Rattle.log_lines.specs.Pair.{pair_of}
+use Rattle.log_lines.specs.Walk.{lines_of}
+use Rattle.log_lines.specs.declared.digit.Pair.TheVariants.{Byte}
 use Rattle.verdict.specs.declared.Verdict.TheVariants.{False}
 use Rattle.checker.specs.Answer.{opened, verdict}
 use Rattle.checker.specs.State.{state_frames, refs_in}

@@ -20,9 +20,9 @@ use Rattle.rule.specs.Check.{checked_of}
 use Rattle.rule.specs.ReadTold as reading
 use Rattle.rule.specs.Reading.{judged, read_of}
 use Rattle.rule.proofs.Laws.{latency, latency_text, bytes}
-use Rattle.log.specs.Digit.{digit_value}
-use Rattle.log.specs.Line.{digits_at_front, bad_place, line_of}
-use Rattle.log.specs.Walk.{lines_of}
+use Rattle.log_lines.specs.Digit.{digit_value}
+use Rattle.log_lines.specs.Line.{digits_at_front, bad_place, line_of}
+use Rattle.log_lines.specs.Walk.{lines_of}
 use Rattle.checker.specs.Base.{of_event, referenced, smallest, base, some_not_void, first_from, first_instance}
 use Rattle.checker.specs.State.{state_with, fresh_state, with_tally, with_sum}
 use Rattle.checker.specs.Ring.{stored, kept}

@@ -13,11 +13,11 @@ use Rattle.rule.specs.declared.Reading.TheVariants.{Frames}
 use Rattle.rule.specs.ReadTold as reading
 use Rattle.rule.proofs.Main.{read-opens, reads_exactly}
 use Rattle.rule.proofs.Laws.{passed, bytes-length}
-use Rattle.log.specs.Digit.{hex_digit}
-use Rattle.log.specs.Pair.{pair_of}
-use Rattle.log.specs.Walk.{onto, lines_of}
-use Rattle.log.specs.declared.digit.Pair.TheVariants.{Byte}
-use Rattle.log.proofs.Main.{digit-back}
+use Rattle.log_lines.specs.Digit.{hex_digit}
+use Rattle.log_lines.specs.Pair.{pair_of}
+use Rattle.log_lines.specs.Walk.{onto, lines_of}
+use Rattle.log_lines.specs.declared.digit.Pair.TheVariants.{Byte}
+use Rattle.log_lines.proofs.Main.{digit-back}
 use Rattle.verdict.specs.Found.{Found}
 use Rattle.verdict.specs.declared.Verdict.TheVariants.{True, False, Unknown}
 use Rattle.checker.specs.Answer.{Answer, opened, verdict}

@@ -5,7 +5,7 @@ use Rattle.rule.specs.Limits.{frame_limit, frame_bytes}
 use Rattle.rule.specs.Reading.{read_of}
 use Rattle.rule.specs.ReadTold.{ReadAnswer}
 use Rattle.rule.specs.ReadTold as reading
-use Rattle.log.specs.Walk.{lines_of}
+use Rattle.log_lines.specs.Walk.{lines_of}
 use Rattle.checker.specs.Limits.{window_words}
 use Rattle.checker.specs.Answer.{Answer, opened, accepted, ignored, waiting, verdict, refused}
 use Rattle.checker.specs.Open.{OpenResult, open_def}

@@ -1,7 +1,7 @@
 -- What the program prints: lines of hexadecimal capitals. From document 01, "Bench program". Assumes nothing: definitions.
 use Rattle.std.specs.Prelude.{ℕ, ◌+◌, ◌*◌, ◌/◌, ◌%◌, List, [], ◌∷◌, ◌++◌, take, slice_index}
 use Rattle.rule.specs.Tree.{word_bytes}
-use Rattle.log.specs.Digit.{hex_digit}
+use Rattle.log_lines.specs.Digit.{hex_digit}
 use Rattle.checker.specs.declared.Totals.{Totals}
 use Rattle.bench.specs.declared.Counts.{Counts}
 

@@ -2,7 +2,7 @@
 ghost use Rattle.std.specs.Prelude.{◌≡◌, ◌+◌, ◌*◌, ◌<◌, ◌≤◌, [], ◌∷◌, length};
 ghost use Rattle.std.proofs.lemmas.List.Edits.{sets};
 ghost use Rattle.rule.specs.Tree.{word_bytes};
-ghost use Rattle.log.specs.Digit.{hex_digit};
+ghost use Rattle.log_lines.specs.Digit.{hex_digit};
 ghost use Rattle.bench.specs.Print.{hex_of, hex_line, totals_line, refused_line};
 
 use crate::Counts;

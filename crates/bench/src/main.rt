@@ -1,5 +1,7 @@
 // The bench program: the rule from the file rule.loc, the log from standard input; reports, and at the end the totals, as
 // hexadecimal lines on standard output.
+#![tactic(auto)]
+
 mod cut; // cut.rt: a line that a chunk's end cuts
 mod hex; // hex.rt: hexadecimal lines
 mod step; // step.rt: one line, and the pulls after it
@@ -18,7 +20,7 @@ ghost use Rattle.bench.specs.Carried.{Holding, Stepped};
 
 use checker::{Fields, OpenAnswer, Opened, Profile};
 use libc::{STDIN_FILENO, STDOUT_FILENO};
-use log::walk::Found;
+use log_lines::walk::Found;
 use rule::{FRAME_BYTES, Reading, Refusal};
 
 // How many lines were accepted, ignored and refused.
@@ -87,7 +89,7 @@ fn chunk(
     let mut q = r;
     let mut at = 0;
     while at < s.len() {
-        let Found::Line { start, end, next } = log::walk::line_at(s, at) else {
+        let Found::Line { start, end, next } = log_lines::walk::line_at(s, at) else {
             return q;
         };
         if end < next {

@@ -2,7 +2,7 @@
 use Rattle.std.proofs.Common.{◌≡◌, ℕ, ◌+◌, ◌<◌, ◌≤◌, Bool, true, false, List, get_or, ℤ, refl, arith, le-leb}
 use borrow.Author.Tests.{lt-leb}
 use Rattle.rule.specs.Frames.{Bytes}
-use Rattle.log.specs.Line.{LineAnswer, line_of}
+use Rattle.log_lines.specs.Line.{LineAnswer, line_of}
 use Rattle.checker.specs.Limits.{line_limit}
 use Rattle.checker.specs.Base.{referenced, base}
 use Rattle.checker.specs.State.{with_line, tally_in, with_tally, state_frames, refs_in, with_sum}

@@ -2,11 +2,11 @@
 use Rattle.std.proofs.Common.{◌≡◌, ℕ, ◌+◌, eqb, leb, List, [], ◌∷◌, map, ℤ, sym, refl, ap, ◌∙◌, ap₂, ⊎_elim}
 use Rattle.rule.specs.Tree.{Reference, references}
 use Rattle.rule.specs.Build.{tree_of}
-use Rattle.log.specs.Line.{LineAnswer, line_of}
-use Rattle.log.specs.Line as line
-use Rattle.log.specs.Earlier.{old_line_of, raised_def}
-use Rattle.log.specs.Earlier as log
-use Rattle.log.proofs.Main.{raised-or-refused}
+use Rattle.log_lines.specs.Line.{LineAnswer, line_of}
+use Rattle.log_lines.specs.Line as line
+use Rattle.log_lines.specs.Earlier.{old_line_of, raised_def}
+use Rattle.log_lines.specs.Earlier as log
+use Rattle.log_lines.proofs.Main.{raised-or-refused}
 use Rattle.verdict.specs.declared.Verdict.{Verdict}
 use Rattle.checker.specs.Limits.{line_limit}
 use Rattle.checker.specs.Answer.{Answer, opened, accepted, ignored, waiting, verdict, refused}

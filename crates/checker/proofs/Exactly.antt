@@ -5,8 +5,8 @@ use borrow.Author.Tests.{lt-leb}
 use Rattle.rule.specs.Tree.{Reference, references}
 use Rattle.rule.specs.Build.{tree_of}
 use Rattle.rule.specs.Check.{checked_of}
-use Rattle.log.specs.Line.{line_of}
-use Rattle.log.specs.Line as log
+use Rattle.log_lines.specs.Line.{line_of}
+use Rattle.log_lines.specs.Line as log
 use Rattle.numbers.proofs.Bools.{true-false}
 use Rattle.verdict.specs.Found.{meant, present, pending, Lookup, found_by, resolve, by_lists, given_in, is_present, is_pending, some_of}
 use Rattle.verdict.specs.Value.{value}

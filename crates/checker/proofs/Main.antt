@@ -11,9 +11,9 @@ use Rattle.rule.specs.Opening.{Proper}
 use Rattle.rule.specs.Reading.{read_of}
 use Rattle.rule.specs.Meaning.{meaning}
 use Rattle.rule.specs.ReadTold as reading
-use Rattle.log.specs.Line.{line_of}
-use Rattle.log.specs.Line as log
-use Rattle.log.proofs.Main.{zeros-refused, empty-refused}
+use Rattle.log_lines.specs.Line.{line_of}
+use Rattle.log_lines.specs.Line as log
+use Rattle.log_lines.proofs.Main.{zeros-refused, empty-refused}
 use Rattle.verdict.specs.Found.{instance_limit, given_in, is_present, some_of}
 use Rattle.verdict.specs.Value.{value}
 use Rattle.verdict.specs.Settled.{settled, verdict_of, judgement}

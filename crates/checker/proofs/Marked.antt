@@ -22,8 +22,8 @@ use Rattle.rule.specs.Reading.{judged, read_of}
 use Rattle.rule.specs.ReadTold.{ReadAnswer}
 use Rattle.rule.specs.ReadTold as reading
 use Rattle.rule.proofs.Laws.{unscaled, latency, latency_text, bytes}
-use Rattle.log.specs.Digit.{digit_value}
-use Rattle.log.specs.Line.{digits_at_front, bad_place, line_of}
+use Rattle.log_lines.specs.Digit.{digit_value}
+use Rattle.log_lines.specs.Line.{digits_at_front, bad_place, line_of}
 use Rattle.verdict.specs.declared.Verdict.TheVariants.{True, False, Unknown}
 use Rattle.checker.specs.Limits.{window_words, report_least}
 use Rattle.checker.specs.Answer.{Answer, opened, accepted, waiting, verdict, refused}

@@ -5,8 +5,8 @@ use mathlib.Core.List.{Memᴰ}
 use Rattle.numbers.proofs.Bools.{true-false}
 use Rattle.rule.specs.Tree.{Reference, references}
 use Rattle.rule.specs.Build.{tree_of}
-use Rattle.log.specs.Line.{LineAnswer, is_line, line_of, bad_place, byte_at, note_at}
-use Rattle.log.specs.Line as log
+use Rattle.log_lines.specs.Line.{LineAnswer, is_line, line_of, bad_place, byte_at, note_at}
+use Rattle.log_lines.specs.Line as log
 use Rattle.checker.specs.Limits.{line_limit}
 use Rattle.checker.specs.Answer.{Answer, opened, accepted, ignored, waiting, verdict, refused}
 use Rattle.checker.specs.Base.{referenced, base}

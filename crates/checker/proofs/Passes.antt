@@ -6,7 +6,7 @@ use lib.ListN.{length-replicate}
 use Rattle.numbers.proofs.Bools.{true-false, true-and}
 use Rattle.rule.specs.Limits.{frame_bytes}
 use Rattle.rule.specs.Frames.{frame_count}
-use Rattle.log.specs.Line.{line_of}
+use Rattle.log_lines.specs.Line.{line_of}
 use Rattle.checker.specs.Limits.{width_limit, window_words}
 use Rattle.checker.specs.Answer.{Answer, opened, refused}
 use Rattle.checker.specs.Profile.{width_most, frames_most, profile_passes}

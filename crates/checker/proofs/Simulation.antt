@@ -8,8 +8,8 @@ use Rattle.rule.specs.Tree.{Reference, RuleTree, references, LimitsR}
 use Rattle.rule.specs.Build.{tree_of}
 use Rattle.rule.specs.Check.{checked_of}
 use Rattle.rule.specs.CheckTold as checking
-use Rattle.log.specs.Line.{LineAnswer, line_of}
-use Rattle.log.specs.Line as log
+use Rattle.log_lines.specs.Line.{LineAnswer, line_of}
+use Rattle.log_lines.specs.Line as log
 use Rattle.numbers.proofs.Bools.{true-false, and-true, true-and}
 use Rattle.verdict.specs.Found.{instance_limit, meant, Found, pending, by_lists, found_in, Given, given_in, is_present, is_pending, some_of}
 use Rattle.verdict.specs.Value.{value}

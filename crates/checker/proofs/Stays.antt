@@ -8,7 +8,7 @@ use Rattle.rule.specs.Tree.{Reference, RuleTree, references, LimitsR}
 use Rattle.rule.specs.Build.{tree_of}
 use Rattle.rule.specs.Opening.{Proper}
 use Rattle.rule.proofs.Main.{frames_exactly, tree-of}
-use Rattle.log.specs.Line.{line_of}
+use Rattle.log_lines.specs.Line.{line_of}
 use Rattle.verdict.specs.Found.{instance_limit, pending}
 use Rattle.verdict.specs.Settled.{judgement}
 use Rattle.verdict.specs.Settled as settling

@@ -10,8 +10,8 @@ use Rattle.rule.specs.Order.{order_of}
 use Rattle.rule.specs.Sizes.{sizes_fit}
 use Rattle.rule.specs.Build.{tree_of}
 use Rattle.rule.specs.Check.{checked_of}
-use Rattle.log.specs.Digit.{digit_value}
-use Rattle.log.specs.Line.{digits_at_front, bad_place, line_of}
+use Rattle.log_lines.specs.Digit.{digit_value}
+use Rattle.log_lines.specs.Line.{digits_at_front, bad_place, line_of}
 use Rattle.verdict.specs.declared.Verdict.TheVariants.{True, False}
 use Rattle.checker.specs.Answer.{Answer, ignored, verdict, refused}
 use Rattle.checker.specs.Base.{of_event, referenced, smallest, base, some_not_void, first_from, first_instance}

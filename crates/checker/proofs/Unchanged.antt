@@ -4,7 +4,7 @@ use Rattle.rule.specs.Frames.{frame_count}
 use Rattle.rule.specs.Check.{checked_of}
 use Rattle.rule.specs.CheckTold.{CheckAnswer}
 use Rattle.rule.specs.CheckTold as checking
-use Rattle.log.specs.Line.{line_of}
+use Rattle.log_lines.specs.Line.{line_of}
 use Rattle.verdict.specs.declared.Verdict.{Verdict}
 use Rattle.checker.specs.Answer.{opened, accepted, verdict}
 use Rattle.checker.specs.State.{zero_state}

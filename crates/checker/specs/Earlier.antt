@@ -3,8 +3,8 @@
 use Rattle.std.specs.Prelude.{◌≡◌, ℕ, cond, List, map, ℤ, ◌==◌}
 use Rattle.rule.specs.Tree.{RuleTree, references}
 use Rattle.rule.specs.Build.{tree_of}
-use Rattle.log.specs.Earlier.{old_line_of, done, turned, raised_def}
-use Rattle.log.specs.Earlier as log
+use Rattle.log_lines.specs.Earlier.{old_line_of, done, turned, raised_def}
+use Rattle.log_lines.specs.Earlier as log
 use Rattle.checker.specs.Answer.{Answer, opened, accepted, ignored, waiting, verdict, refused}
 use Rattle.checker.specs.State.{tally_in}
 use Rattle.checker.specs.Feed.{FeedRead, feed_read, feed_answer}

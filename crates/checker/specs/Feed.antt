@@ -3,8 +3,8 @@
 -- Assumes nothing: definitions.
 use Rattle.std.specs.Prelude.{ℕ, ◌+◌, cond, List, [], ◌∷◌, ℤ, nat_le}
 use Rattle.rule.specs.Tree.{Reference}
-use Rattle.log.specs.Line.{LineAnswer, line_of}
-use Rattle.log.specs.Line as log
+use Rattle.log_lines.specs.Line.{LineAnswer, line_of}
+use Rattle.log_lines.specs.Line as log
 use Rattle.checker.specs.Limits.{line_limit}
 use Rattle.checker.specs.Answer.{Answer, accepted, ignored, refused, feed_told}
 use Rattle.checker.specs.Base.{referenced, base}

@@ -3,7 +3,7 @@ use Rattle.std.specs.Prelude.{ℕ, zero, suc, ◌+◌, cond, List, [], ◌∷◌
 use Rattle.rule.specs.Limits.{event_limit}
 use Rattle.rule.specs.Tree.{RuleTree, references}
 use Rattle.rule.specs.Build.{tree_of}
-use Rattle.log.specs.Line.{line_of}
+use Rattle.log_lines.specs.Line.{line_of}
 use Rattle.verdict.specs.Found.{Given, given_in}
 use Rattle.verdict.specs.declared.Verdict.{Verdict}
 use Rattle.checker.specs.Base.{first_for}

@@ -1,7 +1,7 @@
 -- Where an occurrence's notes live in the window. From document 01, "Feeding, pulling and the window".
 -- Assumes nothing: definitions.
 use Rattle.std.specs.Prelude.{ℕ, ◌+◌, ◌*◌, ◌%◌, cond, List, [], ◌∷◌, set, ℤ, pos, nat_le, slice_index_or, slice_set}
-use Rattle.log.specs.declared.line.Notes.{Notes}
+use Rattle.log_lines.specs.declared.line.Notes.{Notes}
 
 -- "four notes" of a line
 abbrev pub notes_of : Notes → List ℤ

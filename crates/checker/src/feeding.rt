@@ -10,7 +10,7 @@ ghost use Rattle.checker.specs.Ready.{Ready};
 
 use crate::parts::Fields;
 use crate::{Fed, FeedAnswer, State, admission, base, limits, parts, words};
-use log::{Line, Notes};
+use log_lines::{Line, Notes};
 use rule::limits::EVENT_LIMIT;
 use rule::{FRAME_BYTES, Refusal};
 use verdict::Occurrence;
@@ -96,7 +96,7 @@ fn feed_with(
     ensures { feed_outcome (fed_of frames.now result) window.new
         ≡ feed_def (state_of frames.now fields) window.old line.now }
 {
-    let read = log::read_line(line);
+    let read = log_lines::read_line(line);
     match read {
         Line::Bad(place) => refuse(fields, 15, place),
         Line::Event(event, notes) => feed_event(frames, fields, bases, window, event, notes),

@@ -1,4 +1,6 @@
 // Opening, feeding and pulling over a state by value and a lent window; the view of a report; the charge for rework.
+#![tactic(auto)]
+
 mod admission; // admission.rt: 12, 13 and 27, before a line or a pull
 mod base; // base.rt: the base of each event, and the first instance
 mod charging; // charging.rt: 28, 29, 12, the charge for rework

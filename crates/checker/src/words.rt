@@ -5,7 +5,7 @@ ghost use Rattle.std.proofs.Common.{of_z};
 ghost use Rattle.checker.specs.Ring.{notes_of, word_at, stored, kept};
 ghost use Rattle.checker.specs.InWindow.{InWindow, Summed};
 
-use log::Notes;
+use log_lines::Notes;
 use std::num::{wrapping_add_u32, wrapping_sub_u32};
 use verdict::Occurrence;
 

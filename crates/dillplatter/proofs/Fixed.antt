@@ -7,11 +7,11 @@ use Rattle.rule.specs.ReadTold.{ReadAnswer, read_told}
 use Rattle.rule.specs.ReadTold as reading
 use Rattle.rule.specs.declared.Reading.{Reading}
 use Rattle.rule.proofs.Main.{read_told_injective}
-use Rattle.log.specs.Earlier.{raise_told, lower_told}
-use Rattle.log.specs.declared.earlier.RaiseAnswer.{RaiseAnswer}
-use Rattle.log.specs.declared.earlier.RaiseAnswer.TheVariants as raises
-use Rattle.log.specs.declared.earlier.LowerAnswer.{LowerAnswer}
-use Rattle.log.specs.declared.earlier.LowerAnswer.TheVariants as lowers
+use Rattle.log_lines.specs.Earlier.{raise_told, lower_told}
+use Rattle.log_lines.specs.declared.earlier.RaiseAnswer.{RaiseAnswer}
+use Rattle.log_lines.specs.declared.earlier.RaiseAnswer.TheVariants as raises
+use Rattle.log_lines.specs.declared.earlier.LowerAnswer.{LowerAnswer}
+use Rattle.log_lines.specs.declared.earlier.LowerAnswer.TheVariants as lowers
 use Rattle.verdict.specs.declared.Verdict.TheVariants.{True, False, Unknown}
 use Rattle.checker.specs.Answer.{opened, accepted, ignored, waiting, verdict, refused}
 use Rattle.checker.specs.StateTest.{state_passes}

@@ -2,9 +2,9 @@
 use mathlib.Core.Path.{◌≡◌}
 use Rattle.rule.specs.ReadTold.{read_told}
 use Rattle.rule.specs.declared.Reading.{Reading}
-use Rattle.log.specs.Earlier.{raise_told, lower_told}
-use Rattle.log.specs.declared.earlier.RaiseAnswer.{RaiseAnswer}
-use Rattle.log.specs.declared.earlier.LowerAnswer.{LowerAnswer}
+use Rattle.log_lines.specs.Earlier.{raise_told, lower_told}
+use Rattle.log_lines.specs.declared.earlier.RaiseAnswer.{RaiseAnswer}
+use Rattle.log_lines.specs.declared.earlier.LowerAnswer.{LowerAnswer}
 use Rattle.checker.specs.Tariff.{charge_def}
 use Rattle.checker.specs.declared.State.{State}
 use Rattle.checker.specs.declared.Tariff.{Tariff}

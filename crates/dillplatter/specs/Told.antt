@@ -3,7 +3,7 @@
 use Rattle.std.specs.Prelude.{List, ℕ, ℤ}
 use Rattle.rule.specs.ReadTold.{ReadAnswer}
 use Rattle.rule.specs.ReadTold as reading
-use Rattle.log.specs.Earlier as log
+use Rattle.log_lines.specs.Earlier as log
 use Rattle.verdict.specs.declared.Verdict.TheVariants.{True, False, Unknown}
 use Rattle.checker.specs.Answer.{Answer, opened, accepted, ignored, waiting, verdict, refused}
 use Rattle.checker.specs.Open.{OpenResult}

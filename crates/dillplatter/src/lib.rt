@@ -1,10 +1,12 @@
 // The library for makers of controllers: the calls of a checker, for desk and board, the view of a report, the converter of lines
 // and the charge for rework, as C has them, answers as numbers. include/dillplatter.h declares them and says what each one does.
+#![tactic(auto)]
+
 mod told; // told.rt: answers as numbers
 
 ghost use Rattle.std.specs.Prelude.{◌≡◌};
 ghost use Rattle.rule.specs.Reading.{read_of};
-ghost use Rattle.log.specs.Earlier.{raised_def, lowered_def};
+ghost use Rattle.log_lines.specs.Earlier.{raised_def, lowered_def};
 ghost use Rattle.checker.specs.Open.{open_def};
 ghost use Rattle.checker.specs.Feed.{feed_def};
 ghost use Rattle.checker.specs.Pull.{pull_def};
@@ -160,7 +162,7 @@ pub extern "C" fn dillplatter_raise(old: &[u8]) -> RaisedLine
         × ((result.place ≡ conversion_place (raised_def old.now).answer)
         × (result.line ≡ (raised_def old.now).line)) }
 {
-    let raised = log::raised(old);
+    let raised = log_lines::raised(old);
     let line = raised.line;
     let a = raised.answer;
     let raising = told::raising(a);
@@ -178,7 +180,7 @@ pub extern "C" fn dillplatter_lower(line: &[u8]) -> LoweredLine
         × ((result.place ≡ conversion_place (lowered_def line.now).answer)
         × (result.line ≡ (lowered_def line.now).line)) }
 {
-    let lowered = log::lowered(line);
+    let lowered = log_lines::lowered(line);
     let old = lowered.line;
     let a = lowered.answer;
     let lowering = told::lowering(a);

@@ -1,14 +1,14 @@
 // Answers as numbers: which answer, and the number and place of a refusal.
 ghost use Rattle.std.specs.Prelude.{◌≡◌};
 ghost use Rattle.rule.specs.ReadTold.{read_told};
-ghost use Rattle.log.specs.Earlier.{raise_told, lower_told};
+ghost use Rattle.log_lines.specs.Earlier.{raise_told, lower_told};
 ghost use Rattle.checker.specs.Answer.{open_told, feed_told, pull_told, refused};
 ghost use Rattle.dillplatter.specs.Told.{checked, of_reading, answer_number, number_of, place_of, frames_of};
 ghost use Rattle.checker.specs.Tariff.{charge_told};
 ghost use Rattle.dillplatter.specs.Told.{conversion_number, conversion_place, charge_number, charge_place, charge_cents};
 
 use checker::{ChargeAnswer, FeedAnswer, OpenAnswer, PullAnswer};
-use log::{LowerAnswer, RaiseAnswer};
+use log_lines::{LowerAnswer, RaiseAnswer};
 use rule::{Reading, Refusal};
 
 // The numbers of the answers, as include/dillplatter.h has them.

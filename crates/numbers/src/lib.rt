@@ -1,4 +1,6 @@
 // Signed numbers from bytes, and laws that every crate above cites.
+#![tactic(auto)]
+
 ghost use Rattle.std.specs.Prelude.{◌≡◌};
 ghost use Rattle.numbers.specs.Word.{signed_word};
 

@@ -1,4 +1,6 @@
 // Rules: text, tokens, frames and their checks. Nothing here knows of logs.
+#![tactic(auto)]
+
 pub mod limits; // limits.rt: the limits of a rule
 pub mod kinds; // kinds.rt: the kinds of frames
 mod classes; // classes.rt: the class of a byte

@@ -1,4 +1,6 @@
 // Verdicts: the three-valued meaning of accepted frames at one instance. Nothing here knows where notes come from.
+#![tactic(auto)]
+
 mod arithmetic; // arithmetic.rt: sums and relations of 64-bit numbers
 mod evaluate; // evaluate.rt: one pass over the frames
 mod judgements; // judgements.rt: settled instances and their verdicts

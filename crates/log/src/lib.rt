@@ -1,9 +1,0 @@
-// Log lines: digits, pairs of digits, the line of 34, that of the earlier edition, and the walk over a log of many lines. Nothing
-// here knows of rules.
-mod digit; // digit.rt: digits and pairs of them
-mod line; // line.rt: the line of 34 digits
-mod earlier; // earlier.rt: the line of 14 digits of the earlier edition, and the converter
-pub mod walk; // walk.rt: the lines of a log
-
-pub use earlier::{LowerAnswer, LowerResult, RaiseAnswer, RaiseResult, lowered, raised};
-pub use line::{Line, Notes, read_line};
