@@ -24,7 +24,7 @@ use log_lines::walk::Found;
 use rule::{FRAME_BYTES, Reading, Refusal};
 
 // How many lines were accepted, ignored and refused.
-#[derive(Drop)]
+#[derive(Clone, Copy)]
 pub struct Counts {
     pub accepted: u32,
     pub ignored: u32,
@@ -33,7 +33,7 @@ pub struct Counts {
 
 // What is carried from line to line beside the frames, the window and the two buffers: the fields of the checker's state, the
 // counts, how many bytes of a cut line are held, how many bytes of output wait, and whether there is more to do.
-#[derive(Drop)]
+#[derive(Clone, Copy)]
 pub struct Run {
     pub fields: Fields,
     pub counts: Counts,

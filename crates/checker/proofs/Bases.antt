@@ -160,9 +160,9 @@ base_exactly refs e p b h =
         reference = n.0;
         its = i;
         equal = sym q ∙ n.2;
-        at-most = λ r j. omega (arith, q, least r j);
+        at_most = λ r j. omega (arith, q, least r j);
       },
-      λ m. omega (arith, least m.reference m.its, m.equal, m.at-most n.0 i, n.2),
+      λ m. omega (arith, least m.reference m.its, m.equal, m.at_most n.0 i, n.2),
     )
   where
     its_in : (r : Reference) → ReferenceTo refs e r → Memᴰ r (of_event e refs)

@@ -71,7 +71,7 @@ pub record SmallestStart (refs : List Reference) (e p b : ℕ) : Type 0 where
   -- whose start it is
   pub equal : b ≡ start_at p reference
   -- "the smallest": at most that of each of its references
-  pub at-most : (r : Reference) → ReferenceTo refs e r → b ≤ start_at p r
+  pub at_most : (r : Reference) → ReferenceTo refs e r → b ≤ start_at p r
 
 -- ---- where verdicts begin
 -- not "void"

@@ -10,7 +10,7 @@ use crate::parts::Fields;
 use crate::{opening, state_test, sum};
 
 // The number of a refusal, 0 where there is none; there bases are the bases of the events.
-#[derive(Drop)]
+#[derive(Clone, Copy)]
 pub struct Admitted {
     pub number: u8,
     pub bases: [u32; 8],

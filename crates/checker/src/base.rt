@@ -64,7 +64,7 @@ fn with_frame(bases: &mut [u32; 8], first: Instance, x: Frame, p: Instance) -> I
 }
 
 // The base of each event at an instance, and the first instance.
-#[derive(Drop)]
+#[derive(Clone, Copy)]
 pub struct Starts {
     pub bases: [u32; 8],
     pub first: Instance,

@@ -16,7 +16,7 @@ use rule::{FRAME_BYTES, Refusal};
 use verdict::Occurrence;
 
 // What feeding gives by parts: the answer, and the fields that the state then has beside its frames.
-#[derive(Drop)]
+#[derive(Clone, Copy)]
 pub struct FedFields {
     pub answer: FeedAnswer,
     pub fields: Fields,

@@ -17,7 +17,7 @@ use rule::{FRAME_BYTES, Frame, kinds};
 use verdict::{Instance, Meant, Occurrence, PENDING, PRESENT, VOID};
 
 // A mark, and the note's value, 0 unless present.
-#[derive(Drop)]
+#[derive(Clone, Copy)]
 pub struct Seen {
     pub mark: u8,
     pub note: i32,

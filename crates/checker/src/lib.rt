@@ -30,7 +30,7 @@ pub use viewing::view;
 
 // A total for each of the verdicts true, false and unknown.
 #[repr(C)]
-#[derive(Drop)]
+#[derive(Clone, Copy)]
 pub struct Totals {
     pub held: u32,
     pub failed: u32,
@@ -41,7 +41,7 @@ pub struct Totals {
 // each; the bytes after them are carried and not looked at. `width` is the document's W, `next` its p; `profile` is 0 for the desk,
 // 1 for the board; `sum` is the sum of the window's words, modulo 2^32.
 #[repr(C)]
-#[derive(Drop)]
+#[derive(Clone, Copy)]
 pub struct State {
     pub frames: [u8; 512],
     pub len: u32,
@@ -54,28 +54,28 @@ pub struct State {
 }
 
 // Who opens a checker: the desk, with W to 256 and 64 frames, or the board inside a plotter, with W to 32 and 16 frames.
-#[derive(Drop)]
+#[derive(Clone, Copy)]
 pub enum Profile {
     Desk,
     Board,
 }
 
 // What opening answers: opened, or refused with a number and a place.
-#[derive(Drop)]
+#[derive(Clone, Copy)]
 pub enum OpenAnswer {
     Opened,
     Refused(Refusal),
 }
 
 // What opening gives: its answer and a state; a refused opening's is zero throughout.
-#[derive(Drop)]
+#[derive(Clone, Copy)]
 pub struct Opened {
     pub answer: OpenAnswer,
     pub state: State,
 }
 
 // What feeding answers: the line is accepted, ignored, or refused with a number and a place.
-#[derive(Drop)]
+#[derive(Clone, Copy)]
 pub enum FeedAnswer {
     Accepted,
     Ignored,
@@ -83,14 +83,14 @@ pub enum FeedAnswer {
 }
 
 // What feeding gives: its answer and the state that is handed on.
-#[derive(Drop)]
+#[derive(Clone, Copy)]
 pub struct Fed {
     pub answer: FeedAnswer,
     pub state: State,
 }
 
 // What pulling answers: the verdict of instance p, waiting, or refused with a number.
-#[derive(Drop)]
+#[derive(Clone, Copy)]
 pub enum PullAnswer {
     True,
     False,
@@ -100,7 +100,7 @@ pub enum PullAnswer {
 }
 
 // What pulling gives: its answer and the state that is handed on.
-#[derive(Drop)]
+#[derive(Clone, Copy)]
 pub struct Pulled {
     pub answer: PullAnswer,
     pub state: State,
@@ -109,7 +109,7 @@ pub struct Pulled {
 // A rework tariff: how many bands there are, at most four, the last number and the price of each, the price of all violations
 // beyond them, in cents, and the surcharge in percent. Entries of bands that there are not are not looked at.
 #[repr(C)]
-#[derive(Drop)]
+#[derive(Clone, Copy)]
 pub struct Tariff {
     pub bands: u32,
     pub lasts: [u32; 4],
@@ -119,7 +119,7 @@ pub struct Tariff {
 }
 
 // What charging answers: cents, or refused with a number.
-#[derive(Drop)]
+#[derive(Clone, Copy)]
 pub enum ChargeAnswer {
     Cents(u64),
     Refused(Refusal),

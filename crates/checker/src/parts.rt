@@ -11,7 +11,7 @@ use crate::{State, Totals};
 use verdict::{Instance, Verdict};
 
 // The fields of a state beside its frames.
-#[derive(Drop)]
+#[derive(Clone, Copy)]
 pub struct Fields {
     pub len: u32,
     pub width: u32,

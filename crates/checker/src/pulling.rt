@@ -17,7 +17,7 @@ use rule::{FRAME_BYTES, Refusal};
 use verdict::{Instance, Judgement, Verdict};
 
 // What pulling gives by parts: the answer, and the fields that the state then has beside its frames.
-#[derive(Drop)]
+#[derive(Clone, Copy)]
 pub struct PulledFields {
     pub answer: PullAnswer,
     pub fields: Fields,

@@ -15,7 +15,7 @@ use rule::{Checked, FRAME_BYTES};
 use verdict::Instance;
 
 // What 12 says of a state; where it fits, bases are the bases of the events.
-#[derive(Drop)]
+#[derive(Clone, Copy)]
 pub struct Tested {
     pub fits: bool,
     pub bases: [u32; 8],

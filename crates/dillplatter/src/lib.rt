@@ -22,7 +22,7 @@ use told::{ChargeResult, ReadResult};
 
 // The state that a call hands back, its answer, and the number and place of a refusal, 0 where nothing is refused.
 #[repr(C)]
-#[derive(Drop)]
+#[derive(Clone, Copy)]
 pub struct CallResult {
     pub state: State,
     pub answer: u32,
@@ -139,7 +139,7 @@ pub extern "C" fn dillplatter_view<'a>(part: &mut &'a [u8]) -> u32
 
 // What bringing an old line up gives: the number and place of a refusal, 0 where nothing is refused, and the line.
 #[repr(C)]
-#[derive(Drop)]
+#[derive(Clone, Copy)]
 pub struct RaisedLine {
     pub number: u32,
     pub place: u32,
@@ -148,7 +148,7 @@ pub struct RaisedLine {
 
 // What bringing a line down gives, in the same way.
 #[repr(C)]
-#[derive(Drop)]
+#[derive(Clone, Copy)]
 pub struct LoweredLine {
     pub number: u32,
     pub place: u32,

@@ -31,7 +31,7 @@ const FALSE: u32 = 7;
 const UNKNOWN: u32 = 8;
 
 // An answer in numbers; number and place are 0 where nothing is refused.
-#[derive(Drop)]
+#[derive(Clone, Copy)]
 pub struct AnswerNumbers {
     pub answer: u32,
     pub number: u32,
@@ -99,7 +99,7 @@ pub fn pulling(a: PullAnswer) -> AnswerNumbers
 
 // A text that was read into so many frames, or not.
 #[repr(C)]
-#[derive(Drop)]
+#[derive(Clone, Copy)]
 pub struct ReadResult {
     pub answer: u32,
     pub number: u32,
@@ -130,7 +130,7 @@ pub fn reading(a: Reading) -> ReadResult
 }
 
 // A conversion's refusal in numbers, both 0 where it is done.
-#[derive(Drop)]
+#[derive(Clone, Copy)]
 pub struct Conversion {
     pub number: u32,
     pub place: u32,
@@ -169,7 +169,7 @@ pub fn lowering(a: LowerAnswer) -> Conversion
 
 // What charging gives: the number and place of a refusal, 0 where nothing is refused, and the cents, 0 where it is refused.
 #[repr(C)]
-#[derive(Drop)]
+#[derive(Clone, Copy)]
 pub struct ChargeResult {
     pub number: u32,
     pub place: u32,

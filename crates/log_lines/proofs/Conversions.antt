@@ -28,7 +28,7 @@ use Rattle.log_lines.proofs.Losses.{answer_unless}
 use Rattle.log_lines.proofs.Lines.{line-of-digits}
 use Rattle.log_lines.proofs.Exactly.{are-digits, either, place, one_place}
 use Rattle.log_lines.proofs.Spelled.{byte_in, byte-back, half_back, word_back, pairs, pairs-all, front-spelled}
-use Rattle.log_lines.proofs.Notes.{byte_small, event-spelled, old-note-fits, old-note-spelled, note-spelled, narrow_fits, fits_narrow}
+use Rattle.log_lines.proofs.NoteLaws.{byte_small, event-spelled, old-note-fits, old-note-spelled, note-spelled, narrow_fits, fits_narrow}
 use Rattle.log_lines.proofs.Converting.{old-of-digits, old-of-other, raised-of-digits, raised-of-other, lowerable, lowered-of-digits}
 
 -- ---- what is written is read again

@@ -25,7 +25,7 @@ use Rattle.log_lines.proofs.Lines.{line-of-digits, line-of-other}
 use Rattle.log_lines.proofs.Exactly.{are-digits, either, yes-digits, no_digits}
 use Rattle.log_lines.proofs.Losses.{answer_unless, refused-zeros}
 use Rattle.log_lines.proofs.Spelled.{pair_onto, pair-part, four-part}
-use Rattle.log_lines.proofs.Notes.{event-spelled, lowered-note-spelled}
+use Rattle.log_lines.proofs.NoteLaws.{event-spelled, lowered-note-spelled}
 
 -- ---- up
 module _ (s : List ℕ) where

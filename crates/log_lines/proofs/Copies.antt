@@ -12,7 +12,7 @@ use Rattle.log_lines.specs.Digit.{digit_value, capital}
 use Rattle.log_lines.specs.Line.{AreDigits}
 use Rattle.log_lines.specs.Earlier.{old_digits, old_note_from, new_note}
 use Rattle.log_lines.proofs.Spelled.{four-part}
-use Rattle.log_lines.proofs.Notes.{sign_onto, raised-note-spelled}
+use Rattle.log_lines.proofs.NoteLaws.{sign_onto, raised-note-spelled}
 
 -- with the bytes from k on put to `out` too, all of them stand in `out0`
 module _ (bytes out0 : List ℕ) (at : ℕ) (out : List ℕ) (k : ℕ)

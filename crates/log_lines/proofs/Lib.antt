@@ -8,7 +8,7 @@ mod Cases
 mod Answers
 -- Lines of the earlier edition: digits of numbers, notes that fit, what is lost, both conversions and their refusals.
 mod Spelled
-mod Notes
+mod NoteLaws
 mod Losses
 mod Copies
 mod Converting

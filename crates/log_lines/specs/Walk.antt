@@ -72,7 +72,7 @@ here r = line_at r.log.now r.at
 
 -- its line is a part of the log: where that stands in memory
 abbrev pub ptr_here : LogReader → ℕ × ℕ
-ptr_here r = found_ptr r.log.ptr (here r)
+ptr_here r = found_ptr r.log.ref_ptr (here r)
 
 -- its line
 abbrev pub line_here : LogReader → List ℕ

@@ -27,7 +27,7 @@ pub fn capital(b: u8) -> u8
 }
 
 // What two bytes are as a pair of digits.
-#[derive(Drop)]
+#[derive(Clone, Copy)]
 pub enum Pair {
     Byte(u8),
     Bad,

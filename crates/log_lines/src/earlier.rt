@@ -17,21 +17,21 @@ const OLD_DIGITS: u32 = 14;
 const ZERO: u8 = 0x30;
 
 // What bringing an old line up answers: it is raised, or the place of refusal 23.
-#[derive(Drop)]
+#[derive(Clone, Copy)]
 pub enum RaiseAnswer {
     Raised,
     Bad(u32),
 }
 
 // The answer, and the line of 34 digits; 34 zero bytes where there is none.
-#[derive(Drop)]
+#[derive(Clone, Copy)]
 pub struct RaiseResult {
     pub answer: RaiseAnswer,
     pub line: [u8; 34],
 }
 
 // What bringing a line down answers: it is lowered, or the place of refusal 15, or refusal 24, or the place of refusal 25.
-#[derive(Drop)]
+#[derive(Clone, Copy)]
 pub enum LowerAnswer {
     Lowered,
     Bad(u32),
@@ -40,7 +40,7 @@ pub enum LowerAnswer {
 }
 
 // The answer, and the line of 14 digits; 14 zero bytes where there is none.
-#[derive(Drop)]
+#[derive(Clone, Copy)]
 pub struct LowerResult {
     pub answer: LowerAnswer,
     pub line: [u8; 14],

@@ -5,11 +5,11 @@ ghost use Rattle.log_lines.specs.Line.{pair_from, noted, bad_place_of, bad_place
 use crate::digit::{Pair, digit, read_pair};
 
 // The four notes of a line. 'Note' is document 01's term for an event's annotation.
-#[derive(Drop)]
+#[derive(Clone, Copy)]
 pub struct Notes(pub i32, pub i32, pub i32, pub i32);
 
 // What a log line holds ('log line' is document 01's term): an event with its notes, or the place of refusal 15.
-#[derive(Drop)]
+#[derive(Clone, Copy)]
 pub enum Line {
     Event(u8, Notes),
     Bad(u32),
@@ -27,7 +27,7 @@ fn pair_at(bytes: &[u8], at: usize) -> Pair
 }
 
 // What eight bytes are as a note.
-#[derive(Drop)]
+#[derive(Clone, Copy)]
 enum Noted {
     Note(i32),
     Bad,

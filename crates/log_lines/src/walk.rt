@@ -5,14 +5,14 @@ ghost use Rattle.log_lines.specs.Walk.{end_of, line_at, found_ptr, found_bytes, 
 ghost use Rattle.log_lines.specs.Walk.{start_of, ptr_here, line_here, moved_on, at_log_end};
 
 // A log and a place in it.
-#[derive(Drop)]
+#[derive(Clone, Copy)]
 pub struct LogReader<'a> {
     pub log: &'a [u8],
     pub at: usize,
 }
 
 // What stands at a place: a line, from start up to, not including, end, with the place where the next starts; or the log's end.
-#[derive(Drop)]
+#[derive(Clone, Copy)]
 pub enum Found {
     Line {
         start: usize,

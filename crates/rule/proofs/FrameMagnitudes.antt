@@ -111,10 +111,6 @@ capped-alike n = go (leb n magnitude_limit) refl
 pub capped_as : {m : ℕ} (n : ℕ) → m ≡ capped n → Alike m n
 capped_as n e = rw e (capped-alike n)
 
--- a side that the code brought by a count, which is the greater one
-pub side_as : {r g most : ℕ} (m d : ℕ) → r ≡ capped (m * 10 ^ (g - d)) → g ≡ most → Alike r (m * 10 ^ (most - d))
-side_as {most = most} m d e h = capped_as (m * 10 ^ (most - d)) (e ∙ ap (λ (n : ℕ). capped (m * 10 ^ (n - d))) h)
-
 pub alike-add : {a b m n : ℕ} → Alike a m → Alike b n → Alike (a + b) (m + n)
 alike-add (exact e) (exact f) = exact (rw (e, f))
 alike-add (exact e) (both-over p q) = both-over (omega arith) (omega arith)
@@ -131,9 +127,8 @@ pub pushed-alike : {m n : ℕ} (d : ℕ) (ms : List (Term ℕ)) → Alike m n �
 pushed-alike d ms (exact e) = rw e
 pushed-alike {m} {n} d ms (both-over p q) = rw (lt-leb m magnitude_limit p, lt-leb n magnitude_limit q)
 
--- what is capped is at most one above the limit
-pub capped_le : {m : ℕ} (n : ℕ) → m ≡ capped n → (m ≤ magnitude_limit + 1) × (m ≡ capped n)
-capped_le n f = (rw f (go (leb n magnitude_limit) refl), f)
+pub capped_le : (n : ℕ) → capped n ≤ magnitude_limit + 1
+capped_le n = go (leb n magnitude_limit) refl
   where
     go : (t : Bool) → leb n magnitude_limit ≡ t → cond t n (magnitude_limit + 1) ≤ magnitude_limit + 1
     go true e = let h = leb-true n magnitude_limit e in omega arith

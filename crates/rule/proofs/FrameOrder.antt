@@ -127,8 +127,8 @@ module _ (most : ℕ) where
 
   -- ---- for the loop
   module _ (s : List ℕ) (i c k : ℕ) (e : prefix_at most s i ≡ viable c k) where
-    pub prefix_next : (r : Shape) → r ≡ frame_step most (frame_at s i) c k → prefix_at most s (i + 1) ≡ order_at i r
-    prefix_next r g = rw add-one (ap (order_next most i (frame_at s i)) e ∙ ap (order_at i) (sym g))
+    pub prefix_next : (x : Frame) → x ≡ frame_at s i → (r : Shape) → r ≡ frame_step most x c k → prefix_at most s (i + 1) ≡ order_at i r
+    prefix_next x h r g = rw add-one (ap (order_next most i (frame_at s i)) e ∙ ap (λ (y : Frame). order_at i (frame_step most y c k)) (sym h) ∙ ap (order_at i) (sym g))
 
     pub counts : c + k ≤ i
     counts = subst (λ (p : Prefix). total p ≤ i) e (prefix_total s i)

@@ -16,7 +16,7 @@ use Rattle.rule.specs.declared.parts.Multiple.TheVariants.{Once, Times}
 use Rattle.rule.specs.declared.parts.Shift.TheVariants.{Unshifted, By}
 use Rattle.rule.specs.Token.{index_kind, bars_kind, ampersands_kind, arrow_kind, abs_kind, name_kind, number_kind, decimal_kind, scale_kind, unequal_kind, at_most_kind, at_least_kind}
 use Rattle.rule.specs.Class.{open_bracket, open_paren, star, bang, close_paren, open_brace, close_brace, close_bracket, equal_mark, less_mark, minus_mark, more_mark, plus_mark, semicolon}
-use Rattle.rule.specs.Grammar.{Word, mark, name, number, Rel, equal, unequal, less, at-most, more, at-least, rel_mark, sign_mark, word_of}
+use Rattle.rule.specs.Grammar.{Word, mark, name, number, Rel, equal, unequal, less, at_most, more, at_least, rel_mark, sign_mark, word_of}
 use Rattle.rule.specs.Frames.{Arithmetic, Connective, Kind}
 use Rattle.rule.specs.Draft.{head, lit, index-var, ref, alone, relation_of, sign_of}
 use Rattle.rule.specs.Machine.{Act, declare, uses, sized, enter, out, deeper, Sym, unit, ands, ors, arrow, factor, muls, adds, rel, want, name_of, names_of, clause, clause-number, ref-event, ref-index, ref_shift, ref-by, doing, prod, sum, conj, condition, start, Next, stuck, on, start_factor, step}
@@ -250,9 +250,9 @@ module _ (M : Type 0) (act : Act → M → M) where
       choose F k equal_mark (λ e g. (after _ g, λ ws m' h. rw e (compare equal h)))
       (choose F k unequal_kind (λ e g. (after _ g, λ ws m' h. rw e (compare unequal h)))
       (choose F k less_mark (λ e g. (after _ g, λ ws m' h. rw e (compare less h)))
-      (choose F k at_most_kind (λ e g. (after _ g, λ ws m' h. rw e (compare at-most h)))
+      (choose F k at_most_kind (λ e g. (after _ g, λ ws m' h. rw e (compare at_most h)))
       (choose F k more_mark (λ e g. (after _ g, λ ws m' h. rw e (compare more h)))
-      (choose F k at_least_kind (λ e g. (after _ g, λ ws m' h. rw e (compare at-least h))) tt)))))
+      (choose F k at_least_kind (λ e g. (after _ g, λ ws m' h. rw e (compare at_least h))) tt)))))
     where
       F : Next M → Type 0
       F = Fine (rel d ∷ s) m k p
@@ -305,9 +305,9 @@ module _ (M : Type 0) (act : Act → M → M) where
   complete (compare equal g) gd k p e = rw (matches k p e) g
   complete (compare unequal g) gd k p e = rw (matches k p e) g
   complete (compare less g) gd k p e = rw (matches k p e) g
-  complete (compare at-most g) gd k p e = rw (matches k p e) g
+  complete (compare at_most g) gd k p e = rw (matches k p e) g
   complete (compare more g) gd k p e = rw (matches k p e) g
-  complete (compare at-least g) gd k p e = rw (matches k p e) g
+  complete (compare at_least g) gd k p e = rw (matches k p e) g
   complete (and-more g) gd k p e = rw (matches k p e) g
   complete {m = m} {m' = m'} {ws = ws} (and_none {s = s} g) gd k p e = over (taking ws m') (λ x. x) k 132 _ (clear k 132 s m p gd.1) (complete g gd.2 k p e)
   complete (or-more g) gd k p e = rw (matches k p e) g

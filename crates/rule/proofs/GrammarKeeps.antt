@@ -42,6 +42,10 @@ Is-out (enter d) = ⊥
 Is-out (out f) = Unit
 
 out_at : (k : ℕ) (p : Place) (a : Act) → Is-out a → At k p a
+out_at k p (declare _ _) o = elim o [ ]
+out_at k p (uses _ _) o = elim o [ ]
+out_at k p (sized _ _) o = elim o [ ]
+out_at k p (enter _) o = elim o [ ]
 out_at k p (out f) o = tt
 
 abbrev pub Outs : List Sym → Type 0

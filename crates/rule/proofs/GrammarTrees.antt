@@ -286,9 +286,9 @@ module _ (z : ℕ) (two : z ≤ 1) where
   rel_had Grammar.equal e = omega (arith, two)
   rel_had Grammar.unequal e = omega (arith, two)
   rel_had Grammar.less e = omega (arith, two)
-  rel_had Grammar.at-most e = omega (arith, two)
+  rel_had Grammar.at_most e = omega (arith, two)
   rel_had Grammar.more e = omega (arith, two)
-  rel_had Grammar.at-least e = omega (arith, two)
+  rel_had Grammar.at_least e = omega (arith, two)
 
   sign_had : (g : Sign) → Had (mark (sign_mark g))
   sign_had Plus e = omega (arith, two)
@@ -355,6 +355,7 @@ module _ (z : ℕ) (two : z ≤ 1) where
 
   -- among the tokens whose words have none, none is such
   absent : ((p : Place) → word_of none_of p ≡ mark none_of) → (ts : List Token) (ws : List Word) (t : Token) → Memᴰ t ts → t.kind ≡ none_of → All Had (words ts ++ ws) → ⊥
+  absent f [] ws t i k h = elim i [ ]
   absent f (u ∷ us) ws t (Memᴰ.head i) k h =
       let q : u.kind ≡ none_of = ap (λ (v : Token). v.kind) (sym i) ∙ k in
       subst Had (ap (λ (n : ℕ). word_of n (place u)) q ∙ f (place u)) h.0 refl

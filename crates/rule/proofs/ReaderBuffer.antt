@@ -50,6 +50,7 @@ module _ (code value decimals : Place → ℕ) where
         full b c f z ∙ sym (full b (0 + length (each (fields code value decimals E N) l)) f (omega arith))
 
     holds_kept : (a : Act) → Body a → (w : Mem) (l : List Draft) → Holds w l → Holds (remember code value decimals a w) (note-frame a l)
+    holds_kept (declare _ _) t w l h = elim t [ ]
     holds_kept (uses r p) t w l h =
         record {
           its-events = unblamed (List ℕ) (λ x. x.events) p w refl (is_declared (code p) (table r w)) ∙ h.its-events;

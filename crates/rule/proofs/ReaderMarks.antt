@@ -9,7 +9,7 @@ use Rattle.rule.specs.declared.parts.Place.{Place}
 use Rattle.rule.specs.declared.parts.Sign.{Sign}
 use Rattle.rule.specs.declared.parts.Sign.TheVariants.{Plus, Minus}
 use Rattle.rule.specs.Frames.{Kind, kind_byte}
-use Rattle.rule.specs.Grammar.{Rel, equal, unequal, less, at-most, more, at-least, rel_mark, rels, sign_mark, signs, by_mark}
+use Rattle.rule.specs.Grammar.{Rel, equal, unequal, less, at_most, more, at_least, rel_mark, rels, sign_mark, signs, by_mark}
 use Rattle.rule.specs.Draft.{plain, relation_of, sign_of}
 use Rattle.rule.specs.Machine.{Act, out, Sym, adds, rel, doing, prod, sum, Next, stuck, on, step}
 use Rattle.rule.specs.ReadsPart.{sign_byte, rel_byte}
@@ -50,9 +50,9 @@ some_rel : (c : Rel) → kind_byte (Kind.relation (relation_of c)) ≡ 0 → ⊥
 some_rel equal e = omega arith
 some_rel unequal e = omega arith
 some_rel less e = omega arith
-some_rel at-most e = omega arith
+some_rel at_most e = omega arith
 some_rel more e = omega arith
-some_rel at-least e = omega arith
+some_rel at_least e = omega arith
 
 module _ (M : Type 0) (act : Act → M → M) (d : ℕ) (s : List Sym) (m : M) (k : ℕ) (p : Place) where
   abbrev after_sign : ℕ → Next M

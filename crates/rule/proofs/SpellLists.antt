@@ -5,7 +5,7 @@ use Rattle.rule.specs.Measure.{flat}
 use Rattle.rule.proofs.FrameDrafts.{All, all_left, all_right}
 
 module _ {A : Type 0} where
-  pub all_in : (P : A → Type 0) {l : List A} {a : A} → Memᴰ a l → All P l → P a
+  pub all_in : (P : A → Type 0) {a : A} {l : List A} → Memᴰ a l → All P l → P a
   all_in P (Memᴰ.head e) h = subst P (sym e) h.0
   all_in P (Memᴰ.tail i) h = all_in P i h.1
 

@@ -17,7 +17,7 @@ use Rattle.rule.specs.declared.parts.Shift.TheVariants.{Unshifted, By}
 use Rattle.rule.specs.Frames.{Connective}
 use Rattle.rule.specs.Token.{arrow_kind, bars_kind, ampersands_kind}
 use Rattle.rule.specs.Grammar.{semicolon, bang, close_brace, open_paren, close_paren, close_bracket, star, plus_mark, minus_mark}
-use Rattle.rule.specs.Grammar.{Word, mark, name, number, Rel, equal, unequal, less, at-most, more, at-least, rel_mark, rels, sign_mark, signs, by_mark, spell_cond, spell_disj, spell_conj, spell_unit, spell_sum, spell_prod, spell_factor, spell_names, spell_clause, yield, words}
+use Rattle.rule.specs.Grammar.{Word, mark, name, number, Rel, equal, unequal, less, at_most, more, at_least, rel_mark, rels, sign_mark, signs, by_mark, spell_cond, spell_disj, spell_conj, spell_unit, spell_sum, spell_prod, spell_factor, spell_names, spell_clause, yield, words}
 use Rattle.rule.specs.Grammar.{index, Cond, a_disj, implies, Disj, a_conj, or, Conj, a_unit, and, CUnit, not, group, relation, Sum, a_prod, add, Prod, a_factor, multiply, Factor, literal, var, parens, absolute, reference, Rule, rule}
 use Rattle.rule.specs.Tree
 use Rattle.rule.specs.Scale.{head_of}
@@ -200,9 +200,9 @@ rel_back : (c : Rel) → by_mark rel_mark (rel_mark c) (λ d. d) equal rels ≡ 
 rel_back equal = refl
 rel_back unequal = refl
 rel_back less = refl
-rel_back at-most = refl
+rel_back at_most = refl
 rel_back more = refl
-rel_back at-least = refl
+rel_back at_least = refl
 
 mutual
   back-cond : (x : Cond) (r : List Word) → cond_back (shape_cond x) (spell_cond x r) ≡ (x, r)

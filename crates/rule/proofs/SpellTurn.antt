@@ -14,7 +14,7 @@ use Rattle.rule.specs.declared.parts.Sign.TheVariants.{Plus, Minus}
 use Rattle.rule.specs.declared.parts.Multiple.TheVariants.{Once, Times}
 use Rattle.rule.specs.declared.parts.Shift.TheVariants.{Unshifted, By}
 use Rattle.rule.specs.Class.{semicolon, star}
-use Rattle.rule.specs.Grammar.{bang, open_brace, open_paren, Word, mark, name, number, Rel, equal, unequal, less, at-most, more, at-least, rel_mark, sign_mark, spell_cond, spell_disj, spell_conj, spell_unit, spell_sum, spell_prod, spell_factor, spell_names, spell_clause, yield, place, word_of, words, index, Cond, a_disj, implies, Disj, a_conj, or, Conj, a_unit, and, CUnit, not, group, relation, Sum, a_prod, add, Prod, a_factor, multiply, Factor, literal, var, parens, absolute, reference, Rule, rule}
+use Rattle.rule.specs.Grammar.{bang, open_brace, open_paren, Word, mark, name, number, Rel, equal, unequal, less, at_most, more, at_least, rel_mark, sign_mark, spell_cond, spell_disj, spell_conj, spell_unit, spell_sum, spell_prod, spell_factor, spell_names, spell_clause, yield, place, word_of, words, index, Cond, a_disj, implies, Disj, a_conj, or, Conj, a_unit, and, CUnit, not, group, relation, Sum, a_prod, add, Prod, a_factor, multiply, Factor, literal, var, parens, absolute, reference, Rule, rule}
 
 -- ---- the turned tree
 abbrev mutual
@@ -79,9 +79,9 @@ turned_rel : (c : Rel) (r : List Word) → turned false (mark (rel_mark c) ∷ r
 turned_rel equal r = refl
 turned_rel unequal r = refl
 turned_rel less r = refl
-turned_rel at-most r = refl
+turned_rel at_most r = refl
 turned_rel more r = refl
-turned_rel at-least r = refl
+turned_rel at_least r = refl
 
 turned_sign : (g : Sign) (r : List Word) → turned false (mark (sign_mark g) ∷ r) ≡ mark (sign_mark g) ∷ turned false r
 turned_sign Plus r = refl

@@ -14,7 +14,7 @@ use Rattle.numbers.proofs.Bools.{true-false}
 use Rattle.rule.specs.Class.{letter, digit, blank, mark, foreign, point, among, one_byte_marks, class_of, span}
 use Rattle.rule.specs.Token.{end_kind, number_kind, decimal_kind, foreign_kind, word_kind, two_byte_mark, one_byte_mark, longest_mark, mark_width, fraction_of, token_kind, width_of, past, token_here, token_at}
 use Rattle.rule.specs.Token.{Mode, declares, next, takes_points, token_in, tokens_in, tokens_from, tokens}
-use Rattle.rule.specs.Token.{Quoted, of-one-byte, arrow, bars, ampersands, unequal, at-most, at-least, LongestMatch, in_quoted, in_none, OfToken}
+use Rattle.rule.specs.Token.{Quoted, of-one-byte, arrow, bars, ampersands, unequal, at_most, at_least, LongestMatch, in_quoted, in_none, OfToken}
 use Rattle.rule.specs.declared.Token.{Token}
 use Rattle.rule.proofs.TokenSpans.{span_class, span-stops}
 use Rattle.rule.proofs.TokenMarks.{width_some, one_width}
@@ -38,7 +38,7 @@ two : (b n : ℕ) → Two b n (two_byte_mark b n)
 unfolding mark_width
 two b n =
     two-or b n arrow refl (two-or b n bars refl (two-or b n ampersands refl
-    (two-or b n unequal refl (two-or b n at-most refl (two-or b n at-least refl (inl refl))))))
+    (two-or b n unequal refl (two-or b n at_most refl (two-or b n at_least refl (inl refl))))))
 
 -- no second byte of a mark is 0
 abbrev second : List ℕ → ℕ
@@ -52,8 +52,8 @@ second-some arrow e = omega arith
 second-some bars e = omega arith
 second-some ampersands e = omega arith
 second-some unequal e = omega arith
-second-some at-most e = omega arith
-second-some at-least e = omega arith
+second-some at_most e = omega arith
+second-some at_least e = omega arith
 
 -- ---- the mark at the front of what is left of a text, by its kind and its width
 abbrev Matches : List ℕ → ℕ → ℕ → Type 0
@@ -76,8 +76,8 @@ module _ (b : ℕ) (bs : List ℕ) where
   longest m j bars e = as_two refl e
   longest m j ampersands e = as_two refl e
   longest m j unequal e = as_two refl e
-  longest m j at-most e = as_two refl e
-  longest m j at-least e = as_two refl e
+  longest m j at_most e = as_two refl e
+  longest m j at_least e = as_two refl e
 
   -- where neither one byte nor two are a mark
   no_two : {x y : ℕ} → (two_byte_mark x y ≡ 0 → ⊥) → two_byte_mark b (get_or bs 0 0) ≡ 0 → take 2 (b ∷ bs) ≡ x ∷ y ∷ [] → ⊥
@@ -91,8 +91,8 @@ module _ (b : ℕ) (bs : List ℕ) where
   none-begins z o m j bars e = no_two (λ q. omega arith) z e
   none-begins z o m j ampersands e = no_two (λ q. omega arith) z e
   none-begins z o m j unequal e = no_two (λ q. omega arith) z e
-  none-begins z o m j at-most e = no_two (λ q. omega arith) z e
-  none-begins z o m j at-least e = no_two (λ q. omega arith) z e
+  none-begins z o m j at_most e = no_two (λ q. omega arith) z e
+  none-begins z o m j at_least e = no_two (λ q. omega arith) z e
 
   -- two bytes that are a mark stand there
   both_stand : {k : ℕ} → Quoted (b ∷ get_or bs 0 0 ∷ []) k → take 2 (b ∷ bs) ≡ b ∷ get_or bs 0 0 ∷ []
@@ -179,8 +179,8 @@ second_class arrow e = refl
 second_class bars e = refl
 second_class ampersands e = refl
 second_class unequal e = refl
-second_class at-most e = refl
-second_class at-least e = refl
+second_class at_most e = refl
+second_class at_least e = refl
 
 -- none of a token's bytes is a blank, where its first is none
 mark-second : (b : ℕ) (bs : List ℕ) (j : ℕ) → suc j < mark_width (longest_mark b (get_or bs 0 0)) → class_of (get_or bs j 0) ≡ mark

@@ -2,7 +2,7 @@
 -- From 'From rule text to frames' of document 01 and point 1 of document 02. Assumes nothing: definitions.
 use Rattle.std.specs.Prelude.{ℕ}
 use Rattle.rule.specs.Frames.{Arithmetic, Relation, Kind, kind_byte}
-use Rattle.rule.specs.Grammar.{Rel, equal, unequal, less, at-most, more, at-least}
+use Rattle.rule.specs.Grammar.{Rel, equal, unequal, less, at_most, more, at_least}
 use Rattle.rule.specs.declared.parts.Place.{Place}
 use Rattle.rule.specs.declared.parts.Sign.{Sign}
 use Rattle.rule.specs.declared.parts.Sign.TheVariants.{Plus, Minus}
@@ -27,9 +27,9 @@ abbrev pub relation_of : Rel → Relation
 relation_of equal = Relation.equal
 relation_of unequal = Relation.unequal
 relation_of less = Relation.less
-relation_of at-most = Relation.at_most
+relation_of at_most = Relation.at_most
 relation_of more = Relation.more
-relation_of at-least = Relation.at_least
+relation_of at_least = Relation.at_least
 
 -- sum: "+" adds, "-" subtracts
 abbrev pub sign_of : Sign → Arithmetic

@@ -19,7 +19,7 @@ use Rattle.rule.specs.declared.parts.Shift.TheVariants.{Unshifted, By}
 -- ---- trees
 -- rel: `= != < <= > >=`
 pub data Rel : Type 0 where
-  equal unequal less at_most more at_least_lem : Rel
+  equal unequal less at_most more at_least : Rel
 
 -- index: [number "*"] "i" [("+" or "-") number]
 pub data Index : Type 0 where
@@ -83,11 +83,11 @@ rel_mark unequal = unequal_kind
 rel_mark less = less_mark
 rel_mark at_most = at_most_kind
 rel_mark more = more_mark
-rel_mark at_least_lem = at_least_kind
+rel_mark at_least = at_least_kind
 
 -- all of them, in this order
 abbrev pub rels : List Rel
-rels = equal ∷ unequal ∷ less ∷ at_most ∷ more ∷ at_least_lem ∷ []
+rels = equal ∷ unequal ∷ less ∷ at_most ∷ more ∷ at_least ∷ []
 
 -- "+" or "-"
 abbrev pub sign_mark : Sign → ℕ

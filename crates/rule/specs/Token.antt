@@ -227,8 +227,8 @@ pub data Quoted : List ℕ → ℕ → Type 0 where
   bars : Quoted (bar ∷ bar ∷ []) bars_kind
   ampersands : Quoted (ampersand ∷ ampersand ∷ []) ampersands_kind
   unequal : Quoted (bang ∷ equal_mark ∷ []) unequal_kind
-  at-most : Quoted (less_mark ∷ equal_mark ∷ []) at_most_kind
-  at-least : Quoted (more_mark ∷ equal_mark ∷ []) at_least_kind
+  at_most : Quoted (less_mark ∷ equal_mark ∷ []) at_most_kind
+  at_least : Quoted (more_mark ∷ equal_mark ∷ []) at_least_kind
 
 -- the bytes m stand in the text from s on
 abbrev pub StandsAt : List ℕ → ℕ → List ℕ → Type 0

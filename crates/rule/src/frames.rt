@@ -68,14 +68,10 @@ fn of_bare(x: Frame) -> bool
     no_operand(x) & zero(x.value)
 }
 
-// Whether the k-th frame has the fields of its kind, where a literal has at most so many decimals. Called by order::frame_step, where
-// it lies within the slice. Given by its place: a frame that is handed on costs shifts.
-pub fn fields(frames: &[u8], k: usize, most: u8) -> bool
-    requires { k * frame_bytes + frame_bytes ≤ length frames.now }
-    ensures { result
-        ≡ fields_of most (kind_of (frame_at frames.now k).kind) (frame_at frames.now k) }
+// Whether a frame's fields are those of its kind, where a literal has at most so many decimals.
+pub fn fields(x: Frame, most: u8) -> bool
+    ensures { result ≡ fields_of most (kind_of x.kind) x }
 {
-    let x = frame_at(frames, k);
     let kind = x.kind;
     match kind {
         kinds::LITERAL_BYTE => of_literal(x, most),

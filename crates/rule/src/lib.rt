@@ -19,7 +19,6 @@ mod header; // header.rt: readers of the declarations
 mod reader; // reader.rt: the reader of a whole rule; refusals 1 to 8 and 18
 mod frames; // frames.rt: a frame's fields
 mod scale; // scale.rt: the head of frames
-mod counts; // counts.rt: counts of decimals
 mod powers; // powers.rt: powers of ten
 mod order; // order.rt: refusal 10, and how many references there are
 mod sizes; // sizes.rt: refusal 8
@@ -30,7 +29,6 @@ ghost use Rattle.rule.specs.Order.{order_of};
 ghost use Rattle.rule.specs.Check.{whole_frames, after_order, checked_of};
 ghost use Rattle.rule.specs.CheckTold.{refused, check_told};
 
-pub use counts::{decimal_count, greater_count};
 pub use frames::frame_at;
 pub use limits::FRAME_BYTES;
 use order::Ordered;
@@ -40,14 +38,14 @@ pub use reader::read;
 pub use scale::head_of;
 
 // A refusal: document 01's number, and its place, 0 where none is named.
-#[derive(Drop)]
+#[derive(Clone, Copy)]
 pub struct Refusal {
     pub number: u8,
     pub place: u32,
 }
 
 // A token of a text: its kind, and its place from `start` up to, not including, `end`.
-#[derive(Drop)]
+#[derive(Clone, Copy)]
 pub struct Token {
     pub kind: u8,
     pub start: usize,
@@ -55,7 +53,7 @@ pub struct Token {
 }
 
 // A frame, the document's word for 8 bytes of a rule, by its fields; value is the offset or the literal.
-#[derive(Drop)]
+#[derive(Clone, Copy)]
 pub struct Frame {
     pub kind: u8,
     pub event: u8,
@@ -65,7 +63,7 @@ pub struct Frame {
 }
 
 // The head of frames: how many frames it has, 0 or 1; how many decimals each note has; and the most that a literal may have.
-#[derive(Drop)]
+#[derive(Clone, Copy)]
 pub struct Head {
     pub frames: usize,
     pub decimals: u8,
@@ -73,14 +71,14 @@ pub struct Head {
 }
 
 // What `read` answers: the number of frames, or a refusal.
-#[derive(Drop)]
+#[derive(Clone, Copy)]
 pub enum Reading {
     Frames(u32),
     Refused(Refusal),
 }
 
 // What the check of frames answers.
-#[derive(Drop)]
+#[derive(Clone, Copy)]
 pub enum Checked {
     Accepted,
     Refused(Refusal),

@@ -13,7 +13,7 @@ use crate::parts::{Limit, Place};
 
 // Registers: frames so far, at most 65; whether a depth was over 16; the first bad number's place plus 1, that of the first of too
 // many decimals, and the first bad name's, 0 for none; how many events and notes are declared.
-#[derive(Drop)]
+#[derive(Clone, Copy)]
 pub struct Registers {
     pub count: usize,
     pub deep: bool,
@@ -25,7 +25,7 @@ pub struct Registers {
 }
 
 // A frame's bytes; `word` has the last four, big-endian.
-#[derive(Drop)]
+#[derive(Clone, Copy)]
 pub struct Fields {
     pub kind: u8,
     pub event: u8,
@@ -35,7 +35,7 @@ pub struct Fields {
 }
 
 // A reader of a part went on to a place, or stopped at a token that no rule has there.
-#[derive(Drop)]
+#[derive(Clone, Copy)]
 pub enum Step {
     Go(usize, Registers),
     No(usize),

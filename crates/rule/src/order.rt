@@ -1,21 +1,20 @@
 // Refusal 10: frames that are no rule in postfix order, with the place of the first. One pass; it counts the references too.
-ghost use Rattle.std.specs.Prelude.{◌≡◌, cond, ◌+◌, ◌*◌, ◌^◌, ◌≤◌, ◌<◌, eqb, length};
-ghost use Rattle.rule.specs.Limits.{frame_bytes};
-ghost use Rattle.rule.specs.Frames.{kind_of, frame_at};
+ghost use Rattle.std.specs.Prelude.{◌≡◌, cond, ◌+◌, ◌^◌, ◌<◌, eqb};
+ghost use Rattle.rule.specs.Frames.{kind_of};
 ghost use Rattle.rule.specs.References.{reference_byte, reference_count};
 ghost use Rattle.rule.specs.Order.{step_by, frame_step, order_of};
 
-use crate::{frames, kinds, limits};
+use crate::{Frame, frames, kinds, limits};
 
 // The counts of conditions and of sums, or no rule.
-#[derive(Drop)]
+#[derive(Clone, Copy)]
 pub enum Shape {
     Good(usize, usize),
     Bad,
 }
 
 // A rule with so many references, or the place of the first frame that begins none.
-#[derive(Drop)]
+#[derive(Clone, Copy)]
 pub enum Ordered {
     Fine(usize),
     At(usize),
@@ -67,13 +66,13 @@ fn step(kind: u8, c: usize, k: usize) -> Shape
     }
 }
 
-// The same of the i-th frame by its fields too, where a literal has at most so many decimals. Called by order.
-fn frame_step(frames: &[u8], i: usize, most: u8, c: usize, k: usize) -> Shape
-    requires { (i * frame_bytes + frame_bytes ≤ length frames.now) × ((c < 2 ^ 63) × (k < 2 ^ 63)) }
-    ensures { result ≡ frame_step most (frame_at frames.now i) c k }
+// The same by its fields too, where a literal has at most so many decimals. Called by order.
+fn frame_step(x: Frame, most: u8, c: usize, k: usize) -> Shape
+    requires { (c < 2 ^ 63) × (k < 2 ^ 63) }
+    ensures { result ≡ frame_step most x c k }
 {
-    if frames::fields(frames, i, most) {
-        step(frames[i * limits::FRAME_BYTES], c, k)
+    if frames::fields(x, most) {
+        step(x.kind, c, k)
     } else {
         Shape::Bad
     }
@@ -101,7 +100,8 @@ pub fn order(frames: &[u8], most: u8) -> Ordered
     let mut k = 0;
     let mut m = 0;
     while i < n {
-        let next = frame_step(frames, i, most, c, k);
+        let x = frames::frame_at(frames, i);
+        let next = frame_step(x, most, c, k);
         match next {
             Shape::Good(c2, k2) => {
                 c = c2;
@@ -111,7 +111,7 @@ pub fn order(frames: &[u8], most: u8) -> Ordered
                 return Ordered::At(i);
             }
         }
-        m = counted(frames[i * limits::FRAME_BYTES], m);
+        m = counted(x.kind, m);
         i += 1;
     }
     if (c == 1) & (k == 0) {

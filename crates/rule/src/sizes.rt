@@ -1,6 +1,6 @@
 // Refusal 8: magnitudes over 2^62, in one pass over frames that are a rule. Magnitude is the document's term for a bound on a sum.
 // A magnitude is a term: cells has the amounts, counts the counts of decimals.
-ghost use Rattle.std.specs.Prelude.{◌≡◌, ◌+◌, ◌*◌, ◌^◌, ◌≤◌, ◌<◌, nat_abs, length};
+ghost use Rattle.std.specs.Prelude.{◌≡◌, ◌+◌, ◌*◌, ◌^◌, ◌≤◌, ◌<◌, max, nat_abs, length};
 ghost use Rattle.rule.specs.Limits.{frame_bytes, frame_limit, decimal_limit, magnitude_limit};
 ghost use Rattle.rule.specs.Frames.{kind_of};
 ghost use Rattle.rule.specs.Frames as frame;
@@ -10,10 +10,10 @@ ghost use Rattle.rule.specs.Order.{Orderly};
 ghost use Rattle.rule.specs.Sizes.{pushed, topped, compared, sizes_after, sizes_fit};
 ghost use Rattle.rule.specs.Stack.{terms_of, loaded, capped, Long, Measured, EnoughSums};
 
-use crate::{Frame, decimal_count, frames, greater_count, kinds, limits, powers};
+use crate::{Frame, frames, kinds, limits, powers};
 
 // How many magnitudes the arrays hold, or that one is over the limit.
-#[derive(Drop)]
+#[derive(Clone, Copy)]
 pub enum Size {
     Fits(usize),
     Over,
@@ -35,8 +35,7 @@ fn times(a: u64, b: u64) -> u64
 // A magnitude times a power of ten, or one above the limit where it is over.
 fn raised(m: u64, e: u16) -> u64
     requires { m ≤ magnitude_limit }
-    ensures bounded { result ≤ magnitude_limit + 1 }
-    ensures value { result ≡ capped (m * 10 ^ e) }
+    ensures { result ≡ capped (m * 10 ^ e) }
 {
     if e == 0 {
         return m;
@@ -59,6 +58,19 @@ fn own(v: i32) -> u64
     } else {
         v as u64
     }
+}
+
+fn greatest(a: u16, b: u16) -> u16
+    ensures { result ≡ max a b }
+{
+    if a <= b { b } else { a }
+}
+
+// A byte as a count.
+fn count(d: u8) -> u16
+    ensures { result ≡ d }
+{
+    d as u16
 }
 
 // A magnitude with d decimals onto the k that are below it. Called by the steps below.
@@ -86,7 +98,7 @@ fn sum_top(cells: &mut [u64; 64], counts: &mut [u16; 64], k: usize) -> Size
 {
     let c = counts[k - 2];
     let d = counts[k - 1];
-    let most = greater_count(c, d);
+    let most = greatest(c, d);
     let a = raised(cells[k - 2], most - c);
     let b = raised(cells[k - 1], most - d);
     push(cells, counts, k - 2, a + b, most)
@@ -113,7 +125,7 @@ fn compare_top(cells: &[u64; 64], counts: &[u16; 64]) -> Size
 {
     let c = counts[0];
     let d = counts[1];
-    let most = greater_count(c, d);
+    let most = greatest(c, d);
     let a = raised(cells[0], most - c);
     let b = raised(cells[1], most - d);
     if (a <= limits::MAGNITUDE_LIMIT) & (b <= limits::MAGNITUDE_LIMIT) {
@@ -132,15 +144,9 @@ fn size_step(x: Frame, scale: u8, cells: &mut [u64; 64], counts: &mut [u16; 64],
 {
     let kind = x.kind;
     match kind {
-        kinds::LITERAL_BYTE => push(cells, counts, k, own(x.value), decimal_count(x.event)),
+        kinds::LITERAL_BYTE => push(cells, counts, k, own(x.value), count(x.event)),
         kinds::INSTANCE_BYTE => push(cells, counts, k, limits::INSTANCE_MAGNITUDE, 0),
-        kinds::REFERENCE_BYTE => push(
-            cells,
-            counts,
-            k,
-            limits::REFERENCE_MAGNITUDE,
-            decimal_count(scale),
-        ),
+        kinds::REFERENCE_BYTE => push(cells, counts, k, limits::REFERENCE_MAGNITUDE, count(scale)),
         kinds::ADD_BYTE | kinds::SUBTRACT_BYTE => sum_top(cells, counts, k),
         kinds::MULTIPLY_BYTE => product_top(cells, counts, k),
         kinds::EQUAL_BYTE..=kinds::AT_LEAST_BYTE => compare_top(cells, counts),

@@ -1,5 +1,5 @@
 // Sums and relations of 64-bit numbers.
-ghost use Rattle.std.specs.Prelude.{◌≡◌, ◌*◌, ◌^◌, ◌≤◌, pos, nat_abs, ◌+ℤ◌, ◌-ℤ◌, ◌*ℤ◌};
+ghost use Rattle.std.specs.Prelude.{◌≡◌, ◌*◌, ◌^◌, ◌≤◌, max, pos, nat_abs, ◌+ℤ◌, ◌-ℤ◌, ◌*ℤ◌};
 ghost use Rattle.std.specs.Int.{w64};
 ghost use Rattle.std.proofs.Common.{SFits};
 ghost use Rattle.rule.specs.Limits.{magnitude_limit};
@@ -13,6 +13,19 @@ pub fn widen(a: i32) -> i64
     ensures { result ≡ a }
 {
     a as i64
+}
+
+// A byte as a count of decimals.
+pub fn count(d: u8) -> u16
+    ensures { result ≡ d }
+{
+    d as u16
+}
+
+pub fn greatest(a: u16, b: u16) -> u16
+    ensures { result ≡ max a b }
+{
+    if a <= b { b } else { a }
 }
 
 // A power of ten as a signed number. Called by bring.

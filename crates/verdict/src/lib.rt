@@ -13,15 +13,15 @@ pub use places::occurrence_of;
 
 // An instance number, the document's term: which i.
 #[repr(C)]
-#[derive(Drop)]
+#[derive(Clone, Copy)]
 pub struct Instance(pub u32);
 
 // An occurrence number, the document's term: which line of one event.
-#[derive(Drop)]
+#[derive(Clone, Copy)]
 pub struct Occurrence(pub u32);
 
 // The occurrence that a reference means, or that there is none.
-#[derive(Drop)]
+#[derive(Clone, Copy)]
 pub enum Meant {
     Void,
     At(Occurrence),
@@ -35,7 +35,7 @@ pub const PENDING: u8 = 1;
 pub const VOID: u8 = 2;
 
 // A truth value of Kleene's logic.
-#[derive(Drop)]
+#[derive(Clone, Copy)]
 pub enum Truth {
     True,
     False,
@@ -43,7 +43,7 @@ pub enum Truth {
 }
 
 // The verdict of a settled instance, which a pull hands out.
-#[derive(Drop)]
+#[derive(Clone, Copy)]
 pub enum Verdict {
     True,
     False,
@@ -51,7 +51,7 @@ pub enum Verdict {
 }
 
 // The verdict of an instance, or that it is not settled.
-#[derive(Drop)]
+#[derive(Clone, Copy)]
 pub enum Judgement {
     Unsettled,
     True,

@@ -14,7 +14,7 @@ use crate::{Truth, arithmetic, kleene};
 use rule::kinds;
 
 // The two values on top, brought to the greater count of decimals.
-#[derive(Drop)]
+#[derive(Clone, Copy)]
 pub struct Sides {
     pub left: i64,
     pub right: i64,
@@ -53,7 +53,7 @@ fn both_sides(sums: &[i64; 64], counts: &[u16; 64], k: usize) -> Sides
 {
     let c = counts[k - 2];
     let d = counts[k - 1];
-    let most = rule::greater_count(c, d);
+    let most = arithmetic::greatest(c, d);
     let left = arithmetic::bring(sums[k - 2], most - c);
     let right = arithmetic::bring(sums[k - 1], most - d);
     Sides {

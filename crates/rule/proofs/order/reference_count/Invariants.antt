@@ -1,0 +1,11 @@
+-- `rule::order::reference_count` meets its contract. Assumes nothing.
+use mathlib.Core.Path.{◌≡◌}
+use Prim.Native.Nat.{◌≤◌, ◌-◌}
+use Rattle.rule.specs.References.{references_to, one_more}
+use Rattle.rule.proofs.order.reference_count.Given as goal
+
+abbrev pub invariant-loop-i : goal.invariant-loop-i
+invariant-loop-i l = (l.i ≤ l.n) × (references_to one_more l.frames 0 l.i ≡ l.m)
+
+abbrev pub decreases-loop-i : goal.decreases-loop-i
+decreases-loop-i l = l.n - l.i
