@@ -19,6 +19,14 @@ pub slice_bounds-result-count-2 : goal.slice_bounds-result-count-2
 slice_bounds-result-count-2 c =
     omega (arith, line-within c.args.log.now c.args.at _ _ _ (sym c.line_at.ensures ∙ c.in-Line.is))
 
+pub slice_bounds-result-start-2 : goal.slice_bounds-result-start-2
+slice_bounds-result-start-2 c =
+    omega (arith, line-within c.args.log.now c.args.at _ _ _ (sym c.line_at.ensures ∙ c.in-Line.is))
+
+pub slice_bounds-result-end-2 : goal.slice_bounds-result-end-2
+slice_bounds-result-end-2 c =
+    omega (arith, line-within c.args.log.now c.args.at _ _ _ (sym c.line_at.ensures ∙ c.in-Line.is))
+
 pub returns : goal.returns
 returns c =
     let log = c.args.log in

@@ -32,32 +32,32 @@ whole-requires c = refl
 
 pub overflow_cast-p : goal.overflow_cast-p
 overflow_cast-p c =
-    let j = starts c.args.text.now (replicate 12 0) ∙ (c.whole.ensures ∙ ap (λ (q : Step). reader_answer q c.whole.new.1.0 c.whole.new.1.1.0) c.in-No.is) in
+    let j = starts c.args.text.now (replicate 12 0) ∙ (c.whole.ensures ∙ ap (λ (q : Step). reader_answer q c.whole.new.names c.whole.new.buf) c.in-No.is) in
     let o = subst (λ (a : MachineAnswer Mem). OkA c.args.text.now (length c.args.text.now) a) j (judged_ok c.args.text.now) in
     omega arith
 
 pub slice_bounds-conclude-end : goal.slice_bounds-conclude-end
 slice_bounds-conclude-end c =
-    let j = starts c.args.text.now (replicate 12 0) ∙ (c.whole.ensures ∙ ap (λ (q : Step). reader_answer q c.whole.new.1.0 c.whole.new.1.1.0) c.in-Go.is) in
+    let j = starts c.args.text.now (replicate 12 0) ∙ (c.whole.ensures ∙ ap (λ (q : Step). reader_answer q c.whole.new.names c.whole.new.buf) c.in-Go.is) in
     let o = subst (λ (a : MachineAnswer Mem). OkA c.args.text.now (length c.args.text.now) a) j (judged_ok c.args.text.now) in
     sym (kept-long _ _ _ _ o)
 
 pub conclude-requires : goal.conclude-requires
 conclude-requires c =
-    let j = starts c.args.text.now (replicate 12 0) ∙ (c.whole.ensures ∙ ap (λ (q : Step). reader_answer q c.whole.new.1.0 c.whole.new.1.1.0) c.in-Go.is) in
+    let j = starts c.args.text.now (replicate 12 0) ∙ (c.whole.ensures ∙ ap (λ (q : Step). reader_answer q c.whole.new.names c.whole.new.buf) c.in-Go.is) in
     let o = subst (λ (a : MachineAnswer Mem). OkA c.args.text.now (length c.args.text.now) a) j (judged_ok c.args.text.now) in
     let l = c.if-text-gt-TEXT_LIMIT.false in
     (kept-long _ _ _ _ o, c.if-frames-ne-BUFFER_BYTES.false, (let y = kept-name _ _ _ _ o in omega arith), (let y = kept-number _ _ _ _ o in omega arith), (let y = kept-decimals _ _ _ _ o in omega arith))
 
 pub returns-in-No : goal.returns-in-No
 returns-in-No c =
-    let j = starts c.args.text.now (replicate 12 0) ∙ (c.whole.ensures ∙ ap (λ (q : Step). reader_answer q c.whole.new.1.0 c.whole.new.1.1.0) c.in-No.is) in
+    let j = starts c.args.text.now (replicate 12 0) ∙ (c.whole.ensures ∙ ap (λ (q : Step). reader_answer q c.whole.new.names c.whole.new.buf) c.in-No.is) in
     let e = three c.args.text.now c.args.frames.now _ c.if-frames-ne-BUFFER_BYTES.false c.if-text-eq0.false c.if-text-gt-TEXT_LIMIT.false j in
     (c.refuse-in-No.ensures ∙ sym (ap (λ (x : ReadAnswer × List ℕ). x.0) e), sym (ap (λ (x : ReadAnswer × List ℕ). x.1) e))
 
 pub returns-in-Go : goal.returns-in-Go
 returns-in-Go c =
-    let j = starts c.args.text.now (replicate 12 0) ∙ (c.whole.ensures ∙ ap (λ (q : Step). reader_answer q c.whole.new.1.0 c.whole.new.1.1.0) c.in-Go.is) in
+    let j = starts c.args.text.now (replicate 12 0) ∙ (c.whole.ensures ∙ ap (λ (q : Step). reader_answer q c.whole.new.names c.whole.new.buf) c.in-Go.is) in
     let e = three c.args.text.now c.args.frames.now _ c.if-frames-ne-BUFFER_BYTES.false c.if-text-eq0.false c.if-text-gt-TEXT_LIMIT.false j in
-    let s = c.conclude.ensures c.whole.new.1.0 in
+    let s = c.conclude.ensures c.whole.new.names in
     (s.0 ∙ sym (ap (λ (x : ReadAnswer × List ℕ). x.0) e), s.1 ∙ sym (ap (λ (x : ReadAnswer × List ℕ). x.1) e))

@@ -26,7 +26,7 @@ returns-in-Over c =
     let s = c.args.frames.now in
     let x = c.frame_at-x in
     let g = c.size_step-size in
-    let e : size_at c.args.scale s (l.i + 1) ≡ over = size_again c.args.scale s l.cells l.counts _ _ l.i l.k x.result g.result l.invariant.1.1 x.ensures g.ensures.1 ∙ ap (loaded _ _) c.in-Over.is in
+    let e : size_at c.args.scale s (l.i + 1) ≡ over = size_again c.args.scale s l.cells l.counts _ _ l.i l.k x.result g.result l.invariant.1.1 x.ensures g.ensures.result_after ∙ ap (loaded _ _) c.in-Over.is in
     sym (ap is_fits (over-at c.args.scale s (l.i + 1) (frame_count s) (omega arith) e))
 
 pub loop-i-preserved : goal.loop-i-preserved
@@ -35,7 +35,7 @@ loop-i-preserved c =
     let s = c.args.frames.now in
     let x = c.frame_at-x in
     let g = c.size_step-size in
-    (omega arith, (g.ensures.0, size_again c.args.scale s l.cells l.counts _ _ l.i l.k x.result g.result l.invariant.1.1 x.ensures g.ensures.1 ∙ ap (loaded _ _) c.in-Fits.is))
+    (omega arith, (g.ensures.kept, size_again c.args.scale s l.cells l.counts _ _ l.i l.k x.result g.result l.invariant.1.1 x.ensures g.ensures.result_after ∙ ap (loaded _ _) c.in-Fits.is))
 
 pub returns : goal.returns
 unfolding sizes_fit

@@ -2,6 +2,7 @@
 use mathlib.Core.Bool.{false}
 use Rattle.rule.specs.Token.{token_at, clause_at}
 use Rattle.rule.proofs.TokenLists.{spans-of}
+use native.Mathlib.Omega.{arith}
 use Rattle.rule.proofs.tokens.clause_at.Goals as goal
 
 -- `rule::tokens::clause_at` meets its contract: the word and the number are those of `clause_at`. Assumes nothing.
@@ -21,3 +22,9 @@ pub returns : goal.returns
 unfolding clause_at
 returns c =
     rw (← c.token_at-t.ensures, ← c.same_bytes.ensures, c.if-same_bytes.false)
+
+pub slice_bounds-same_bytes-start : goal.slice_bounds-same_bytes-start
+slice_bounds-same_bytes-start c = let s = spans-of _ _ _ _ c.requires c.token_at-t.ensures in omega arith
+
+pub slice_bounds-same_bytes-end : goal.slice_bounds-same_bytes-end
+slice_bounds-same_bytes-end c = let s = spans-of _ _ _ _ c.requires c.token_at-t.ensures in omega arith

@@ -1,0 +1,25 @@
+use Prim.Native.Nat.{◌+◌, ◌*◌, ◌-◌}
+use lib.ListN.{length}
+use Rattle.rule.specs.Machine as machine
+use Rattle.rule.proofs.sums.+absolute_adds_factor_muls_parens_prod_sum.Given as goal
+
+abbrev pub decreases-absolute : goal.decreases-absolute
+decreases-absolute l = 4 * (length l.text.now - l.at)
+
+abbrev pub decreases-adds : goal.decreases-adds
+decreases-adds l = 4 * (length l.text.now - l.at)
+
+abbrev pub decreases-factor : goal.decreases-factor
+decreases-factor l = 4 * (length l.text.now - l.at)
+
+abbrev pub decreases-muls : goal.decreases-muls
+decreases-muls l = 4 * (length l.text.now - l.at)
+
+abbrev pub decreases-parens : goal.decreases-parens
+decreases-parens l = 4 * (length l.text.now - l.at) + 3
+
+abbrev pub decreases-prod : goal.decreases-prod
+decreases-prod l = 4 * (length l.text.now - l.at) + 1
+
+abbrev pub decreases-sum : goal.decreases-sum
+decreases-sum l = 4 * (length l.text.now - l.at) + 2
