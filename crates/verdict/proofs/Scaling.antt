@@ -14,24 +14,24 @@ use Rattle.verdict.specs.Value.{times_z, eq_z, holds}
 
 -- ---- tests of numbers that stand in the same order
 module _ (a b p q : ℕ) (below : a < b → p < q) (above : b < a → q < p) (same : a ≡ b → p ≡ q) where
-  at_least : b ≤ a → q ≤ p
-  at_least h = elim (dec_lt b a) [ yes k ↦ omega (arith, above k) | no k ↦ omega (arith, same (omega arith)) ]
+  at_least_lem : b ≤ a → q ≤ p
+  at_least_lem h = elim (dec_lt b a) [ yes k ↦ omega (arith, above k) | no k ↦ omega (arith, same (omega arith)) ]
 
-  at_most : a ≤ b → p ≤ q
-  at_most h = elim (dec_lt a b) [ yes k ↦ omega (arith, below k) | no k ↦ omega (arith, same (omega arith)) ]
+  at_most_lem : a ≤ b → p ≤ q
+  at_most_lem h = elim (dec_lt a b) [ yes k ↦ omega (arith, below k) | no k ↦ omega (arith, same (omega arith)) ]
 
   lt_kept : ltb p q ≡ ltb a b
   lt_kept =
       elim (dec_lt a b) [
         | yes h ↦ lt-ltb p q (below h) ∙ sym (lt-ltb a b h)
-        | no h ↦ le-ltb p q (at_least (omega arith)) ∙ sym (le-ltb a b (omega arith))
+        | no h ↦ le-ltb p q (at_least_lem (omega arith)) ∙ sym (le-ltb a b (omega arith))
       ]
 
   le_kept : leb p q ≡ leb a b
   le_kept =
       elim (dec_lt b a) [
         | yes h ↦ lt-leb p q (above h) ∙ sym (lt-leb a b h)
-        | no h ↦ le-leb p q (at_most (omega arith)) ∙ sym (le-leb a b (omega arith))
+        | no h ↦ le-leb p q (at_most_lem (omega arith)) ∙ sym (le-leb a b (omega arith))
       ]
 
   differ : (a ≡ b → ⊥) → p ≡ q → ⊥

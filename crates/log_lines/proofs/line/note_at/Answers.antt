@@ -2,6 +2,7 @@
 use mathlib.Core.Path.{sym, ap, ◌∙◌}
 use native.Mathlib.Omega.{arith}
 use mir.Facts.{to_z-of_z}
+use mir.Syntax.{w32}
 use Rattle.log_lines.specs.declared.line.Noted.TheVariants as noteds
 use Rattle.log_lines.proofs.Pairs.{noted-of-bytes, noted-of-bad}
 use borrow.Author.Rules.{sfits_of}
@@ -38,7 +39,7 @@ returns-in_default-pair_at-3 c =
 pub returns : goal.returns
 returns c =
     let args = c.args in
-    ap noteds.Note (to_z-of_z (sfits_of c.word.type_inv) ∙ c.word.ensures)
+    ap noteds.Note (to_z-of_z {w = w32} (sfits_of c.word.type_inv) ∙ c.word.ensures)
     ∙ sym
     (noted-of-bytes args.bytes.now args.at
     (sym c.pair_at.ensures ∙ c.in-Byte.is)
