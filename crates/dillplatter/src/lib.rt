@@ -127,7 +127,7 @@ pub extern "C" fn dillplatter_pull(state: State, window: &[i32], report: &mut [u
 // length, is the buffer before the call and the view after it. Answers the refusal's number, 0 where nothing is refused.
 #[unsafe(no_mangle)]
 pub extern "C" fn dillplatter_view<'a>(part: &mut &'a [u8]) -> u32
-    ensures { (part.new.ptr ≡ part.old.ptr)
+    ensures { (part.new.ref_ptr ≡ part.old.ref_ptr)
         × ((part.new.now ≡ (view_def part.old.now).bytes)
         × (result ≡ (view_def part.old.now).number)) }
 {
