@@ -23,7 +23,6 @@ use Rattle.checker.specs.Sights.{ShowsAll, Fillable, header_of, report_to}
 use Rattle.checker.specs.Offer.{Offerable}
 use Rattle.checker.specs.Parts.{state_of, pulled_of}
 use Rattle.checker.specs.declared.PullAnswer.{PullAnswer}
-use Rattle.checker.specs.declared.PullAnswer.TheVariants as PullAnswer
 use Rattle.checker.specs.declared.pulling.PulledFields.{PulledFields}
 use Rattle.checker.specs.declared.parts.Fields.{Fields}
 use Rattle.checker.specs.declared.State.{State}

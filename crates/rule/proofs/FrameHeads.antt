@@ -1,19 +1,19 @@
 -- A rule and its body: the head carries the scale, and what stands behind it is a condition by that scale. Assumes nothing.
 use mathlib.Core.Path.{◌≡◌, refl, sym, ap, ◌∙◌, subst}
-use mathlib.Core.Bool.{Bool, true, false, ◌&&◌, cond}
+use mathlib.Core.Bool.{Bool, true, false, ◌&&◌}
 use mathlib.Core.Option.{Option, none, some}
 use mathlib.Core.List.{List, [], ◌∷◌, ◌++◌, append_assoc, append-nil}
-use Prim.Native.Nat.{ℕ, zero, suc, ◌+◌, ◌-◌, ◌*◌, ◌%◌, ◌≤◌, ◌<◌}
+use Prim.Native.Nat.{ℕ, zero, suc, ◌-◌, ◌*◌, ◌%◌, ◌≤◌}
 use native.Mathlib.Omega.{arith}
-use lib.Dec.{T, leb, eqb, leb→le, eqb→eq}
-use lib.IntN.{pos, nat_abs}
-use lib.ListN.{length, get_or, take, drop, length-drop}
+use lib.Dec.{leb, eqb}
+use lib.IntN.{nat_abs}
+use lib.ListN.{length, take, drop, length-drop}
 use lib.Seq.{take_all}
 use borrow.Author.Tests.{leb-true, le-leb, eqb-true}
 use Rattle.numbers.proofs.Bools.{and-true, true-false}
 use Rattle.numbers.proofs.Ints.{nat_abs_zero}
 use Rattle.rule.specs.Limits.{decimal_limit, frame_bytes}
-use Rattle.rule.specs.Frames.{Kind, kind_of, scale_byte, frame, bare, frame_at, frame_count, Bytes, empty, byte}
+use Rattle.rule.specs.Frames.{Kind, kind_of, scale_byte, bare, frame_at, frame_count, Bytes, empty, byte}
 use Rattle.rule.specs.Tree.{Sum, literal, instance, reference, arithmetic, abs, Cond, relation, not, connective, RuleTree, LimitsC, Limits, postfix_s, postfix_c, postfix, bytes_of, IsRule}
 use Rattle.rule.specs.Scale.{note_decimals, literal_decimals, ScaleFits, head_of, head_frames, headed, scale_of, head_fields, head_fine, body}
 use Rattle.rule.specs.Build.{Trees, trees, built, trees_at, first_c, tree_of}

@@ -1,29 +1,25 @@
 -- The place of refusal 10 over a list of frames. Assumes nothing.
 use mathlib.Core.Path.{◌≡◌, refl, sym, ap, ◌∙◌, subst}
-use mathlib.Core.Logic.{◌↔◌}
 use mathlib.Core.Bool.{Bool, true, false, ◌&&◌, cond}
 use mathlib.Core.Option.{Option}
-use mathlib.Core.List.{List, [], ◌∷◌, ◌++◌, append_assoc, append-nil}
-use Prim.Native.Nat.{ℕ, zero, suc, ◌+◌, ◌-◌, ◌≤◌, ◌<◌}
-use native.Mathlib.Decide.{dec_lt}
+use mathlib.Core.List.{List, [], ◌∷◌, ◌++◌}
+use Prim.Native.Nat.{ℕ, zero, suc, ◌≤◌, ◌<◌}
 use native.Mathlib.Nat.{le_refl}
 use native.Mathlib.Omega.{arith}
 use lib.Dec.{eqb}
-use lib.ListN.{length, take, drop}
-use lib.Seq.{take-length, take-add}
+use lib.ListN.{length, take}
+use lib.Seq.{take-length}
 use borrow.Author.Tests.{le-leb}
-use Rattle.rule.specs.Frames.{Source, Arithmetic, Relation, Connective, Kind, kind_of, bare, frame_at, frame_count, Bytes}
+use Rattle.rule.specs.Frames.{Source, Arithmetic, Relation, Connective, Kind, kind_of, bare, frame_at, frame_count}
 use Rattle.rule.specs.References.{reference_count}
 use Rattle.rule.specs.Scale.{literal_decimals}
 use Rattle.rule.specs.Order.{frame_step, Prefix, viable, stuck, order_at, order_next, prefix_at, ended, order_of}
 use Rattle.rule.specs.declared.Frame.{Frame}
-use Rattle.rule.specs.declared.order.Ordered.{Ordered}
 use Rattle.rule.specs.declared.order.Ordered.TheVariants.{Fine, At}
 use Rattle.rule.specs.declared.order.Shape.{Shape}
 use Rattle.rule.specs.declared.order.Shape.TheVariants.{Good, Bad}
-use Rattle.rule.proofs.FrameOrder.{fine-order}
-use Rattle.rule.proofs.FrameLists.{frames_of, frames-length, runs, runs_append, AllOctets, all_append, all_take, octets_in}
-use Rattle.rule.proofs.FrameParsing.{ordered, shape_of, order-to, order-all, fine-runs, bad-stays, BodyRule, rule-of}
+use Rattle.rule.proofs.FrameLists.{frames_of, frames-length, runs, runs_append, AllOctets, all_append, all_take}
+use Rattle.rule.proofs.FrameParsing.{ordered, shape_of, order-to, order-all, bad-stays, BodyRule, rule-of}
 use Rattle.rule.proofs.FrameRules.{order-rule, rule-order, bare-octets}
 
 order-at-stuck : (i : ℕ) (h : Shape) (p : ℕ) → order_at i h ≡ stuck p → i ≡ p

@@ -1,7 +1,7 @@
 -- The machine's answer to a list of tokens says what the derivations say. Assumes nothing.
 use mathlib.Core.Path.{◌≡◌, refl, ap, sym, ◌∙◌, subst}
 use mathlib.Core.List.{List, [], ◌∷◌, ◌++◌}
-use Prim.Native.Nat.{ℕ, ◌+◌}
+use Prim.Native.Nat.{ℕ}
 use Rattle.rule.specs.declared.Token.{Token}
 use Rattle.rule.specs.Grammar.{Word, place, word_of, words}
 use Rattle.rule.specs.Machine.{Act, Sym, unit, ands, ors, arrow, factor, muls, adds, rel, want, name_of, names_of, clause, clause-number, ref-event, ref-index, ref_shift, ref-by, doing, Next, stuck, on, MachineAnswer, accepted, refused, resume, step, finish, run}

@@ -3,10 +3,9 @@
 use mathlib.Core.Path.{◌≡◌, refl, ap}
 use mathlib.Core.Logic.{◌↔◌}
 use mathlib.Core.List.{List, []}
-use Prim.Native.Nat.{ℕ, suc, ◌*◌}
+use Prim.Native.Nat.{ℕ, ◌*◌}
 use native.Mathlib.Omega.{arith}
-use native.Mathlib.Decide.{dec_lt}
-use lib.ListN.{length, take, drop, take-append-drop}
+use lib.ListN.{length, take}
 use Rattle.rule.specs.Limits.{frame_bytes}
 use Rattle.rule.specs.Frames.{Bytes}
 use Rattle.rule.specs.Grammar.{Rule}
@@ -14,7 +13,7 @@ use Rattle.rule.specs.Tree.{RuleTree, IsRule, references, magnitudes, NoneExceed
 use Rattle.rule.specs.Measure.{frames}
 use Rattle.rule.specs.Check.{checked_of}
 use Rattle.rule.proofs.CheckNumbers.{number_of}
-use Rattle.rule.specs.Opening.{Whole, PlaceOf10, Opening, refused_9, refused_10, refused_7, refused_8, accepted}
+use Rattle.rule.specs.Opening.{Whole, Opening, refused_9, refused_10, refused_7, refused_8, accepted}
 use Rattle.rule.proofs.ReaderFrames.{tree_bytes}
 use Rattle.rule.specs.Answers.{Within}
 use Rattle.rule.specs.CheckTold.{CheckAnswer}

@@ -1,6 +1,6 @@
 -- Names stand at name tokens and are letters, numbers stand at number tokens and are digits, and literals at decimals too. Assumes
 -- nothing.
-use mathlib.Core.Path.{◌≡◌, refl, ap, sym, ◌∙◌, subst}
+use mathlib.Core.Path.{◌≡◌, ap, sym, ◌∙◌, subst}
 use mathlib.Core.Logic.{inl, inr}
 use mathlib.Core.List.{List, [], ◌∷◌, Memᴰ}
 use Prim.Native.Nat.{ℕ}
@@ -19,7 +19,7 @@ use Rattle.rule.proofs.TokenRuns as runs
 use Rattle.rule.proofs.TokenRuns.{decimal-digits}
 use Rattle.rule.specs.Spelling.{TokenOf, NumberOf, of_number, of-decimal, name_at, letters}
 use Rattle.rule.proofs.FrameDrafts.{All, all_join}
-use Rattle.rule.proofs.SpellLists.{all_in, all_map, all_own}
+use Rattle.rule.proofs.SpellLists.{all_map, all_own}
 use Rattle.rule.proofs.GrammarMeasures.{note-name, note-number, names-read, numbers-read}
 use Rattle.rule.proofs.GrammarRules.{taken}
 use Rattle.rule.proofs.GrammarKeeps.{Numeral, At, Holds, Keeper, run-keeps}

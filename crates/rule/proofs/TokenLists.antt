@@ -2,17 +2,17 @@
 -- `tokens_from` is the next one and those after it. Assumes nothing.
 use mathlib.Core.Path.{◌≡◌, refl, ap, sym, ◌∙◌}
 use mathlib.Core.Logic.{◌↔◌}
-use mathlib.Core.Bool.{Bool, true, false, ◌&&◌, cond}
+use mathlib.Core.Bool.{Bool, true, false, cond}
 use mathlib.Core.List.{List, [], ◌∷◌}
 use Prim.Native.Nat.{ℕ, zero, suc, ◌+◌, ◌-◌, ◌≤◌, ◌<◌}
 use native.Mathlib.Omega.{arith}
 use borrow.Author.Tests.{eq-eqb, ne_eqb, eqb-false}
-use lib.Dec.{eqb, leb}
+use lib.Dec.{eqb}
 use lib.ListN.{length, take, drop, get_or, length-drop}
 use lib.Seq.{get_or-drop}
 use Rattle.rule.specs.Class.{letter, digit, blank, mark, class_of, span}
-use Rattle.rule.specs.Token.{end_kind, name_kind, number_kind, events_kind, notes_kind, index_kind, abs_kind, events_word, notes_word, index_word, abs_word, scale_word, same, word_kind, longest_mark, mark_width, fraction, fraction_of, digits_kind, token_kind, width_of, past, token_here, token_at, IsWord, Rising}
-use Rattle.rule.specs.Token.{Mode, declares, clause, body, next, takes_points, spelling, clause_at, as_scale, token_in, tokens_in, tokens_from}
+use Rattle.rule.specs.Token.{end_kind, name_kind, events_kind, notes_kind, index_kind, abs_kind, events_word, notes_word, index_word, abs_word, same, word_kind, longest_mark, mark_width, fraction_of, token_kind, width_of, past, token_here, token_at, IsWord, Rising}
+use Rattle.rule.specs.Token.{Mode, declares, clause, body, next, takes_points, clause_at, as_scale, token_in, tokens_in, tokens_from}
 use Rattle.rule.specs.declared.Token.{Token}
 use Rattle.rule.proofs.TokenSpans.{span_le, span_class}
 use Rattle.rule.proofs.TokenFractions.{fraction-of_le}

@@ -4,7 +4,7 @@ use mathlib.Core.List.{List, [], ◌∷◌}
 use Prim.Native.Nat.{ℕ}
 use lib.IntN.{ℤ, pos, negsuc}
 use Rattle.rule.specs.Frames.{equal, less, more, or, kind_of}
-use Rattle.rule.specs.Tree.{Sum, literal, reference, abs, Cond, relation, connective, RuleTree, postfix, bytes_of}
+use Rattle.rule.specs.Tree.{Sum, literal, reference, abs, relation, connective, RuleTree, postfix, bytes_of}
 use Rattle.rule.proofs.Laws.{latency, unscaled}
 use Rattle.verdict.specs.Pass.{body_judgement, judgement_of}
 use Rattle.verdict.specs.declared.Judgement.{Judgement}

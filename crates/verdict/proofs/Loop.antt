@@ -6,9 +6,8 @@ use native.Mathlib.Numerals.{add-one}
 use native.Mathlib.Omega.{arith}
 use lib.IntN.{ℤ, pos, nat_abs}
 use lib.ListN.{length, get_or}
-use Rattle.rule.specs.Limits.{frame_limit, decimal_limit, reference_magnitude}
+use Rattle.rule.specs.Limits.{decimal_limit, reference_magnitude}
 use Rattle.rule.specs.Frames.{kind_of, frame_at, frame_count}
-use Rattle.rule.specs.Decimals.{Term}
 use Rattle.rule.specs.Order.{prefix_at}
 use Rattle.rule.specs.Stack.{EnoughSums, EnoughConds, Long, all_decimals}
 use Rattle.rule.specs.declared.Frame.{Frame}

@@ -7,7 +7,7 @@ use lib.Dec.{eqb}
 use lib.IntN.{ℤ, pos, negsuc}
 use lib.ListN.{replicate}
 use Rattle.rule.specs.Frames.{add, multiply, equal, less, more, or, kind_of}
-use Rattle.rule.specs.Tree.{Sum, literal, reference, arithmetic, abs, Cond, relation, connective, RuleTree, postfix, bytes_of}
+use Rattle.rule.specs.Tree.{Sum, literal, reference, arithmetic, abs, relation, connective, RuleTree, postfix, bytes_of}
 use Rattle.rule.specs.Order.{order_of}
 use Rattle.rule.specs.References.{reference_count}
 use Rattle.rule.specs.Sizes.{sizes_fit}

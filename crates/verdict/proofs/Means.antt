@@ -1,9 +1,8 @@
 -- What judge answers, in the words of trees. Assumes nothing.
 use mathlib.Core.Path.{◌≡◌, refl, sym, ap, ◌∙◌, subst}
-use mathlib.Core.Bool.{Bool, true, false, ◌&&◌, cond}
-use mathlib.Core.Option.{Option, none, some}
+use mathlib.Core.Bool.{Bool, true, false}
 use mathlib.Core.List.{List}
-use Prim.Native.Nat.{ℕ, suc, ◌+◌, ◌≤◌, ◌<◌}
+use Prim.Native.Nat.{ℕ, suc, ◌+◌, ◌≤◌}
 use native.Mathlib.Omega.{arith}
 use lib.Dec.{leb, eqb}
 use lib.IntN.{ℤ, pos}
@@ -11,11 +10,11 @@ use lib.ListN.{length, get_or, drop, length-drop}
 use lib.Seq.{get_or-drop}
 use borrow.Author.Tests.{leb-true}
 use Rattle.numbers.proofs.Bools.{and-true}
-use Rattle.rule.specs.Frames.{scale_byte, frame_at, frame_count}
-use Rattle.rule.specs.Tree.{Reference, RuleTree, IsRule}
+use Rattle.rule.specs.Frames.{scale_byte, frame_at}
+use Rattle.rule.specs.Tree.{Reference, IsRule}
 use Rattle.rule.specs.Scale.{note_decimals, literal_decimals, head_frames, headed, scale_of, head_fine, body}
 use Rattle.rule.specs.Order.{InOrder}
-use Rattle.rule.specs.References.{reference_byte, reference_of}
+use Rattle.rule.specs.References.{reference_of}
 use Rattle.rule.specs.Build.{tree_of}
 use Rattle.rule.specs.Check.{checked_of}
 use Rattle.rule.specs.CheckTold as checking

@@ -10,7 +10,7 @@ use lib.IntN.{ℤ, pos}
 use lib.ListN.{length, get_or}
 use Rattle.numbers.proofs.Bools.{true-false}
 use Rattle.rule.specs.Frames.{Source, Arithmetic, Relation, Connective, Kind, kind_byte, kind_of, frame_at, frame_count, fields_of}
-use Rattle.rule.specs.Tree.{Reference, Sum, literal, instance, reference, arithmetic, abs, Cond, relation, connective, references_s, references_c}
+use Rattle.rule.specs.Tree.{Reference, Sum, arithmetic, abs, Cond, relation, connective, references_s, references_c}
 use Rattle.rule.specs.Decimals.{Term, term}
 use Rattle.rule.specs.References.{reference_byte, reference_of}
 use Rattle.rule.specs.Order.{Prefix, viable, stuck, prefix_at, InOrder}

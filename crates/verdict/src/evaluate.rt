@@ -1,11 +1,12 @@
 // The value of accepted frames at one instance: one pass, with a stack of sums and a stack of conditions.
-ghost use Rattle.std.specs.Prelude.{◌≡◌, List, ℕ, ◌<◌, pos, length};
+ghost use Rattle.std.specs.Prelude.{◌≡◌, List, ℕ, ◌<◌, ℤ, pos, length};
 ghost use Rattle.rule.specs.Limits.{frame_limit};
 ghost use Rattle.rule.specs.Frames.{kind_of, relation_at};
 ghost use Rattle.rule.specs.Stack.{terms_of, Long};
 ghost use Rattle.verdict.specs.Marks.{Judgeable};
-ghost use Rattle.verdict.specs.Pass.{with_reference, with_relation, pass_by, body_judgement, judgement_of};
-ghost use Rattle.verdict.specs.Stacks.{pass_of, SmallSides, Begun, BodyJudgeable};
+ghost use Rattle.verdict.specs.Pass.{with_sums, with_conds, with_reference, with_relation, pass_by};
+ghost use Rattle.verdict.specs.Pass.{body_judgement, judgement_of};
+ghost use Rattle.verdict.specs.Stacks.{pass_of, truths_of, SmallSides, Begun, BodyJudgeable};
 
 use crate::{Instance, Judgement, PENDING, PRESENT, arithmetic, judgements, kleene, stacks};
 use rule::{FRAME_BYTES, Frame, kinds};
@@ -19,6 +20,34 @@ pub struct Top {
     pub missing: bool,
     pub pending: bool,
     pub present: bool,
+}
+
+// With another number of sums. Field by field, here and below: a whole copy with one field changed costs more.
+fn with_sums(top: Top, n: usize) -> Top
+    ensures { (ss : List ℤ) (ds cs : List ℕ) → pass_of ss ds cs result
+        ≡ with_sums (pass_of ss ds cs top) (terms_of (pos 0) ss ds n) }
+{
+    Top {
+        sums: n,
+        conds: top.conds,
+        missing: top.missing,
+        pending: top.pending,
+        present: top.present,
+    }
+}
+
+// With another number of conditions.
+fn with_conds(top: Top, n: usize) -> Top
+    ensures { (ss : List ℤ) (ds cs : List ℕ) → pass_of ss ds cs result
+        ≡ with_conds (pass_of ss ds cs top) (truths_of cs n) }
+{
+    Top {
+        sums: top.sums,
+        conds: n,
+        missing: top.missing,
+        pending: top.pending,
+        present: top.present,
+    }
 }
 
 // A reference with its mark and its note, which has d decimals. Called by step.
@@ -94,39 +123,38 @@ fn step(
     let kind = x.kind;
     let k = top.sums;
     let c = top.conds;
-    let mut next = top;
     match kind {
         kinds::LITERAL_BYTE => {
             let d = arithmetic::count(x.event);
-            next.sums = stacks::put_sum(sums, counts, k, arithmetic::widen(x.value), d);
-            next
+            let n = stacks::put_sum(sums, counts, k, arithmetic::widen(x.value), d);
+            with_sums(top, n)
         }
         kinds::INSTANCE_BYTE => {
-            next.sums = stacks::put_sum(sums, counts, k, i.0 as i64, 0); // only here an instance number is a value
-            next
+            let n = stacks::put_sum(sums, counts, k, i.0 as i64, 0); // only here an instance number is a value
+            with_sums(top, n)
         }
         kinds::REFERENCE_BYTE => {
             let d = arithmetic::count(scale);
             put_reference(d, sums, counts, top, mark, note)
         }
         kinds::ADD_BYTE..=kinds::MULTIPLY_BYTE => {
-            next.sums = stacks::join_sums(kind, sums, counts, k);
-            next
+            let n = stacks::join_sums(kind, sums, counts, k);
+            with_sums(top, n)
         }
         kinds::ABSOLUTE_BYTE => {
-            next.sums = stacks::size_sum(sums, counts, k);
-            next
+            let n = stacks::size_sum(sums, counts, k);
+            with_sums(top, n)
         }
         kinds::EQUAL_BYTE..=kinds::AT_LEAST_BYTE => put_relation(kind, sums, counts, conds, top),
         kinds::NOT_BYTE => {
-            next.conds = stacks::not_cond(conds, c);
-            next
+            let n = stacks::not_cond(conds, c);
+            with_conds(top, n)
         }
         kinds::AND_BYTE..=kinds::IMPLIES_BYTE => {
-            next.conds = stacks::join_conds(kind, conds, c);
-            next
+            let n = stacks::join_conds(kind, conds, c);
+            with_conds(top, n)
         }
-        _ => next, // no accepted frame has another kind
+        _ => top, // no accepted frame has another kind
     }
 }
 

@@ -1,5 +1,5 @@
 -- `checker::base::starts_at` meets its contract. Assumes nothing.
-use Rattle.std.proofs.Common.{◌-◌, refl, arith, rules}
+use Rattle.std.proofs.Common.{refl, arith, rules}
 use Rattle.rule.proofs.Laws.{bytes-by}
 use Rattle.checker.proofs.CodeBase.{startable, pass-next, pass-found}
 use Rattle.checker.proofs.base.starts_at.Goals as goal

@@ -1,5 +1,5 @@
 -- `checker::found::look` meets its contract. The invariant: the arrays show each reference passed. The measure is what is left of the frames.
-use Rattle.std.proofs.Common.{◌≡◌, ◌-◌, arith, to_z-of_z, w32, to_z, of_z, rules}
+use Rattle.std.proofs.Common.{◌≡◌, arith, to_z-of_z, w32, to_z, of_z, rules}
 use Rattle.checker.specs.Found.{found_in_window}
 use Rattle.checker.proofs.PullFound.{few-frames, limited, looked-next, looked-last}
 use Rattle.checker.proofs.found.look.Goals as goal

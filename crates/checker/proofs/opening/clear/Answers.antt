@@ -1,5 +1,5 @@
 -- `checker::opening::clear` meets its contract. Assumes nothing.
-use Rattle.std.proofs.Common.{◌≡◌, ℕ, ◌+◌, ◌-◌, ◌≤◌, length, take, replicate, pos, sym, refl, ap, ◌∙◌, arith, length-set, take_all}
+use Rattle.std.proofs.Common.{◌≡◌, ℕ, ◌+◌, ◌≤◌, length, replicate, pos, sym, refl, ap, ◌∙◌, arith, length-set, take_all}
 use Rattle.checker.proofs.CodeCopy.{clear_step}
 use Rattle.checker.proofs.opening.clear.Goals as goal
 

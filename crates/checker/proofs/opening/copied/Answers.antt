@@ -1,6 +1,6 @@
 -- `checker::opening::copied` meets its contract. Assumes nothing.
-use Rattle.std.proofs.Common.{◌-◌, refl, ◌∙◌, arith, rules}
-use Rattle.checker.proofs.CodeCopy.{part, part_step, part-all}
+use Rattle.std.proofs.Common.{refl, ◌∙◌, arith, rules}
+use Rattle.checker.proofs.CodeCopy.{part_step, part-all}
 use Rattle.checker.proofs.opening.copied.Goals as goal
 
 pub loop-k-init : goal.loop-k-init

@@ -1,5 +1,5 @@
 -- `checker::pricing::bands_fit` meets its contract. Assumes nothing.
-use Rattle.std.proofs.Common.{◌-◌, true, false, sym, ap, ◌∙◌, add-one, arith}
+use Rattle.std.proofs.Common.{true, false, sym, ap, ◌∙◌, add-one, arith}
 use Rattle.checker.specs.Tariff.{rise_from}
 use Rattle.checker.proofs.Prices.{left-first, rise-step, rise-none, bands_many, bands_by}
 use Rattle.checker.proofs.pricing.bands_fit.Goals as goal

@@ -1,5 +1,5 @@
 -- `checker::pricing::in_range` meets its contract. Assumes nothing.
-use Rattle.std.proofs.Common.{◌-◌, true, false, sym, ap, ◌∙◌, add-one, arith, le-leb}
+use Rattle.std.proofs.Common.{true, false, sym, ap, ◌∙◌, add-one, arith, le-leb}
 use borrow.Author.Tests.{lt-leb}
 use Rattle.checker.specs.Tariff.{price_limit, band_at, in_range}
 use Rattle.checker.proofs.Prices.{left-first, range-step, range_none}

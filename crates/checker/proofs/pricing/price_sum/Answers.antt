@@ -1,5 +1,5 @@
 -- `checker::pricing::price_sum` meets its contract. Assumes nothing.
-use Rattle.std.proofs.Common.{ℕ, ◌-◌, ◌≤◌, add-one, arith}
+use Rattle.std.proofs.Common.{ℕ, ◌≤◌, add-one, arith}
 use Rattle.checker.specs.Tariff.{last_limit, band_at}
 use Rattle.checker.proofs.Prices.{priced_first, priced_here, priced_next, priced_beyond, fits, rise-at, range_at, sum-within}
 use Rattle.checker.proofs.pricing.price_sum.Goals as goal

@@ -1,5 +1,5 @@
 -- `checker::report::fill` meets its contract. Assumes nothing.
-use Rattle.std.proofs.Common.{◌≡◌, ◌-◌, get_or, pos, refl, ◌∙◌, arith, w32}
+use Rattle.std.proofs.Common.{◌≡◌, get_or, pos, refl, ◌∙◌, arith, w32}
 use borrow.Author.Rules.{sfits_of}
 use lib.Seq.{sets}
 use mir.ValLaws.{to_z-of_z}

@@ -1,6 +1,6 @@
 -- `checker::report::put_entry` meets its contract. Assumes nothing.
 use mir.ValLaws.{to_z-of_z}
-use Rattle.std.proofs.Common.{◌≡◌, suc, ◌+◌, [], length, set, ap, ◌∙◌, add-one, arith, length-set, w32, of_z}
+use Rattle.std.proofs.Common.{◌≡◌, suc, ◌+◌, [], set, ap, ◌∙◌, add-one, arith, length-set, w32, of_z}
 use lib.Seq.{sets}
 use Rattle.rule.specs.Tree.{word_bytes}
 use Rattle.checker.proofs.report.put_entry.Goals as goal

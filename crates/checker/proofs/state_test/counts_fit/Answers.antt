@@ -1,5 +1,5 @@
 -- `checker::state_test::counts_fit` meets its contract. Assumes nothing.
-use Rattle.std.proofs.Common.{◌≡◌, ℕ, ◌-◌, Bool, true, List, get_or, sym, refl, ◌∙◌, add-one, arith}
+use Rattle.std.proofs.Common.{◌≡◌, ℕ, Bool, List, get_or, sym, refl, ◌∙◌, add-one, arith}
 use Rattle.checker.specs.StateTest.{all_to}
 use Rattle.checker.specs.BasePass.{count_fits}
 use Rattle.checker.proofs.CodeBase.{all_to-more, all_to-false}

@@ -1,5 +1,5 @@
 -- `checker::sum::sum_of` meets its contract: after k steps the sum is that of the first k words. Assumes nothing.
-use Rattle.std.proofs.Common.{ℕ, ◌+◌, ◌-◌, ◌%◌, ◌^◌, get_or, pos, ap, ◌∙◌, arith, w32}
+use Rattle.std.proofs.Common.{ℕ, ◌+◌, ◌%◌, ◌^◌, get_or, pos, ap, ◌∙◌, arith, w32}
 use borrow.Author.Rules.{sfits_of}
 use mir.ValLaws.{to_z-of_z}
 use Rattle.checker.specs.Sum.{bits_of}

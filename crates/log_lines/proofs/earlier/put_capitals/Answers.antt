@@ -1,7 +1,7 @@
 -- `log::earlier::put_capitals` copies byte by byte. The invariant: with the bytes that are left put too, the whole is there.
 use mathlib.Core.Path.{refl, ap}
 use mathlib.Core.List.{map}
-use Prim.Native.Nat.{ℕ, ◌-◌}
+use Prim.Native.Nat.{ℕ}
 use native.Mathlib.Nat.{add-zero}
 use native.Mathlib.Omega.{arith}
 use lib.Seq.{sets}

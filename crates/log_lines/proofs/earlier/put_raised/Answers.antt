@@ -1,14 +1,8 @@
 -- `log::earlier::put_raised` meets its contract. Assumes nothing.
-use mathlib.Core.Path.{◌≡◌, ap, ◌∙◌}
-use mathlib.Core.Bool.{cond}
-use mathlib.Core.List.{[], map}
-use Prim.Native.Nat.{ℕ, ◌+◌, ◌-◌}
+use mathlib.Core.Path.{◌∙◌}
+use Prim.Native.Nat.{◌+◌, ◌-◌}
 use native.Mathlib.Omega.{arith}
-use lib.Dec.{leb}
-use lib.ListN.{length, get_or, set, take, drop, length-set, length-take}
-use lib.Seq.{sets}
-use Rattle.log_lines.specs.Digit.{digit_value, capital}
-use Rattle.log_lines.specs.Earlier.{old_note_from, new_note}
+use lib.ListN.{drop, length-set, length-take}
 use Rattle.log_lines.proofs.Copies.{put-note}
 use Rattle.log_lines.proofs.earlier.put_raised.Goals as goal
 
@@ -31,4 +25,4 @@ pub returns : goal.returns
 returns c =
     c.put_capitals.ensures
     ∙ put-note c.args.line.now c.args.old.now c.args.at c.args.from _ (c.args.from + 4 - c.args.from)
-        c.requires.1.1 c.requires.1.0 (omega arith) c.sign-s.ensures
+    c.requires.1.1 c.requires.1.0 (omega arith) c.sign-s.ensures

@@ -1,9 +1,8 @@
 -- `log::line::bad_place_of` meets its contract. The invariant: each byte before `i` is a digit. The measure is how many digits are left.
-use Prim.Native.Nat.{◌-◌}
 use borrow.Author.Tests.{lt-ltb, le-ltb}
 use lib.ListN.{get_or}
 use Rattle.log_lines.specs.Digit.{digit_value}
-use Rattle.log_lines.proofs.Digits.{reach, reach-digit, reach-other, front-within}
+use Rattle.log_lines.proofs.Digits.{reach-digit, reach-other, front-within}
 use native.Mathlib.Omega.{arith}
 use Rattle.log_lines.proofs.line.bad_place_of.Goals as goal
 

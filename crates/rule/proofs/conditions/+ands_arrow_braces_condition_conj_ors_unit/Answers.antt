@@ -2,7 +2,7 @@ use borrow.Author.Tests.{ne_eqb}
 use mathlib.Core.Path.{◌≡◌, refl}
 use native.Mathlib.Omega.{arith}
 use mathlib.Core.List.{◌∷◌}
-use Prim.Native.Nat.{◌+◌, ◌-◌}
+use Prim.Native.Nat.{◌+◌}
 use Rattle.rule.specs.Frames.{Connective, Kind}
 use Rattle.rule.specs.Class.{close_brace}
 use Rattle.rule.specs.Machine.{step, finish, out, want, doing}

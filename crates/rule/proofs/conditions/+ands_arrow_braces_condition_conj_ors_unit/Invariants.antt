@@ -1,6 +1,5 @@
 use Prim.Native.Nat.{◌+◌, ◌*◌, ◌-◌}
 use lib.ListN.{length}
-use Rattle.rule.specs.Machine as machine
 use Rattle.rule.proofs.conditions.+ands_arrow_braces_condition_conj_ors_unit.Given as goal
 
 abbrev pub decreases-ands : goal.decreases-ands

@@ -1,7 +1,6 @@
 use borrow.Author.Tests.{ne_eqb}
 use mathlib.Core.Path.{◌≡◌, refl}
 use native.Mathlib.Omega.{arith}
-use Prim.Native.Nat.{◌-◌}
 use Rattle.rule.specs.Machine.{step, finish}
 use Rattle.rule.proofs.ReaderParts.{idle, least, same, take-to, stays, beyond, inside}
 use Rattle.rule.proofs.header.+names_of.Goals as goal

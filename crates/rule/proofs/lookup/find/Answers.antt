@@ -1,6 +1,5 @@
 use Rattle.rule.proofs.ReaderTables.{find_start, find_end, find_hit, find_miss}
 use mathlib.Core.Path.{sym, ◌∙◌}
-use Prim.Native.Nat.{◌-◌}
 use native.Mathlib.Omega.{arith}
 use Rattle.rule.proofs.lookup.find.Goals as goal
 

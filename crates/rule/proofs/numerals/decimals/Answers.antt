@@ -1,7 +1,5 @@
 -- `rule::numerals::decimals` meets its contract. The invariant: the digits left have as many decimals as all. Assumes nothing.
 use mathlib.Core.Path.{refl, ◌∙◌}
-use Prim.Native.Nat.{◌-◌}
-use Rattle.rule.specs.Spelling.{decimals}
 use Rattle.rule.proofs.TokenDecimals.{decimals-point, decimals-digit, decimals-end}
 use native.Mathlib.Omega.{arith}
 use Rattle.rule.proofs.numerals.decimals.Goals as goal

@@ -1,6 +1,6 @@
 -- `rule::numerals::number_value` meets its contract. The invariant: the digits left, after the value so far, have the capped value of all. Assumes nothing.
 use mathlib.Core.Path.{refl, ap, ◌∙◌}
-use Prim.Native.Nat.{ℕ, ◌-◌, ◌+◌, min}
+use Prim.Native.Nat.{ℕ, ◌+◌, min}
 use lib.ListN.{drop, get_or}
 use Rattle.rule.specs.Number.{most, number_value}
 use Rattle.rule.specs.Spelling.{decimal, decimal_from}

@@ -3,7 +3,7 @@ use mathlib.Core.Path.{◌≡◌}
 use Prim.Native.Nat.{◌≤◌, ◌-◌, min}
 use lib.ListN.{length, drop}
 use Rattle.rule.specs.Number.{most}
-use Rattle.rule.specs.Spelling.{decimal, decimal_from}
+use Rattle.rule.specs.Spelling.{decimal_from}
 use Rattle.rule.proofs.numerals.number_value.Given as goal
 
 abbrev pub invariant-loop-i : goal.invariant-loop-i

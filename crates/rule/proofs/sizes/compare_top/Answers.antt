@@ -2,7 +2,6 @@
 use mathlib.Core.Path.{ap, ◌∙◌}
 use Prim.Native.Nat.{ℕ, ◌-◌, ◌*◌, ◌^◌, max}
 use native.Mathlib.Omega.{arith}
-use lib.Dec.{leb}
 use lib.ListN.{get_or}
 use Rattle.rule.specs.Stack.{capped}
 use Rattle.rule.proofs.FrameMagnitudes.{capped_as, alike-leb}

@@ -37,5 +37,8 @@ returns c =
     let x = c.args.cells.now in
     let y = c.args.counts.now in
     let k = c.args.k in
-    let p = capped_as (get_or x (k - 2) 0 * get_or x (k - 1) 0) c.times.ensures in record { kept = c.push.ensures.kept; result_after = c.push.ensures.result_after ∙ pushed-alike (get_or y (k - 2) 0 + get_or y (k - 1) 0) (terms_of 0 x y (k - 2)) p
-          ∙ ap (topped (grown multiply)) (sym (terms_two 0 x y k c.requires.1)) }
+    let p = capped_as (get_or x (k - 2) 0 * get_or x (k - 1) 0) c.times.ensures in record {
+      kept = c.push.ensures.kept;
+      result_after = c.push.ensures.result_after ∙ pushed-alike (get_or y (k - 2) 0 + get_or y (k - 1) 0) (terms_of 0 x y (k - 2)) p
+          ∙ ap (topped (grown multiply)) (sym (terms_two 0 x y k c.requires.1));
+    }

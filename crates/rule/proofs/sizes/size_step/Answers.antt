@@ -44,9 +44,12 @@ compare_top-requires c =
 pub returns-in-1 : goal.returns-in-1
 returns-in-1 c =
     let a = c.args in
-    let ms = terms_of 0 a.cells.now a.counts.now a.k in record { kept = c.push.ensures.kept; result_after = c.push.ensures.result_after ∙ ap (λ (m : ℕ). pushed (term m c.count.result) ms) (c.own.ensures ∙ ap nat_abs (to_z-of_z w32 a.x.value (sfits_of c.struct_told-1.given.1.1.1.1.0.1)))
+    let ms = terms_of 0 a.cells.now a.counts.now a.k in record {
+      kept = c.push.ensures.kept;
+      result_after = c.push.ensures.result_after ∙ ap (λ (m : ℕ). pushed (term m c.count.result) ms) (c.own.ensures ∙ ap nat_abs (to_z-of_z w32 a.x.value (sfits_of c.struct_told-1.given.1.1.1.1.0.1)))
           ∙ ap (λ (d : ℕ). pushed (term (nat_abs a.x.value) d) ms) c.count.ensures
-          ∙ sym (rw (kind_at (operand literal) a.x.kind c.in-1.is)) }
+          ∙ sym (rw (kind_at (operand literal) a.x.kind c.in-1.is));
+    }
 
 pub returns-in-2 : goal.returns-in-2
 returns-in-2 c = record { kept = c.push-in-2.ensures.kept; result_after = c.push-in-2.ensures.result_after ∙ sym (rw (kind_at (operand instance) c.args.x.kind c.in-2.is)) }
@@ -54,8 +57,11 @@ returns-in-2 c = record { kept = c.push-in-2.ensures.kept; result_after = c.push
 pub returns-in-3 : goal.returns-in-3
 returns-in-3 c =
     let a = c.args in
-    let ms = terms_of 0 a.cells.now a.counts.now a.k in record { kept = c.push-in-3.ensures.kept; result_after = c.push-in-3.ensures.result_after ∙ ap (λ (d : ℕ). pushed (term reference_magnitude d) ms) c.count-in-3.ensures
-          ∙ sym (rw (kind_at (operand reference) a.x.kind c.in-3.is)) }
+    let ms = terms_of 0 a.cells.now a.counts.now a.k in record {
+      kept = c.push-in-3.ensures.kept;
+      result_after = c.push-in-3.ensures.result_after ∙ ap (λ (d : ℕ). pushed (term reference_magnitude d) ms) c.count-in-3.ensures
+          ∙ sym (rw (kind_at (operand reference) a.x.kind c.in-3.is));
+    }
 
 pub returns-in-19 : goal.returns-in-19
 returns-in-19 c = record { kept = c.product_top.ensures.kept; result_after = c.product_top.ensures.result_after ∙ sym (rw (kind_at (arithmetic multiply) c.args.x.kind c.in-19.is)) }

@@ -1,10 +1,10 @@
 -- `rule::sizes::sizes_fit` meets its contract. Assumes nothing.
 use mathlib.Core.Path.{◌≡◌, refl, sym, ap, ◌∙◌}
-use Prim.Native.Nat.{◌-◌, ◌+◌}
+use Prim.Native.Nat.{◌+◌}
 use native.Mathlib.Omega.{arith}
 use borrow.Author.Rules.{rules}
 use Rattle.rule.specs.Frames.{frame_count}
-use Rattle.rule.specs.Sizes.{size_at, fits, over, is_fits, sizes_fit}
+use Rattle.rule.specs.Sizes.{size_at, over, is_fits, sizes_fit}
 use Rattle.rule.specs.Stack.{loaded}
 use Rattle.rule.proofs.FrameMagnitudes.{over-at, size_again}
 use Rattle.rule.proofs.FrameStacks.{size_ready}

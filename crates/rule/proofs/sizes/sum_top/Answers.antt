@@ -66,5 +66,8 @@ returns c =
     let g = c.greatest-most.ensures in
     let ms = terms_of 0 x y (k - 2) in
     let p = capped_as (a * 10 ^ (max d e - d)) (c.raised-a.ensures ∙ ap (λ (m : ℕ). capped (a * 10 ^ (m - d))) g) in
-    let q = capped_as (b * 10 ^ (max d e - e)) (c.raised-b.ensures ∙ ap (λ (m : ℕ). capped (b * 10 ^ (m - e))) g) in record { kept = c.push.ensures.kept; result_after = c.push.ensures.result_after ∙ ap (λ (m : ℕ). pushed (term (c.raised-a.result + c.raised-b.result) m) ms) g
-          ∙ pushed-alike (max d e) ms (alike-add p q) ∙ ap (topped (grown add)) (sym (terms_two 0 x y k c.requires.1)) }
+    let q = capped_as (b * 10 ^ (max d e - e)) (c.raised-b.ensures ∙ ap (λ (m : ℕ). capped (b * 10 ^ (m - e))) g) in record {
+      kept = c.push.ensures.kept;
+      result_after = c.push.ensures.result_after ∙ ap (λ (m : ℕ). pushed (term (c.raised-a.result + c.raised-b.result) m) ms) g
+          ∙ pushed-alike (max d e) ms (alike-add p q) ∙ ap (topped (grown add)) (sym (terms_two 0 x y k c.requires.1));
+    }

@@ -2,7 +2,6 @@ use borrow.Author.Tests.{ne_eqb}
 use mathlib.Core.Path.{◌≡◌, refl, sym, ◌∙◌}
 use native.Mathlib.Omega.{arith}
 use mathlib.Core.List.{◌∷◌}
-use Prim.Native.Nat.{◌-◌}
 use Rattle.rule.specs.Frames.{Arithmetic, Kind}
 use Rattle.rule.specs.Class.{close_paren}
 use Rattle.rule.specs.Machine.{step, finish, start_factor, out, want, doing}

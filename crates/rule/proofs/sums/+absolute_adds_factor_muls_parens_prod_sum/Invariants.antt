@@ -1,6 +1,5 @@
 use Prim.Native.Nat.{◌+◌, ◌*◌, ◌-◌}
 use lib.ListN.{length}
-use Rattle.rule.specs.Machine as machine
 use Rattle.rule.proofs.sums.+absolute_adds_factor_muls_parens_prod_sum.Given as goal
 
 abbrev pub decreases-absolute : goal.decreases-absolute

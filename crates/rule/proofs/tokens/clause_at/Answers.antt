@@ -1,6 +1,5 @@
 -- `rule::tokens::clause_at` meets its contract: the word and the number are those of `clause_at`. Assumes nothing.
-use mathlib.Core.Bool.{false}
-use Rattle.rule.specs.Token.{token_at, clause_at}
+use Rattle.rule.specs.Token.{clause_at}
 use Rattle.rule.proofs.TokenLists.{spans-of}
 use native.Mathlib.Omega.{arith}
 use Rattle.rule.proofs.tokens.clause_at.Goals as goal

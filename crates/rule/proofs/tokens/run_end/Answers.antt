@@ -1,7 +1,5 @@
 -- `rule::tokens::run_end` meets its contract. The invariant: the run that is left ends where the whole run ends. Assumes nothing.
 use mathlib.Core.Path.{sym, ◌∙◌}
-use Prim.Native.Nat.{◌-◌}
-use Rattle.rule.specs.Class.{span}
 use Rattle.rule.proofs.TokenSpans.{span-end, span-stop, span_more}
 use native.Mathlib.Omega.{arith}
 use Rattle.rule.proofs.tokens.run_end.Goals as goal

@@ -1,7 +1,5 @@
 -- `rule::tokens::same_bytes` meets its contract. The invariant: what is left of the words is the same exactly if they are. Assumes nothing.
 use mathlib.Core.Path.{refl, sym, ◌∙◌}
-use Prim.Native.Nat.{◌-◌}
-use Rattle.rule.specs.Token.{same}
 use Rattle.rule.proofs.TokenWords.{same-longer, same_end, same_more, same-differ}
 use native.Mathlib.Omega.{arith}
 use Rattle.rule.proofs.tokens.same_bytes.Goals as goal

@@ -1,6 +1,5 @@
 -- `verdict::evaluate::judge_body` meets its contract. The invariant: the arrays hold the pass after k frames, each sum within its
 use mathlib.Core.Path.{refl, ap, ◌∙◌}
-use Prim.Native.Nat.{◌-◌}
 use native.Mathlib.Omega.{arith}
 use borrow.Author.Rules.{sfits_of, rules}
 use lib.IntN.{pos}

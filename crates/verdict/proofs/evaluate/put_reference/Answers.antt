@@ -15,5 +15,8 @@ pub returns : goal.returns
 returns c =
     let a = c.args in
     let w = c.widen in
-    let e = to_z-of_z w64 w.result (sfits_of w.type_inv) ∙ w.ensures ∙ to_z-of_z w32 a.note c.ranges.note in record { kept = c.put_sum-k.ensures.kept; by_index = λ cs. ap (with_sums (with_reference a.d (pass_of a.sums.now a.counts.now cs a.top) a.mark a.note))
-          (c.put_sum-k.ensures.result_after ∙ ap (λ (z : ℤ). term z a.d ∷ terms_of (pos 0) a.sums.now a.counts.now a.top.sums) e) }
+    let e = to_z-of_z w64 w.result (sfits_of w.type_inv) ∙ w.ensures ∙ to_z-of_z w32 a.note c.ranges.note in record {
+      kept = c.put_sum-k.ensures.kept;
+      by_index = λ cs. ap (with_sums (with_reference a.d (pass_of a.sums.now a.counts.now cs a.top) a.mark a.note))
+          (c.put_sum-k.ensures.result_after ∙ ap (λ (z : ℤ). term z a.d ∷ terms_of (pos 0) a.sums.now a.counts.now a.top.sums) e);
+    }

@@ -21,6 +21,9 @@ returns c =
     let y = truth_of (get_or s (k - 1) 0) in
     let e : truth_of c.code.result ≡ f x y =
     c.code.ensures ∙ c.connect.ensures
-    ∙ ap (λ (t : Truth). f t c.decoded-q.result) c.decoded-p.ensures ∙ ap (f x) c.decoded-q.ensures in record { kept = length-set s (k - 2) c.code.result ∙ c.requires.0; result_after = ap (map truth_of) (stack_fold 0 s k c.code.result (omega arith) (omega arith))
+    ∙ ap (λ (t : Truth). f t c.decoded-q.result) c.decoded-p.ensures ∙ ap (f x) c.decoded-q.ensures in record {
+      kept = length-set s (k - 2) c.code.result ∙ c.requires.0;
+      result_after = ap (map truth_of) (stack_fold 0 s k c.code.result (omega arith) (omega arith))
           ∙ ap (λ (t : Truth). t ∷ truths_of s (k - 2)) e
-          ∙ ap (λ (l : List ℕ). top2 f (map truth_of l)) (sym (stack_two 0 s k (omega arith))) }
+          ∙ ap (λ (l : List ℕ). top2 f (map truth_of l)) (sym (stack_two 0 s k (omega arith)));
+    }

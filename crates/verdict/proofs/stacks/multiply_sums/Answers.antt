@@ -54,5 +54,8 @@ returns c =
     let p = c.times-v in
     let e : to_z w64 (of_z w64 p.result) ≡ (computed multiply (term_at x y (k - 2)) (term_at x y (k - 1))).amount =
     to_z-of_z w64 p.result (sfits_of p.type_inv) ∙ p.ensures
-    ∙ rw (to_z-of_z w64 (get_or x (k - 2) (pos 0)) (sfits_of c.a-1.given), to_z-of_z w64 (get_or x (k - 1) (pos 0)) (sfits_of c.b-1.given)) in record { kept = c.fold_sums.ensures.kept; result_after = c.fold_sums.ensures.result_after ∙ ap (λ (z : ℤ). term z (get_or y (k - 2) 0 + get_or y (k - 1) 0) ∷ terms_of (pos 0) x y (k - 2)) e
-          ∙ ap (top2 (computed multiply)) (sym (terms_two (pos 0) x y k c.requires.two)) }
+    ∙ rw (to_z-of_z w64 (get_or x (k - 2) (pos 0)) (sfits_of c.a-1.given), to_z-of_z w64 (get_or x (k - 1) (pos 0)) (sfits_of c.b-1.given)) in record {
+      kept = c.fold_sums.ensures.kept;
+      result_after = c.fold_sums.ensures.result_after ∙ ap (λ (z : ℤ). term z (get_or y (k - 2) 0 + get_or y (k - 1) 0) ∷ terms_of (pos 0) x y (k - 2)) e
+          ∙ ap (top2 (computed multiply)) (sym (terms_two (pos 0) x y k c.requires.two));
+    }

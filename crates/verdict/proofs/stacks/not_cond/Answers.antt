@@ -14,6 +14,9 @@ use Rattle.verdict.proofs.stacks.not_cond.Goals as goal
 pub returns : goal.returns
 returns c =
     let s = c.args.conds.now in
-    let k = c.args.c in record { kept = length-set s (k - 1) c.code.result ∙ c.requires.0; result_after = ap (map truth_of) (stack_top 0 s k c.code.result (omega arith) (omega arith))
+    let k = c.args.c in record {
+      kept = length-set s (k - 1) c.code.result ∙ c.requires.0;
+      result_after = ap (map truth_of) (stack_top 0 s k c.code.result (omega arith) (omega arith))
           ∙ ap (λ (t : Truth). t ∷ truths_of s (k - 1)) (c.code.ensures ∙ c.negated.ensures ∙ ap not_k c.decoded-t.ensures)
-          ∙ ap (λ (l : List ℕ). top1 not_k (map truth_of l)) (sym (stack_one 0 s k (omega arith))) }
+          ∙ ap (λ (l : List ℕ). top1 not_k (map truth_of l)) (sym (stack_one 0 s k (omega arith)));
+    }

@@ -34,6 +34,9 @@ returns c =
     let k = c.args.k in
     let v = get_or x (k - 1) (pos 0) in
     let e : to_z w64 (of_z w64 c.size-v.result) ≡ pos (nat_abs v) =
-    to_z-of_z w64 c.size-v.result (sfits_of c.size-v.type_inv) ∙ c.size-v.ensures ∙ rw (to_z-of_z w64 v (sfits_of c.a-1.given)) in record { kept = (length-set x (k - 1) (to_z w64 (of_z w64 c.size-v.result)) ∙ c.requires.0.0, c.requires.0.1); result_after = ap (λ (z : ℤ). terms_of (pos 0) (set x (k - 1) z) y k) e
+    to_z-of_z w64 c.size-v.result (sfits_of c.size-v.type_inv) ∙ c.size-v.ensures ∙ rw (to_z-of_z w64 v (sfits_of c.a-1.given)) in record {
+      kept = (length-set x (k - 1) (to_z w64 (of_z w64 c.size-v.result)) ∙ c.requires.0.0, c.requires.0.1);
+      result_after = ap (λ (z : ℤ). terms_of (pos 0) (set x (k - 1) z) y k) e
           ∙ terms_top (pos 0) x y k (pos (nat_abs v)) c.requires.1.1.0 (omega (arith, c.requires.0.0))
-          ∙ ap (top1 size_of) (sym (terms_one (pos 0) x y k c.requires.1.1.0)) }
+          ∙ ap (top1 size_of) (sym (terms_one (pos 0) x y k c.requires.1.1.0));
+    }

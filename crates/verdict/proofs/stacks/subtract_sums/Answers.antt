@@ -39,5 +39,8 @@ returns c =
     let ms = terms_of (pos 0) x y (k - 2) in
     let e : to_z w64 (of_z w64 p.result) ≡ (computed subtract (term_at x y (k - 2)) (term_at x y (k - 1))).amount =
     to_z-of_z w64 p.result (sfits_of p.type_inv) ∙ p.ensures
-    ∙ rw (to_z-of_z w64 b.result.left (sfits_of c.struct_told-1.given.0.1), to_z-of_z w64 b.result.right (sfits_of c.struct_told-2-1.given.1.0.1), b.ensures.left, b.ensures.right) in record { kept = c.fold_sums.ensures.kept; result_after = c.fold_sums.ensures.result_after ∙ ap (λ (z : ℤ). term z b.result.decimals ∷ ms) e ∙ ap (λ (d : ℕ). term (computed subtract (term_at x y (k - 2)) (term_at x y (k - 1))).amount d ∷ ms) b.ensures.decimals
-          ∙ ap (top2 (computed subtract)) (sym (terms_two (pos 0) x y k c.requires.two)) }
+    ∙ rw (to_z-of_z w64 b.result.left (sfits_of c.struct_told-1.given.0.1), to_z-of_z w64 b.result.right (sfits_of c.struct_told-2-1.given.1.0.1), b.ensures.left, b.ensures.right) in record {
+      kept = c.fold_sums.ensures.kept;
+      result_after = c.fold_sums.ensures.result_after ∙ ap (λ (z : ℤ). term z b.result.decimals ∷ ms) e ∙ ap (λ (d : ℕ). term (computed subtract (term_at x y (k - 2)) (term_at x y (k - 1))).amount d ∷ ms) b.ensures.decimals
+          ∙ ap (top2 (computed subtract)) (sym (terms_two (pos 0) x y k c.requires.two));
+    }
