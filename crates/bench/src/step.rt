@@ -10,7 +10,7 @@ ghost use Rattle.bench.specs.Carried.{out_bytes, progress_of, roomy, Ends, Runni
 
 use crate::{Counts, Run, hex};
 use checker::{FeedAnswer, PullAnswer, PulledFields, REPORT_LEAST};
-use libc::STDOUT_FILENO;
+use std::io::{Print, Stdout};
 
 // With so many bytes waiting there is room for every line.
 const ROOMY: usize = 65200;
@@ -18,16 +18,16 @@ const ROOMY: usize = 65200;
 // More pulls than a checker can give verdicts.
 const PULLS: u32 = 1010001;
 
-// Writes out what waits where a line may lack room, and answers how many bytes then wait. That they are written is not proved:
-// no contract can say it.
-pub fn make_room(out: &[u8], full: usize) -> usize
+// Writes out what waits where a line may lack room, and answers how many bytes then wait. A write that fails is passed over. That
+// they are written is not proved: no contract can say it.
+pub fn make_room(stdout: Stdout, out: &[u8], full: usize) -> usize
     requires { (full ≤ out_bytes) × (length out.now ≡ out_bytes) }
     ensures { (result ≤ roomy) × Ends (take result out.now) (take full out.now) }
 {
     if full <= ROOMY {
         return full;
     }
-    io::write_all(STDOUT_FILENO, &out[..full]);
+    let _ = stdout.write_all(&out[..full]);
     0
 }
 
@@ -40,12 +40,12 @@ fn report_length(references: u8) -> usize
 }
 
 // A report as a line.
-fn say_report(out: &mut [u8], full: usize, report: &[u8]) -> usize
+fn say_report(stdout: Stdout, out: &mut [u8], full: usize, report: &[u8]) -> usize
     requires { (full ≤ out_bytes) × ((length out.old ≡ out_bytes) × (length report.now ≡ report_least)) }
     ensures { (result ≤ out_bytes) × Ends (take result out.new)
         (take full out.old ++ hex_line (report_part report.now)) }
 {
-    let at = make_room(out, full);
+    let at = make_room(stdout, out, full);
     let n = report_length(report[5]);
     hex::put_line(out, at, &report[..n])
 }
@@ -66,7 +66,14 @@ fn with_pulled(r: Run, pulled: PulledFields, full: usize, more: bool) -> Run
 }
 
 // One pull into a report buffer of zeros.
-fn pull_into(frames: &[u8], r: Run, window: &[i32], out: &mut [u8], report: &mut [u8]) -> Run
+fn pull_into(
+    stdout: Stdout,
+    frames: &[u8],
+    r: Run,
+    window: &[i32],
+    out: &mut [u8],
+    report: &mut [u8],
+) -> Run
     requires { Running frames.now r window.now out.old × (report.old ≡ empty_report) }
     ensures { Stepped frames.now result window.now out.new
         (pulled_once (progress_of frames.now r window.now out.old))
@@ -81,7 +88,7 @@ fn pull_into(frames: &[u8], r: Run, window: &[i32], out: &mut [u8], report: &mut
     match answer {
         PullAnswer::True => with_pulled(r, pulled, full, true),
         PullAnswer::False => {
-            let end = say_report(out, full, report);
+            let end = say_report(stdout, out, full, report);
             with_pulled(r, pulled, end, true)
         }
         PullAnswer::Unknown => with_pulled(r, pulled, full, true),
@@ -91,7 +98,7 @@ fn pull_into(frames: &[u8], r: Run, window: &[i32], out: &mut [u8], report: &mut
 }
 
 // One pull.
-fn pull_once(frames: &[u8], r: Run, window: &[i32], out: &mut [u8]) -> Run
+fn pull_once(stdout: Stdout, frames: &[u8], r: Run, window: &[i32], out: &mut [u8]) -> Run
     requires { Running frames.now r window.now out.old }
     ensures { Stepped frames.now result window.now out.new
         (pulled_once (progress_of frames.now r window.now out.old))
@@ -100,11 +107,11 @@ fn pull_once(frames: &[u8], r: Run, window: &[i32], out: &mut [u8]) -> Run
         (pull_of (progress_of frames.now r window.now out.old)).answer)) }
 {
     let mut report = [0u8; 166];
-    pull_into(frames, r, window, out, &mut report)
+    pull_into(stdout, frames, r, window, out, &mut report)
 }
 
 // Pulls until waiting.
-pub fn pull_all(frames: &[u8], r: Run, window: &[i32], out: &mut [u8]) -> Run
+pub fn pull_all(stdout: Stdout, frames: &[u8], r: Run, window: &[i32], out: &mut [u8]) -> Run
     requires { Running frames.now r window.now out.old }
     ensures { Stepped frames.now result window.now out.new
         (pulls pull_limit (progress_of frames.now r window.now out.old))
@@ -114,7 +121,7 @@ pub fn pull_all(frames: &[u8], r: Run, window: &[i32], out: &mut [u8]) -> Run
     q.more = true;
     let mut left = PULLS;
     while left > 0 && q.more {
-        q = pull_once(frames, q, window, out);
+        q = pull_once(stdout, frames, q, window, out);
         left -= 1;
     }
     q
@@ -167,12 +174,19 @@ fn feed_line(frames: &[u8], r: Run, window: &mut [i32], line: &[u8]) -> Run
 }
 
 // One line of the log, without its LF.
-pub fn one_line(frames: &[u8], r: Run, window: &mut [i32], out: &mut [u8], line: &[u8]) -> Run
+pub fn one_line(
+    stdout: Stdout,
+    frames: &[u8],
+    r: Run,
+    window: &mut [i32],
+    out: &mut [u8],
+    line: &[u8],
+) -> Run
     requires { Running frames.now r window.old out.old }
     ensures { Stepped frames.now result window.new out.new
         (after_line (progress_of frames.now r window.old out.old) line.now)
         × (result.held ≡ r.held) }
 {
     let q = feed_line(frames, r, window, line);
-    pull_all(frames, q, window, out)
+    pull_all(stdout, frames, q, window, out)
 }
