@@ -182,7 +182,7 @@ four = line1 ∷ (line2 ∷ (line3 ∷ (line4 ∷ [])))
 run-four : after_lines (begun (opened_for frames_of5)) four ≡ after4
 unfolding after_lines
 run-four =
-    rw (opens, waits 1010000 rests.at_first, feeds.first, waits 1010000 rests.first, feeds.second, one-verdict 1009999 false_0 rests.second, feeds.third, waits 1010000 rests.third, feeds.fourth, one-verdict 1009999 true_1 rests.fourth)
+    rw (opens, waits 1010000 rests.at_first_lem, feeds.first, waits 1010000 rests.first, feeds.second, one-verdict 1009999 false_0 rests.second, feeds.third, waits 1010000 rests.third, feeds.fourth, one-verdict 1009999 true_1 rests.fourth)
 
 -- ---- all that is printed
 abbrev log_four : List String
