@@ -1,5 +1,5 @@
 -- `bench::chunk` does what the chunk's bytes do one after the other: the lines that end in it, and what is left of the last. Assumes nothing.
-use Rattle.std.proofs.Common.{◌≡◌, ℕ, ◌-◌, ◌≤◌, List, length, take, sym, refl, ◌∙◌, arith, length-take-le, rules}
+use Rattle.std.proofs.Common.{◌≡◌, ℕ, ◌≤◌, List, length, take, sym, refl, ◌∙◌, arith, length-take-le, rules}
 use Rattle.log_lines.proofs.Main.{line-within}
 use Rattle.bench.specs.Kept.{kept_limit}
 use Rattle.bench.proofs.ChunkLaws.{open_refl, never-end, chunk_line, chunk_rest, bytes-done}
