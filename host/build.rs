@@ -1,4 +1,4 @@
-//! Links the proved part, `target/staticlib/libdillplatter.a`, which `rt staticlib dillplatter` writes.
+//! Links the proved part, `target/staticlib/libdillplatter.a`, which `tools/build` writes.
 
 use std::path::Path;
 
@@ -8,7 +8,9 @@ fn main() {
     let archive = folder.join("libdillplatter.a");
     println!("cargo:rerun-if-changed={}", archive.display());
     if !archive.is_file() {
-        eprintln!("target/staticlib/libdillplatter.a is missing: run `rt staticlib dillplatter` at the top first");
+        eprintln!(
+            "target/staticlib/libdillplatter.a is missing: run `tools/build` at the top first"
+        );
         std::process::exit(1);
     }
     println!("cargo:rustc-link-search=native={}", folder.display());

@@ -28,12 +28,12 @@ const LINE: usize = 35;
 
 const RULE: &[u8] = b"events in out; notes t; t(out[i]) - t(in[i]) <= 25";
 
-/// The program, which `rt check bench` builds.
+/// The program, which `tools/build` builds.
 fn program() -> PathBuf {
     let program = Path::new(crate::TOP).join("target/bin/bench");
     assert!(
         program.is_file(),
-        "target/bin/bench is missing: run `rt check bench` at the top first"
+        "target/bin/bench is missing: run `tools/build` at the top first"
     );
     program
 }

@@ -88,7 +88,7 @@ fn missing(text: &str) -> Vec<String> {
             .filter_map(|file| std::fs::read_to_string(Path::new(TOP).join(file)).ok())
             .collect();
         for name in names {
-            // An ending of the name before it, as in `good-stays-open`, `-feed`.
+            // An ending of the name before it, as in `good-stays_open`, `-feed`.
             let ending = name.starts_with('-');
             let word = |text: &String| {
                 if ending {
@@ -116,17 +116,18 @@ fn promised_names_stand_in_their_files() {
 
 #[test]
 fn a_name_or_a_file_that_is_not_there_is_seen() {
-    let said = "| a | `lineOf`, `badPlace` and `x` (log/specs/Line.antt, Other.antt); `y` |";
+    let said =
+        "| a | `line_of`, `bad_place` and `x` (log_lines/specs/Line.antt, Other.antt); `y` |";
     let expected = Named {
-        names: vec!["x".into(), "badPlace".into(), "lineOf".into()],
+        names: vec!["x".into(), "bad_place".into(), "line_of".into()],
         files: vec![
-            "crates/log/specs/Line.antt".into(),
-            "crates/log/specs/Other.antt".into(),
+            "crates/log_lines/specs/Line.antt".into(),
+            "crates/log_lines/specs/Other.antt".into(),
         ],
     };
     assert_eq!(named(said), [expected]);
-    let other = "crates/log/specs/Other.antt";
-    let files = format!("crates/log/specs/Line.antt, {other}");
+    let other = "crates/log_lines/specs/Other.antt";
+    let files = format!("crates/log_lines/specs/Line.antt, {other}");
     assert_eq!(
         missing(said),
         [
@@ -134,6 +135,6 @@ fn a_name_or_a_file_that_is_not_there_is_seen() {
             format!("x is not in {files}")
         ]
     );
-    assert_eq!(missing("`lineO` (log/specs/Line.antt)").len(), 1);
-    assert_eq!(missing("`lineOf` (log/specs/Line.antt)").len(), 0);
+    assert_eq!(missing("`line_o` (log_lines/specs/Line.antt)").len(), 1);
+    assert_eq!(missing("`line_of` (log_lines/specs/Line.antt)").len(), 0);
 }

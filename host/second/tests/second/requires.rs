@@ -29,27 +29,47 @@ fn functions() -> Vec<Function> {
     for folder in entries(&Path::new(TOP).join("crates")) {
         for file in entries(&folder.join("src")) {
             let text = std::fs::read_to_string(&file).unwrap();
-            let mut lines = text.lines();
-            while let Some(line) = lines.next() {
-                let Some(name) = function(line) else { continue };
-                // Its contract: up to the line where its code begins.
-                let mut requires = false;
-                let mut next = Some(line);
-                while next.is_some_and(|line| !line.ends_with('{') || line.contains(" { ⌜")) {
-                    next = lines.next();
-                    requires |= next.is_some_and(|line| line.trim().starts_with("requires {"));
-                }
-                all.push(Function {
-                    crate_name: stem(&folder),
-                    module: stem(&file),
-                    name,
-                    public: line.starts_with("pub "),
-                    requires,
-                });
-            }
+            all.extend(functions_of(&stem(&folder), &stem(&file), &text));
         }
     }
     all
+}
+
+/// Those of a file's text.
+fn functions_of(crate_name: &str, module: &str, text: &str) -> Vec<Function> {
+    let mut found = Vec::new();
+    let mut lines = text.lines();
+    while let Some(line) = lines.next() {
+        let Some(name) = function(line) else { continue };
+        // Its contract: up to the line where its code begins, a brace alone if there are clauses.
+        let mut requires = false;
+        let mut next = Some(line);
+        while next.is_some_and(|line| !line.ends_with('{') || is_clause(line)) {
+            next = lines.next();
+            requires |=
+                next.is_some_and(|line| line.trim().starts_with("requires") && is_clause(line));
+        }
+        found.push(Function {
+            crate_name: crate_name.into(),
+            module: module.into(),
+            name,
+            public: line.starts_with("pub "),
+            requires,
+        });
+    }
+    found
+}
+
+/// Whether a line begins a clause: its kind, with a star where it speaks of memory, its name if it has one, and a brace.
+fn is_clause(line: &str) -> bool {
+    let line = line.trim();
+    let kinds = ["requires", "ensures"];
+    let after = kinds.iter().find_map(|kind| line.strip_prefix(kind));
+    let Some((name, _)) = after.and_then(|after| after.split_once('{')) else {
+        return false;
+    };
+    let name = name.strip_prefix('*').unwrap_or(name);
+    name.starts_with(' ') && name.trim().chars().all(|c| c.is_alphanumeric() || c == '_')
 }
 
 /// The function that a line begins.
@@ -58,6 +78,16 @@ fn function(line: &str) -> Option<String> {
     let line = line.strip_prefix("extern \"C\" ").unwrap_or(line);
     let rest = line.strip_prefix("fn ")?;
     Some(rest.split(['(', '<']).next()?.into())
+}
+
+/// Whether a root file exports a function of a module, as by `pub use walk::line_at;` or `pub use walk::{line_at, start};`.
+fn exports(lib: &str, module: &str, name: &str) -> bool {
+    let items = lib.split("pub use ").skip(1);
+    let items = items.filter_map(|rest| rest.split_once(';')?.0.split_once("::"));
+    items.filter(|(from, _)| *from == module).any(|(_, names)| {
+        let mut names = names.split(['{', ',', '}']).map(str::trim);
+        names.any(|exported| exported == name)
+    })
 }
 
 fn stem(path: &Path) -> String {
@@ -156,8 +186,7 @@ fn those_of_other_crates_are_the_ones_it_says() {
     let exported = |f: &Function| {
         let lib = Path::new(TOP).join(format!("crates/{}/src/lib.rt", f.crate_name));
         let lib = std::fs::read_to_string(lib).unwrap_or_default();
-        (f.module == "lib" && f.public)
-            || lib.contains(&format!("pub use {}::{};", f.module, f.name))
+        (f.module == "lib" && f.public) || exports(&lib, &f.module, &f.name)
     };
     let found: BTreeSet<&str> = all
         .iter()
@@ -205,4 +234,68 @@ fn a_row_is_read_by_names_and_by_files() {
         ),
         ("checker", 2, 0)
     );
+}
+
+#[test]
+fn a_contract_is_read_in_each_of_its_forms() {
+    let text = "
+fn plain(a: u8) -> u8 {
+    requires(a)
+}
+
+fn short(a: u8) -> u8
+    requires { a < 2 }
+{
+    a
+}
+
+pub fn named<'a>(
+    a: u8,
+) -> u8
+    ensures low { result ≡ a
+        × (a ≡ a) }
+    requires room { a < 2 }
+{
+    a
+}
+
+extern \"C\" fn starred()
+    requires* { ⊤ₛ }
+{
+}
+
+pub fn only_ensures(requires: u8)
+    ensures { ⊤ }
+{
+    let requires = {
+        2
+    };
+}
+";
+    let found: Vec<(String, bool, bool)> = functions_of("c", "m", text)
+        .into_iter()
+        .map(|f| (f.name, f.public, f.requires))
+        .collect();
+    let expected = [
+        ("plain", false, false),
+        ("short", false, true),
+        ("named", true, true),
+        ("starred", false, true),
+        ("only_ensures", true, false),
+    ];
+    assert_eq!(
+        found,
+        expected.map(|(name, public, requires)| (name.into(), public, requires))
+    );
+}
+
+#[test]
+fn what_a_root_file_exports_is_read_alone_and_in_a_list() {
+    let lib = "pub use walk::line_at;\nuse walk::hidden;\npub use line::{\n    read_line,\n    Line,\n};\n";
+    assert!(exports(lib, "walk", "line_at"));
+    assert!(exports(lib, "line", "read_line"));
+    assert!(exports(lib, "line", "Line"));
+    assert!(!exports(lib, "walk", "hidden"));
+    assert!(!exports(lib, "walk", "read_line"));
+    assert!(!exports(lib, "line", "read"));
 }

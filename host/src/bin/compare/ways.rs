@@ -163,13 +163,13 @@ fn high_water(child: &Child) -> Option<u64> {
     line.split_whitespace().nth(1)?.parse().ok()
 }
 
-/// The bench program, which `rt check bench` builds.
+/// The bench program, which `tools/build` builds.
 pub fn bench() -> Vec<String> {
     let top = Path::new(env!("CARGO_MANIFEST_DIR")).join("..");
     let program = top.join("target").join("bin").join("bench");
     assert!(
         program.is_file(),
-        "target/bin/bench is missing: run `rt check bench` at the top first"
+        "target/bin/bench is missing: run `tools/build` at the top first"
     );
     vec![program
         .canonicalize()
