@@ -1,6 +1,7 @@
 -- Which events a rule references, an event's base, and where verdicts begin. From document 01, "Feeding, pulling and the window",
 -- and document 02, point 2. Assumes nothing: definitions.
-use Rattle.std.specs.Prelude.{◌≡◌, ℕ, zero, suc, ◌+◌, ◌≤◌, min, Bool, true, false, cond, ◌||◌, ◌≢◌, ◌⊎◌, List, [], ◌∷◌, map, ℤ, ◌≤ℤ◌, ◌==◌}
+use Rattle.std.specs.Prelude.{◌≡◌, ℕ, zero, suc, ◌+◌, ◌≤◌, min, Bool, true, false, cond, ◌||◌, ◌≢◌}
+use Rattle.std.specs.Prelude.{◌⊎◌, List, [], ◌∷◌, map, ℤ, ◌≤ℤ◌, ◌==◌}
 use mathlib.Core.List.{Memᴰ}
 use Rattle.rule.specs.Limits.{offset_limit}
 use Rattle.rule.specs.Tree.{Reference, references}

@@ -1,6 +1,7 @@
 -- The bases of all events and the first instance, in one pass over the references. No public contract cites it. Assumes nothing:
 -- definitions.
-use Rattle.std.specs.Prelude.{◌≡◌, ℕ, suc, ◌+◌, ◌-◌, ◌*◌, ◌/◌, ◌≤◌, min, Bool, cond, ◌&&◌, List, take, replicate, ℤ, pos, negsuc, ◌==◌, nat_le, slice_index, slice_set}
+use Rattle.std.specs.Prelude.{◌≡◌, ℕ, suc, ◌+◌, ◌-◌, ◌*◌, ◌/◌, ◌≤◌, min, Bool, cond, ◌&&◌, List}
+use Rattle.std.specs.Prelude.{take, replicate, ℤ, pos, negsuc, ◌==◌, nat_le, slice_index, slice_set}
 use Rattle.rule.specs.Limits.{event_limit, offset_limit, frame_bytes}
 use Rattle.rule.specs.Tree.{Reference, LimitsR}
 use Rattle.rule.specs.Frames.{frame_count}
@@ -77,10 +78,12 @@ count_fits w low c = nat_le c line_limit && cond (low == no_base) (c == 0) (nat_
 
 -- 12 of a state's fields: not "a state whose frames or W opening would refuse", nor "a board state above them"
 abbrev pub rule_fits : List ℕ → ℕ → ℕ → ℕ → Bool
-rule_fits frames n w number = (profile_passes number w n && is_accepted (checked_of (take (n * frame_bytes) frames))) && width_fits w
+rule_fits frames n w number =
+    (profile_passes number w n && is_accepted (checked_of (take (n * frame_bytes) frames))) && width_fits w
 
 -- 12 of the others, by the pass: nor "a count over 1,000,000, p over 1,009,999", and "the new sum"
 unfoldable pub tally_fits : List ℕ → ℕ → List ℕ → ℕ → Totals → Bool
 tally_fits s w counts p totals =
     nat_le p instance_limit
-    && (all_to event_limit (λ e. count_fits w (slice_index (bases_of s p) e) (slice_index counts e)) && totals_pass (first_for s) p totals)
+    && (all_to event_limit (λ e. count_fits w (slice_index (bases_of s p) e) (slice_index counts e))
+    && totals_pass (first_for s) p totals)

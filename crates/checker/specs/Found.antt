@@ -7,7 +7,8 @@ use Rattle.checker.specs.Ring.{word_at}
 
 -- "per-event counts", and "Occurrence k, note n of event e lives in word (e × W + k mod W) × 4 + n"
 abbrev pub by_window : ℕ → List ℕ → List ℤ → Lookup
-by_window w counts win = record { count = λ e. slice_index counts e; note_at = λ e n k. slice_index_or win (word_at w e k n) (pos 0) }
+by_window w counts win =
+    record { count = λ e. slice_index counts e; note_at = λ e n k. slice_index_or win (word_at w e k n) (pos 0) }
 
 -- "A reference of instance i means occurrence factor × i + offset": what it is by the counts and the window
 abbrev pub found_in_window : ℕ → List ℕ → List ℤ → ℕ → Reference → Found

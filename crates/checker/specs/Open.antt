@@ -39,7 +39,8 @@ opened_as profile frames w =
 
 -- "26, a board opening above either figure, after 11"; the desk's figures are those of 11 and 9
 abbrev pub after_window : Profile → List ℕ → ℕ → List ℤ → OpenResult
-after_window profile frames w win = cond (within_most profile w (frame_count frames)) (opened_as profile frames w) (not_opened win 26 0)
+after_window profile frames w win =
+    cond (within_most profile w (frame_count frames)) (opened_as profile frames w) (not_opened win 26 0)
 
 -- 11 after the checks of frames: "W outside 1 to 256, or a window not 32 × W words"
 abbrev pub after_frames : Profile → List ℕ → ℕ → List ℤ → CheckAnswer → OpenResult

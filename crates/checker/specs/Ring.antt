@@ -1,6 +1,7 @@
 -- Where an occurrence's notes live in the window. From document 01, "Feeding, pulling and the window".
 -- Assumes nothing: definitions.
-use Rattle.std.specs.Prelude.{ℕ, ◌+◌, ◌*◌, ◌%◌, cond, List, [], ◌∷◌, set, ℤ, pos, nat_le, slice_index_or, slice_set}
+use Rattle.std.specs.Prelude.{ℕ, ◌+◌, ◌*◌, ◌%◌, cond, List, [], ◌∷◌, set, ℤ, pos, nat_le, slice_index_or}
+use Rattle.std.specs.Prelude.{slice_set}
 use Rattle.log_lines.specs.declared.line.Notes.{Notes}
 
 -- "four notes" of a line

@@ -1,6 +1,7 @@
 -- The state, and each change of it. From document 01, "Feeding, pulling and the window" and "What is turned down".
 -- Assumes nothing: definitions.
-use Rattle.std.specs.Prelude.{◌≡◌, ℕ, ◌+◌, ◌-◌, ◌*◌, ◌/◌, List, ◌++◌, length, take, replicate, slice_index, slice_set}
+use Rattle.std.specs.Prelude.{◌≡◌, ℕ, ◌+◌, ◌-◌, ◌*◌, ◌/◌, List, ◌++◌, length, take, replicate}
+use Rattle.std.specs.Prelude.{slice_index, slice_set}
 use Rattle.rule.specs.Limits.{event_limit, frame_limit, frame_bytes}
 use Rattle.rule.specs.Tree.{Reference, RuleTree, references}
 use Rattle.rule.specs.Build.{tree_of}

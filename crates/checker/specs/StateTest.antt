@@ -1,6 +1,7 @@
 -- The states that 12 lets through. From document 01, "What is turned down", 12, and document 02, points 2 and 9.
 -- Assumes nothing: definitions.
-use Rattle.std.specs.Prelude.{◌≡◌, ℕ, zero, suc, ◌+◌, ◌-◌, ◌<◌, ◌≤◌, Bool, true, false, cond, ◌&&◌, List, length, ℤ, ◌==◌, nat_le}
+use Rattle.std.specs.Prelude.{◌≡◌, ℕ, zero, suc, ◌+◌, ◌-◌, ◌<◌, ◌≤◌, Bool, true, false, cond, ◌&&◌}
+use Rattle.std.specs.Prelude.{List, length, ℤ, ◌==◌, nat_le}
 use Rattle.rule.specs.Limits.{event_limit}
 use Rattle.rule.specs.Tree.{Reference}
 use Rattle.rule.specs.Check.{checked_of}
@@ -30,7 +31,8 @@ rule_passes s =
 -- not "a count over 1,000,000", "a nonzero count of an unreferenced event, or a count above base plus W"
 unfoldable pub count_passes : List Reference → ℕ → Tally → ℕ → Bool
 count_passes refs w t e =
-    nat_le (count_of t e) line_limit && cond (referenced refs e) (nat_le (count_of t e) (base refs e t.next + w)) (count_of t e == 0)
+    nat_le (count_of t e) line_limit
+    && cond (referenced refs e) (nat_le (count_of t e) (base refs e t.next + w)) (count_of t e == 0)
 
 -- f holds of 0 to n - 1, for 12's counts of every event
 unfoldable pub all_to : ℕ → (ℕ → Bool) → Bool

@@ -1,6 +1,7 @@
 -- The rework tariff, and what it charges. From document 02, point 13; tariff, band, last number, price and surcharge are its terms,
 -- and a violation is a false verdict. Assumes nothing: definitions.
-use Rattle.std.specs.Prelude.{◌≡◌, ℕ, zero, suc, ◌+◌, ◌*◌, ◌/◌, ◌<◌, ◌≤◌, Bool, true, false, cond, ◌&&◌, List, [], ◌∷◌, nat_le, nat_lt, slice_index}
+use Rattle.std.specs.Prelude.{◌≡◌, ℕ, zero, suc, ◌+◌, ◌*◌, ◌/◌, ◌<◌, ◌≤◌, Bool, true, false, cond}
+use Rattle.std.specs.Prelude.{◌&&◌, List, [], ◌∷◌, nat_le, nat_lt, slice_index}
 use Rattle.checker.specs.StateTest.{state_passes}
 use Rattle.checker.specs.declared.State.{State}
 use Rattle.checker.specs.declared.Tariff.{Tariff}

@@ -1,5 +1,6 @@
 // Opening: 9, 10, 7 and 8 by the check of frames, then 11, then 26; a fresh state and a cleared window.
-ghost use Rattle.std.specs.Prelude.{◌≡◌, ◌-◌, ◌*◌, ◌≤◌, ◌&&◌, List, ◌++◌, length, replicate, ℤ, pos, if◌then◌else◌, ◌==◌};
+ghost use Rattle.std.specs.Prelude.{◌≡◌, ◌-◌, ◌*◌, ◌≤◌, ◌&&◌, List, ◌++◌, length, replicate, ℤ, pos};
+ghost use Rattle.std.specs.Prelude.{if◌then◌else◌, ◌==◌};
 ghost use Rattle.rule.specs.Limits.{frame_limit, frame_bytes};
 ghost use Rattle.rule.specs.Check.{checked_of};
 ghost use Rattle.rule.specs.CheckTold as checking;

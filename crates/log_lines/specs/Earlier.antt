@@ -1,6 +1,7 @@
 -- Lines of the earlier edition, and the converter between them and today's. From document 02, point 8; old line and raised line are
 -- its terms. Assumes nothing: definitions.
-use Rattle.std.specs.Prelude.{◌≡◌, Bool, true, false, cond, ◌&&◌, List, [], ◌∷◌, ℕ, zero, suc, ◌+◌, ◌*◌, ◌/◌, ◌%◌, ◌<◌, ℤ, pos, negsuc, nat_abs, ◌≤ℤ◌, eqb, replicate}
+use Rattle.std.specs.Prelude.{◌≡◌, Bool, true, false, cond, ◌&&◌, List, [], ◌∷◌, ℕ, zero, suc, ◌+◌, ◌*◌}
+use Rattle.std.specs.Prelude.{◌/◌, ◌%◌, ◌<◌, ℤ, pos, negsuc, nat_abs, ◌≤ℤ◌, eqb, replicate}
 use Rattle.std.specs.Int.Signed.{le_z}
 use Rattle.std.specs.Int.{w16, w32}
 use Rattle.std.proofs.Common.{of_z}

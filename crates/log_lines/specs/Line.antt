@@ -1,5 +1,6 @@
 -- Log lines, in document 01's words. Assumes nothing: definitions.
-use Rattle.std.specs.Prelude.{◌≡◌, Bool, true, false, cond, ◌&&◌, List, [], ◌∷◌, ℕ, suc, ◌+◌, ◌*◌, ◌≤◌, ◌<◌, min, leb, eqb, ℤ, length, get_or, drop}
+use Rattle.std.specs.Prelude.{◌≡◌, Bool, true, false, cond, ◌&&◌, List, [], ◌∷◌, ℕ, suc, ◌+◌, ◌*◌}
+use Rattle.std.specs.Prelude.{◌≤◌, ◌<◌, min, leb, eqb, ℤ, length, get_or, drop}
 use Rattle.numbers.specs.Word.{signed_word}
 use Rattle.log_lines.specs.Digit.{digit_value, is_digit}
 use Rattle.log_lines.specs.Pair.{pair_of}

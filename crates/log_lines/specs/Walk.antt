@@ -1,5 +1,6 @@
 -- The lines of a log, in document 01's words: "LF ends a line, and the last may lack it". Assumes nothing: definitions.
-use Rattle.std.specs.Prelude.{◌≡◌, Bool, true, false, cond, List, [], ◌∷◌, ℕ, zero, suc, ◌+◌, ◌-◌, length, take, drop, ltb, eqb}
+use Rattle.std.specs.Prelude.{◌≡◌, Bool, true, false, cond, List, [], ◌∷◌, ℕ, zero, suc, ◌+◌, ◌-◌, length}
+use Rattle.std.specs.Prelude.{take, drop, ltb, eqb}
 use Rattle.std.specs.Borrow.{Bor}
 use Rattle.log_lines.specs.declared.walk.LogReader.{LogReader}
 use Rattle.log_lines.specs.declared.walk.Found.{Found}
@@ -89,4 +90,5 @@ at_log_end r = found_end (here r)
 -- "yields them line by line": the lines that a reader hands out, each followed by those of the reader after it, until the log's end
 pub data Yields : LogReader → List (List ℕ) → Type 0 where
   over : (r : LogReader) → at_log_end r ≡ true → Yields r []
-  more : (r : LogReader) (ls : List (List ℕ)) → at_log_end r ≡ false → Yields (moved_on r) ls → Yields r (line_here r ∷ ls)
+  more : (r : LogReader) (ls : List (List ℕ)) → at_log_end r ≡ false → Yields (moved_on r) ls
+      → Yields r (line_here r ∷ ls)

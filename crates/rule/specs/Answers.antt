@@ -1,6 +1,7 @@
 -- The answer of `read`, in the words of trees: each answer, with what holds of the text and what the earlier checks leave.
 -- From document 01, "What is turned down", 1 to 8, and document 02, point 1: 18, "after 5". Assumes nothing: definitions.
-use Rattle.std.specs.Prelude.{◌≡◌, ◌⊎◌, List, [], ◌++◌, ℕ, ◌-◌, ◌*◌, ◌≤◌, ◌<◌, length, replicate}
+use Rattle.std.specs.Prelude.{◌≡◌, ◌⊎◌, List, [], ◌++◌, ℕ, ◌-◌, ◌*◌, ◌≤◌, ◌<◌, length}
+use Rattle.std.specs.Prelude.{replicate}
 use Rattle.std.proofs.Math.Option.{none, some}
 use Rattle.rule.specs.Limits.{frame_limit, frame_bytes, buffer_bytes}
 use Rattle.rule.specs.ReadLimits.{text_limit, depth_limit}

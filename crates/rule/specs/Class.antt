@@ -79,8 +79,8 @@ among (x ∷ xs) b = eqb b x || among xs b
 -- "marks (those quoted below)": those of one byte, ; ! { } = < > + - * ( ) [ ]
 abbrev pub one_byte_marks : List ℕ
 one_byte_marks =
-    semicolon ∷ bang ∷ open_brace ∷ close_brace ∷ equal_mark ∷ less_mark ∷ more_mark ∷ plus_mark ∷ minus_mark ∷ star
-    ∷ open_paren ∷ close_paren ∷ open_bracket ∷ close_bracket ∷ []
+    semicolon ∷ bang ∷ open_brace ∷ close_brace ∷ equal_mark ∷ less_mark ∷ more_mark ∷ plus_mark ∷ minus_mark
+    ∷ star ∷ open_paren ∷ close_paren ∷ open_bracket ∷ close_bracket ∷ []
 
 -- a byte of a quoted mark
 abbrev pub is_mark_byte : ℕ → Bool

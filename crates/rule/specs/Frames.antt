@@ -1,6 +1,7 @@
 -- Frames, the document's word for a step of a rule in 8 bytes: kinds and fields.
 -- From document 01, "From rule text to frames" and "What is turned down", 10. Assumes nothing: definitions.
-use Rattle.std.specs.Prelude.{Bool, ◌&&◌, cond, List, [], ◌∷◌, ℕ, ◌+◌, ◌*◌, ◌/◌, ◌<◌, leb, ltb, eqb, ℤ, pos, nat_abs, get_or, length}
+use Rattle.std.specs.Prelude.{Bool, ◌&&◌, cond, List, [], ◌∷◌, ℕ, ◌+◌, ◌*◌, ◌/◌, ◌<◌, leb, ltb, eqb}
+use Rattle.std.specs.Prelude.{ℤ, pos, nat_abs, get_or, length}
 use Rattle.std.specs.Int.Signed.{le_z}
 use Rattle.numbers.specs.Word.{signed_word}
 use Rattle.rule.specs.Limits.{event_limit, note_limit, factor_limit, offset_limit, frame_bytes}

@@ -1,5 +1,6 @@
 -- What the reader remembers, and what each act does to it. A place is kept plus 1, 0 for none. Assumes nothing: definitions.
-use Rattle.std.specs.Prelude.{ℕ, zero, suc, ◌+◌, ◌-◌, ◌*◌, ◌/◌, ◌%◌, min, Bool, true, false, cond, List, [], ◌∷◌, ◌++◌, length, get_or, set, ltb, leb, eqb}
+use Rattle.std.specs.Prelude.{ℕ, zero, suc, ◌+◌, ◌-◌, ◌*◌, ◌/◌, ◌%◌, min, Bool, true, false, cond, List, []}
+use Rattle.std.specs.Prelude.{◌∷◌, ◌++◌, length, get_or, set, ltb, leb, eqb}
 use Rattle.rule.specs.Limits.{event_limit, note_limit, frame_limit, frame_bytes, decimal_limit}
 use Rattle.rule.specs.ReadLimits.{depth_limit}
 use Rattle.rule.specs.Frames.{Source, Kind, kind_byte, scale_byte}

@@ -1,6 +1,7 @@
 -- A rule's scale, none without the clause: the decimals that notes and literals have by it, and the head of the frames.
 -- From document 02, point 1. Assumes nothing: definitions.
-use Rattle.std.specs.Prelude.{Bool, true, ◌&&◌, cond, List, [], ◌∷◌, ℕ, ◌*◌, ◌≤◌, leb, eqb, pos, nat_abs, length, drop}
+use Rattle.std.specs.Prelude.{Bool, true, ◌&&◌, cond, List, [], ◌∷◌, ℕ, ◌*◌, ◌≤◌, leb, eqb, pos, nat_abs}
+use Rattle.std.specs.Prelude.{length, drop}
 use Rattle.std.proofs.Math.Option.{Option, none, some}
 use Rattle.rule.specs.Limits.{decimal_limit, frame_bytes}
 use Rattle.rule.specs.Frames.{scale_byte, frame, frame_at}

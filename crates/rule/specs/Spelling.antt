@@ -1,7 +1,8 @@
 -- Refusals 4, 5 and 18 by letters and by decimal value, and the number of a name by letters: the words of document 01, "What is
 -- turned down" and "From rule text to frames", and of point 1 of document 02. proofs/SpellSame: the numbers of names and the
 -- capped values that the reader compares say the same. Assumes nothing: definitions.
-use Rattle.std.specs.Prelude.{ℕ, suc, ◌+◌, ◌-◌, ◌*◌, ◌≡◌, Bool, true, false, cond, length, take, drop, ltb, leb, eqb}
+use Rattle.std.specs.Prelude.{ℕ, suc, ◌+◌, ◌-◌, ◌*◌, ◌≡◌, Bool, true, false, cond, length, take, drop, ltb, leb}
+use Rattle.std.specs.Prelude.{eqb}
 use Rattle.std.proofs.Math.Option.{Option, none, some}
 use mathlib.Core.List.{List, [], ◌∷◌, ◌++◌, Memᴰ}
 use Rattle.rule.specs.ReadLimits.{name_letters}
@@ -101,7 +102,8 @@ module _ (text : List ℕ) where
   -- 4: "a name over 12 letters, twice in its list, a 9th event, a 5th note, or undeclared in its role", after the names before it
   abbrev pub bad_name : List Named → Named → Bool
   bad_name before (declared r p) =
-      cond (long_at p) true (cond (among_words (letters text p) (words_of r before)) true (leb (room r) (length (words_of r before))))
+      cond (long_at p) true
+      (cond (among_words (letters text p) (words_of r before)) true (leb (room r) (length (words_of r before))))
   bad_name before (used r p) = cond (long_at p) true (cond (among_words (letters text p) (words_of r before)) false true)
 
   -- "place the first such name"

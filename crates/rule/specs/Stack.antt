@@ -1,6 +1,7 @@
 -- An array with a count as a stack, the top first: what inner functions say of their arrays. No public contract cites it.
 -- Assumes nothing: definitions.
-use Rattle.std.specs.Prelude.{◌≡◌, cond, List, [], ◌∷◌, ℕ, zero, suc, ◌+◌, ◌*◌, ◌≤◌, ◌<◌, leb, length, get_or}
+use Rattle.std.specs.Prelude.{◌≡◌, cond, List, [], ◌∷◌, ℕ, zero, suc, ◌+◌, ◌*◌, ◌≤◌, ◌<◌, leb}
+use Rattle.std.specs.Prelude.{length, get_or}
 use Rattle.rule.specs.Limits.{frame_limit, decimal_limit, magnitude_limit}
 use Rattle.rule.specs.Scale.{note_decimals, literal_decimals, head_frames, scale_of}
 use Rattle.rule.specs.Decimals.{Term, term}

@@ -1,5 +1,6 @@
 -- The tokens of a text, from 'From rule text to frames' of document 01. Assumes nothing: definitions.
-use Rattle.std.specs.Prelude.{ℕ, zero, suc, ◌+◌, ◌-◌, ◌≤◌, ◌<◌, ◌≡◌, Bool, true, false, ◌&&◌, cond, length, get_or, take, drop, leb, eqb}
+use Rattle.std.specs.Prelude.{ℕ, zero, suc, ◌+◌, ◌-◌, ◌≤◌, ◌<◌, ◌≡◌, Bool, true, false, ◌&&◌, cond}
+use Rattle.std.specs.Prelude.{length, get_or, take, drop, leb, eqb}
 use mathlib.Core.List.{List, [], ◌∷◌, ◌++◌, Memᴰ}
 use Rattle.rule.specs.Class.{letter, digit, blank, mark, among, one_byte_marks, class_of, span, OfClass}
 use Rattle.rule.specs.Class.{semicolon, point, minus_mark, more_mark, bar, ampersand, bang, equal_mark, less_mark}

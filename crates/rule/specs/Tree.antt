@@ -1,6 +1,7 @@
 -- A rule as a tree: sums and conditions, their limits, their frames in postfix order, their references and magnitudes.
 -- From document 01, "From rule text to frames", and document 02, point 1. Assumes nothing: definitions.
-use Rattle.std.specs.Prelude.{◌≡◌, List, [], ◌∷◌, ◌++◌, ℕ, ◌+◌, ◌*◌, ◌/◌, ◌%◌, ◌≤◌, ◌<◌, ℤ, pos, nat_abs}
+use Rattle.std.specs.Prelude.{◌≡◌, List, [], ◌∷◌, ◌++◌, ℕ, ◌+◌, ◌*◌, ◌/◌, ◌%◌, ◌≤◌, ◌<◌}
+use Rattle.std.specs.Prelude.{ℤ, pos, nat_abs}
 use Rattle.std.proofs.Math.Option.{Option}
 use Rattle.std.specs.Int.{w32}
 use Rattle.std.proofs.Common.{of_z}

@@ -1,6 +1,7 @@
 -- References at an instance: which occurrence each means, and what is found there.
 -- From document 01, "Verdicts". Assumes nothing: definitions.
-use Rattle.std.specs.Prelude.{Bool, true, false, cond, ◌||◌, List, [], ◌∷◌, ℕ, ◌*◌, ltb, ℤ, pos, negsuc, ◌+ℤ◌, length, get_or}
+use Rattle.std.specs.Prelude.{Bool, true, false, cond, ◌||◌, List, [], ◌∷◌, ℕ, ◌*◌, ltb, ℤ, pos, negsuc}
+use Rattle.std.specs.Prelude.{◌+ℤ◌, length, get_or}
 use Rattle.rule.specs.Tree.{Reference}
 use Rattle.verdict.specs.declared.Meant.{Meant}
 use Rattle.verdict.specs.declared.Meant.TheVariants.{Void, At}

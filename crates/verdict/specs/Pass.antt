@@ -101,4 +101,5 @@ module _ (scale : ℕ) where
 -- what judge answers: of the frames behind the head, by the scale that it carries
 unfoldable pub judgement_of : List ℕ → ℕ → List ℕ → List ℤ → Judgement
 judgement_of s i marks notes =
-    body_judgement (note_decimals (scale_of s)) (body s) i (drop (head_frames (scale_of s)) marks) (drop (head_frames (scale_of s)) notes)
+    body_judgement (note_decimals (scale_of s)) (body s) i (drop (head_frames (scale_of s)) marks)
+    (drop (head_frames (scale_of s)) notes)

@@ -1,6 +1,7 @@
 -- The evaluator's arrays as stacks: what inner functions say of them. No public contract cites it.
 -- Assumes nothing: definitions.
-use Rattle.std.specs.Prelude.{◌≡◌, true, cond, List, [], ◌∷◌, map, ℕ, ◌-◌, ◌*◌, ◌≤◌, ◌<◌, eqb, ℤ, pos, nat_abs, length, get_or}
+use Rattle.std.specs.Prelude.{◌≡◌, true, cond, List, [], ◌∷◌, map, ℕ, ◌-◌, ◌*◌, ◌≤◌, ◌<◌, eqb, ℤ}
+use Rattle.std.specs.Prelude.{pos, nat_abs, length, get_or}
 use Rattle.rule.specs.Limits.{frame_limit, frame_bytes, decimal_limit, magnitude_limit}
 use Rattle.rule.specs.Frames.{Arithmetic, add, subtract, multiply, Kind, frame_count}
 use Rattle.rule.specs.Build.{top2}

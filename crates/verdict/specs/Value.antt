@@ -1,5 +1,6 @@
 -- The value of a rule's tree at an instance. From document 01, "Verdicts", and document 02, point 1. Assumes nothing: definitions.
-use Rattle.std.specs.Prelude.{Bool, false, cond, not, ◌++◌, ℕ, eqb, ℤ, pos, negsuc, nat_abs, ◌+ℤ◌, ◌-ℤ◌, ◌*ℤ◌}
+use Rattle.std.specs.Prelude.{Bool, false, cond, not, ◌++◌, ℕ, eqb, ℤ, pos, negsuc, nat_abs, ◌+ℤ◌, ◌-ℤ◌}
+use Rattle.std.specs.Prelude.{◌*ℤ◌}
 use Rattle.std.specs.Int.Signed.{lt_z, le_z}
 use Rattle.rule.specs.Frames.{Arithmetic, add, subtract, multiply, Relation, equal, unequal, less, at_most, more, at_least}
 use Rattle.rule.specs.Tree.{Sum, literal, instance, reference, arithmetic, abs, Cond, relation, connective, RuleTree, references_s}
