@@ -63,7 +63,7 @@ pub data UntilWaiting : Progress → Progress → Type 0 where
   last : (x : Progress) → (pull_of x).answer ≡ waiting → UntilWaiting x (pulled_once x)
   more : (x y : Progress) (v : Verdict) → (pull_of x).answer ≡ verdict v → UntilWaiting (pulled_once x) y → UntilWaiting x y
 
--- the same, in at most so many pulls; `pulls-wait` (proofs/Headlines) says that pull_limit of them are enough
+-- the same, in at most so many pulls; `pulls_wait` (proofs/Headlines) says that pull_limit of them are enough
 unfoldable pub pulls : ℕ → Progress → Progress
 pulls zero x = x
 pulls (suc k) x = cond (is_verdict (pull_of x).answer) (pulls k (pulled_once x)) (pulled_once x)

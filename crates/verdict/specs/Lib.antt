@@ -7,7 +7,7 @@ pub mod Rational
 pub mod Settled
 pub mod Later
 pub mod Marks
--- What the contracts of the evaluator and of inner functions are said by; `judge-accepted` in proofs/Main ties it to the
+-- What the contracts of the evaluator and of inner functions are said by; `judge_accepted` in proofs/Main ties it to the
 -- definitions above.
 pub mod Pass
 pub mod Stacks

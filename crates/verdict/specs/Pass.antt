@@ -1,5 +1,5 @@
 -- The evaluator's pass over the frames: what its contract says for every array of marks and of notes.
--- That it is the value of the rule's tree is proved (Main, judge-accepted). Assumes nothing: definitions.
+-- That it is the value of the rule's tree is proved (Main, judge_accepted). Assumes nothing: definitions.
 use Rattle.std.specs.Prelude.{Bool, false, cond, not, ◌||◌, List, [], ◌∷◌, ℕ, zero, suc, eqb, ℤ, pos, get_or, drop}
 use Rattle.rule.specs.Frames.{Source, literal, instance, reference, Relation, kind_of, frame_at, frame_count}
 use Rattle.rule.specs.Frames.{Kind, operand, arithmetic, absolute, relation, negation, connective, none}

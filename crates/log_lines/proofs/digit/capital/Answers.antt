@@ -1,4 +1,4 @@
--- `log::digit::capital` meets its contract. Assumes nothing.
+-- `log_lines::digit::capital` meets its contract. Assumes nothing.
 use native.Mathlib.Omega.{arith}
 use Rattle.log_lines.proofs.Values.{capital-of-small, capital-of-other}
 use Rattle.log_lines.proofs.digit.capital.Goals as goal

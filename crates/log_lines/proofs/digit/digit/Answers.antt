@@ -1,4 +1,4 @@
--- `log::digit::digit` meets its contract: what each arm returns, then what the last arm returns below, between and above the
+-- `log_lines::digit::digit` meets its contract: what each arm returns, then what the last arm returns below, between and above the
 use native.Mathlib.Omega.{arith}
 use Rattle.log_lines.proofs.Values.{value-of-decimal, value-of-capital, value-of-small, value-of-other}
 use Rattle.log_lines.proofs.digit.digit.Goals as goal

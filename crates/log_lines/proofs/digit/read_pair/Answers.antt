@@ -1,4 +1,4 @@
--- `log::digit::read_pair` meets its contract. Assumes nothing.
+-- `log_lines::digit::read_pair` meets its contract. Assumes nothing.
 use native.Mathlib.Omega.{arith}
 use borrow.Author.Tests.{lt-ltb, le-ltb}
 use Rattle.log_lines.specs.Digit.{digit_value}

@@ -1,11 +1,11 @@
--- `log::earlier::loss_by` meets its contract: what each branch returns. Assumes nothing.
+-- `log_lines::earlier::loss_by` meets its contract: what each branch returns. Assumes nothing.
 use mathlib.Core.Path.{ap}
 use mathlib.Core.Bool.{not}
 use Rattle.log_lines.specs.Earlier.{lower_told}
 use Rattle.log_lines.proofs.Losses.{fourth_lost, first_lost, second_lost, third_lost, nothing_lost}
 use Rattle.log_lines.proofs.earlier.loss_by.Goals as goal
 
--- `log::earlier::loss_by` meets its contract: what each branch returns. Assumes nothing.
+-- `log_lines::earlier::loss_by` meets its contract: what each branch returns. Assumes nothing.
 pub returns-then-not-fourth : goal.returns-then-not-fourth
 unfolding lower_told
 returns-then-not-fourth c =

@@ -1,4 +1,4 @@
--- `log::earlier::loss_of` meets its contract: each note goes to its test. Assumes nothing.
+-- `log_lines::earlier::loss_of` meets its contract: each note goes to its test. Assumes nothing.
 use mathlib.Core.Path.{ap, ◌∙◌}
 use lib.Dec.{eqb}
 use lib.IntN.{ℤ, nat_abs}

@@ -1,4 +1,4 @@
--- `log::earlier::lowered_line` meets its contract. Assumes nothing.
+-- `log_lines::earlier::lowered_line` meets its contract. Assumes nothing.
 use Rattle.log_lines.proofs.Converting.{lowered-bytes}
 use Rattle.log_lines.proofs.earlier.lowered_line.Goals as goal
 

@@ -1,7 +1,7 @@
--- `log::earlier::not_lowered` meets its contract. Assumes nothing.
+-- `log_lines::earlier::not_lowered` meets its contract. Assumes nothing.
 use mathlib.Core.Path.{refl}
 use Rattle.log_lines.proofs.earlier.not_lowered.Goals as goal
 
--- `log::earlier::not_lowered` meets its contract. Assumes nothing.
+-- `log_lines::earlier::not_lowered` meets its contract. Assumes nothing.
 pub returns : goal.returns
 returns c = refl

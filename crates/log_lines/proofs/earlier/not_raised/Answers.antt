@@ -1,7 +1,7 @@
--- `log::earlier::not_raised` meets its contract. Assumes nothing.
+-- `log_lines::earlier::not_raised` meets its contract. Assumes nothing.
 use mathlib.Core.Path.{refl}
 use Rattle.log_lines.proofs.earlier.not_raised.Goals as goal
 
--- `log::earlier::not_raised` meets its contract. Assumes nothing.
+-- `log_lines::earlier::not_raised` meets its contract. Assumes nothing.
 pub returns : goal.returns
 returns c = refl

@@ -1,4 +1,4 @@
--- `log::earlier::put_capitals` copies byte by byte. The invariant: with the bytes that are left put too, the whole is there.
+-- `log_lines::earlier::put_capitals` copies byte by byte. The invariant: with the bytes that are left put too, the whole is there.
 use mathlib.Core.Path.{◌≡◌}
 use mathlib.Core.List.{map}
 use Prim.Native.Nat.{◌+◌, ◌-◌, ◌≤◌}

@@ -1,4 +1,4 @@
--- `log::earlier::put_raised` meets its contract. Assumes nothing.
+-- `log_lines::earlier::put_raised` meets its contract. Assumes nothing.
 use mathlib.Core.Path.{◌∙◌}
 use Prim.Native.Nat.{◌+◌, ◌-◌}
 use native.Mathlib.Omega.{arith}
@@ -6,7 +6,7 @@ use lib.ListN.{drop, length-set, length-take}
 use Rattle.log_lines.proofs.Copies.{put-note}
 use Rattle.log_lines.proofs.earlier.put_raised.Goals as goal
 
--- `log::earlier::put_raised` meets its contract. Assumes nothing.
+-- `log_lines::earlier::put_raised` meets its contract. Assumes nothing.
 pub bounds-line-at-2 : goal.bounds-line-at-2
 bounds-line-at-2 c = simp length-set (omega arith)
 

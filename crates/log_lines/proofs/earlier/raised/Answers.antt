@@ -1,4 +1,4 @@
--- `log::earlier::raised` meets its contract. Assumes nothing.
+-- `log_lines::earlier::raised` meets its contract. Assumes nothing.
 use mathlib.Core.Path.{sym, ap}
 use native.Mathlib.Omega.{arith}
 use Rattle.log_lines.specs.Earlier.{old_digits, Converted, raise_told}

@@ -1,4 +1,4 @@
--- `log::earlier::raised_line` meets its contract. Assumes nothing.
+-- `log_lines::earlier::raised_line` meets its contract. Assumes nothing.
 use Rattle.log_lines.proofs.Converting.{raised-bytes}
 use Rattle.log_lines.proofs.earlier.raised_line.Goals as goal
 

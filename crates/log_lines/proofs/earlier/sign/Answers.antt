@@ -1,4 +1,4 @@
--- `log::earlier::sign` meets its contract. Assumes nothing.
+-- `log_lines::earlier::sign` meets its contract. Assumes nothing.
 use native.Mathlib.Omega.{arith}
 use borrow.Author.Tests.{le-leb, lt-leb}
 use Rattle.log_lines.specs.Digit.{digit_value}

@@ -1,4 +1,4 @@
--- `log::line::bad_place_of` meets its contract. The invariant: each byte before `i` is a digit. The measure is how many digits are left.
+-- `log_lines::line::bad_place_of` meets its contract. The invariant: each byte before `i` is a digit. The measure is how many digits are left.
 use borrow.Author.Tests.{lt-ltb, le-ltb}
 use lib.ListN.{get_or}
 use Rattle.log_lines.specs.Digit.{digit_value}

@@ -1,4 +1,4 @@
--- `log::line::bad_place_of` meets its contract. The invariant: each byte before `i` is a digit. The measure is how many digits are left.
+-- `log_lines::line::bad_place_of` meets its contract. The invariant: each byte before `i` is a digit. The measure is how many digits are left.
 use mathlib.Core.Path.{◌≡◌}
 use Prim.Native.Nat.{◌-◌, ◌≤◌}
 use lib.ListN.{length}

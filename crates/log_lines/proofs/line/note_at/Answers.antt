@@ -1,4 +1,4 @@
--- `log::line::note_at` meets its contract. Assumes nothing.
+-- `log_lines::line::note_at` meets its contract. Assumes nothing.
 use mathlib.Core.Path.{sym, ap, ◌∙◌}
 use native.Mathlib.Omega.{arith}
 use mir.Facts.{to_z-of_z}

@@ -1,4 +1,4 @@
--- `log::line::read_line` meets its contract. Assumes nothing.
+-- `log_lines::line::read_line` meets its contract. Assumes nothing.
 use mathlib.Core.Path.{sym, ap, ◌∙◌}
 use native.Mathlib.Omega.{arith}
 use mir.Syntax.{w32}
@@ -8,7 +8,7 @@ use Rattle.log_lines.proofs.Lines.{line-of-other, line-of-notes, line-of-bad-pai
 use borrow.Author.Rules.{sfits_of}
 use Rattle.log_lines.proofs.line.read_line.Goals as goal
 
--- `log::line::read_line` meets its contract. Assumes nothing.
+-- `log_lines::line::read_line` meets its contract. Assumes nothing.
 pub returns-then-bytes-ne-DIGITS : goal.returns-then-bytes-ne-DIGITS
 unfolding line_told
 returns-then-bytes-ne-DIGITS c =

@@ -1,7 +1,7 @@
--- `log::walk::is_end` meets its contract. Assumes nothing.
+-- `log_lines::walk::is_end` meets its contract. Assumes nothing.
 use Rattle.log_lines.proofs.Walking.{end-tested}
 use Rattle.log_lines.proofs.walk.is_end.Goals as goal
 
--- `log::walk::is_end` meets its contract. Assumes nothing.
+-- `log_lines::walk::is_end` meets its contract. Assumes nothing.
 pub returns : goal.returns
 returns c = end-tested c.args.log.now c.args.at

@@ -1,4 +1,4 @@
--- `log::walk::line_end` meets its contract. The invariant: the line that is left ends where the whole line ends. Assumes nothing.
+-- `log_lines::walk::line_end` meets its contract. The invariant: the line that is left ends where the whole line ends. Assumes nothing.
 use Rattle.log_lines.proofs.Walking.{at_lf, at_other, at-end}
 use native.Mathlib.Omega.{arith}
 use Rattle.log_lines.proofs.walk.line_end.Goals as goal

@@ -1,4 +1,4 @@
--- `log::walk::line_end` meets its contract. The invariant: the line that is left ends where the whole line ends. Assumes nothing.
+-- `log_lines::walk::line_end` meets its contract. The invariant: the line that is left ends where the whole line ends. Assumes nothing.
 use mathlib.Core.Path.{◌≡◌}
 use Prim.Native.Nat.{◌+◌, ◌-◌, ◌≤◌}
 use lib.ListN.{length, drop}
