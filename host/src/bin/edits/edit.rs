@@ -5,6 +5,7 @@
 pub struct Change {
     pub file: String,
     pub old: String,
+    pub new: String,
 }
 
 /// An edit: what it tries, in words, and what it replaces.
@@ -18,10 +19,7 @@ pub struct Edit {
 pub fn edits(text: &str) -> Vec<Edit> {
     let mut all: Vec<Edit> = Vec::new();
     let mut file = String::new();
-    for line in text
-        .lines()
-        .filter(|line| !line.is_empty() && !line.starts_with("new:"))
-    {
+    for line in text.lines().filter(|line| !line.is_empty()) {
         if let Some(name) = line.strip_prefix("file: ") {
             file = name.to_string();
         } else if let Some(old) = line.strip_prefix("old: ") {
@@ -29,7 +27,12 @@ pub fn edits(text: &str) -> Vec<Edit> {
             edit.changes.push(Change {
                 file: file.clone(),
                 old: old.to_string(),
+                new: String::new(),
             });
+        } else if let Some(new) = line.strip_prefix("new:") {
+            let edit = all.last_mut().expect("words before a change");
+            let change = edit.changes.last_mut().expect("an old text first");
+            change.new = new.strip_prefix(' ').unwrap_or(new).to_string();
         } else {
             all.push(Edit {
                 says: line.to_string(),
@@ -46,9 +49,10 @@ mod tests {
 
     #[test]
     fn words_begin_an_edit_and_a_file_holds_on() {
-        let change = |file: &str, old: &str| Change {
+        let change = |file: &str, old: &str, new: &str| Change {
             file: file.to_string(),
             old: old.to_string(),
+            new: new.to_string(),
         };
         let all = edits(
             "One.\nfile: src/a.rt\nold:  x\nnew: y\nold: z\nnew:\n\
@@ -61,11 +65,11 @@ mod tests {
         );
         assert_eq!(
             all[0].changes,
-            [change("src/a.rt", " x"), change("src/a.rt", "z")]
+            [change("src/a.rt", " x", "y"), change("src/a.rt", "z", "")]
         );
         assert_eq!(
             all[1].changes,
-            [change("src/a.rt", "v"), change("src/b.rt", "u")]
+            [change("src/a.rt", "v", "w"), change("src/b.rt", "u", "t")]
         );
     }
 }

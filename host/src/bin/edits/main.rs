@@ -1,39 +1,50 @@
 //! Where each must-fail edit was refused. The toolchain applies all edits of a file at once and sees that the file is
-//! refused, so one could hide the others. This program reads crates/*/must-fail and what the prover said of each file,
-//! which `rt ci` and `rt must-fail` leave below target/must-fail, and asks for a fact of its own for every edit.
+//! refused, so one could hide the others. This program reads crates/*/must-fail, checks a copy of the crate with the edits of
+//! each file, and asks for a fact of its own for every edit. Where `rt check` or another check here kept what it proved of the
+//! crates as they stand, only what the edits change is checked.
 //!
-//!     cargo run --offline --release --manifest-path host/Cargo.toml --bin edits
+//!     cargo run --offline --release --manifest-path host/Cargo.toml --bin edits [CRATE..]
 //!
 //! It prints a line for each edit, and ends with status 1 where one has no such fact.
 
+mod answers;
 mod edit;
 mod facts;
+mod room;
 mod seen;
 mod source;
 
+use room::Room;
 use source::Sources;
 use std::path::{Path, PathBuf};
 
 fn main() {
     let top = Path::new(env!("CARGO_MANIFEST_DIR")).join("..");
+    let wanted: Vec<String> = std::env::args().skip(1).collect();
+    let room = Room::new(&top);
     let (mut all, mut unseen) = (0, 0);
     for folder in entries(&top.join("crates")) {
-        let sources = Sources::new(files_of(&folder));
-        let files = entries(&folder.join("must-fail")).into_iter();
-        for file in files.filter(|file| file.extension().is_some_and(|ending| ending == "edit")) {
-            let name = format!("{}/{}", stem(&folder), stem(&file));
+        let name = stem(&folder);
+        let mut files = entries(&folder.join("must-fail"));
+        files.retain(|file| file.extension().is_some_and(|ending| ending == "edit"));
+        if files.is_empty() || !wanted.is_empty() && !wanted.contains(&name) {
+            continue;
+        }
+        let sources = Sources::new(&name, files_of(&folder));
+        room.begin(&name);
+        for file in files {
             let edits = edit::edits(&read(&file));
-            let log = read(&top.join("target/must-fail").join(&name).join(".log"));
-            let facts = facts::facts(&log, &name);
+            let facts = facts::facts(&room.tried(&name, &edits));
             for (edit, fact) in edits.iter().zip(seen::seen(&sources, &edits, &facts)) {
                 all += 1;
                 unseen += usize::from(fact.is_none());
                 let place = fact.map_or("NO FACT OF ITS OWN".to_string(), |fact| fact.to_string());
-                println!("{name}: {} [{place}]", edit.says);
+                println!("{name}/{}: {} [{place}]", stem(&file), edit.says);
             }
         }
     }
     println!("{all} edits, {unseen} with no fact of their own");
+    drop(room);
     std::process::exit(i32::from(all == 0 || unseen > 0));
 }
 

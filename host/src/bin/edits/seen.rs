@@ -37,20 +37,23 @@ mod tests {
         let files = [
             (
                 "src/a.rt",
-                "ghost use Rattle·c·specs.specs.D.{deep, flat};\nconst LEAST: u8 = 1;\n\n\
-                 // Words.\npub fn f(x: u8) -> u8\n    ensures { λ r. ⌜ r ≡ flat x ⌝ }\n{\n    x + 1\n}\n\n\
+                "ghost use Rattle.c.specs.D.{deep, flat};\nconst LEAST: u8 = 1;\n\n\
+                 // Words.\npub fn f(x: u8) -> u8\n    ensures { result ≡ flat x }\n{\n    x + 1\n}\n\n\
                  fn g(x: u8) -> u8\n{\n    f(x) + LEAST\n}\n",
             ),
             (
                 "specs/D.antt",
-                "use Prim.Native.Nat.{ℕ, _+_}\n\nabbrev pub flat : ℕ → ℕ\nflat n = n + 1\n\n-- one that is deep\nabbrev pub deep : ℕ → ℕ\ndeep n =\n    flat n + 2\n\npub record Low (n : ℕ) : Type 0 where\n  -- few\n  pub few : n ≤ 2\n",
+                "use Rattle.std.specs.Prelude.{ℕ, ◌+◌}\n\nabbrev pub flat : ℕ → ℕ\nflat n = n + 1\n\n-- one that is deep\nabbrev pub deep : ℕ → ℕ\ndeep n =\n    flat n + 2\n\npub record Low (n : ℕ) : Type 0 where\n  -- few\n  pub few : n ≤ 2\n",
             ),
             (
                 "proofs/Law.antt",
-                "use Rattle·c·specs.specs.D.{deep, Low}\nlaw : (n : ℕ) → deep n ≡ n + 3\nlaw n = refl\n\nlow : Low 1\nlow = record { few = le }\n",
+                "use Rattle.c.specs.D.{deep, Low}\nlaw : (n : ℕ) → deep n ≡ n + 3\nlaw n = refl\n\nlow : Low 1\nlow = record { few = le }\n",
             ),
         ];
-        Sources::new(files.map(|(name, text)| (name.to_string(), text.to_string())))
+        Sources::new(
+            "c",
+            files.map(|(name, text)| (name.to_string(), text.to_string())),
+        )
     }
 
     /// What is said of each edit, where facts of these proofs and names are refused.
@@ -68,14 +71,14 @@ mod tests {
     }
 
     const F: &str = "F.\nfile: src/a.rt\nold:     x + 1\nnew:     x + 2\n";
-    const ENSURES: &str = "Ensures.\nfile: src/a.rt\nold: r ≡ flat x\nnew: r ≡ flat 0\n";
+    const ENSURES: &str = "Ensures.\nfile: src/a.rt\nold: result ≡ flat x\nnew: result ≡ flat 0\n";
     const LEAST: &str =
         "Least.\nfile: src/a.rt\nold: const LEAST: u8 = 1;\nnew: const LEAST: u8 = 2;\n";
     const FLAT: &str = "Flat.\nfile: specs/D.antt\nold: flat n = n + 1\nnew: flat n = n + 2\n";
     const DEEP: &str = "Deep.\nfile: specs/D.antt\nold: flat n + 2\nnew: flat n + 3\n";
     const FEW: &str = "Few.\nfile: specs/D.antt\nold: few : n ≤ 2\nnew: few : n ≤ 0\n";
-    const OF_F: (&str, &str) = ("proofs/a/f/Proof.antt", "returns-f");
-    const OF_G: (&str, &str) = ("proofs/a/g/Proof.antt", "returns-g");
+    const OF_F: (&str, &str) = ("proofs/a/f/Answers.antt", "returns-f");
+    const OF_G: (&str, &str) = ("proofs/a/g/Answers.antt", "returns-g");
     const OF_LAW: (&str, &str) = ("proofs/Law.antt", "law");
     const OF_LOW: (&str, &str) = ("proofs/Law.antt", "low");
 
@@ -114,7 +117,7 @@ mod tests {
 
     #[test]
     fn a_line_that_only_brings_names_in_is_passed_over() {
-        let names = "file: specs/D.antt\nold: {ℕ, _+_}\nnew: {ℕ, _+_, _-_}\n";
+        let names = "file: specs/D.antt\nold: {ℕ, ◌+◌}\nnew: {ℕ, ◌+◌, ◌-◌}\n";
         assert_eq!(places(&format!("{DEEP}{names}"), &[OF_LAW]), [some("law")]);
         assert_eq!(places(&format!("Names.\n{names}"), &[OF_LAW]), [None]);
     }

@@ -22,7 +22,7 @@ struct Function {
     file: String,
     name: String,
     text: String,
-    /// The file of its proof.
+    /// The folder of its proof.
     proof: String,
     /// How its facts begin, where functions that call one another share a proof.
     prefix: String,
@@ -37,6 +37,7 @@ struct Definition {
 
 /// A crate's sources: files by their paths in it, and the functions and the definitions in them.
 pub struct Sources {
+    name: String,
     files: BTreeMap<String, String>,
     functions: Vec<Function>,
     definitions: Vec<Definition>,
@@ -50,12 +51,12 @@ enum Item {
 }
 
 impl Sources {
-    pub fn new(files: impl IntoIterator<Item = (String, String)>) -> Sources {
+    pub fn new(name: &str, files: impl IntoIterator<Item = (String, String)>) -> Sources {
         let files: BTreeMap<String, String> = files.into_iter().collect();
         let below =
             |part: &'static str| files.iter().filter(move |(file, _)| file.starts_with(part));
         let functions = below("src/")
-            .flat_map(|(file, text)| functions(&files, file, text))
+            .flat_map(|(file, text)| functions(file, text))
             .collect();
         let definitions = below("specs/").flat_map(|(file, text)| {
             declarations(text)
@@ -68,6 +69,7 @@ impl Sources {
         });
         let definitions = definitions.collect();
         Sources {
+            name: name.to_string(),
             files,
             functions,
             definitions,
@@ -99,8 +101,8 @@ impl Sources {
             Item::Function(name) => {
                 let is_it = |f: &Function| f.file == *file && f.name == name;
                 let k = self.functions.iter().position(is_it)?;
-                let body =
-                    text.find(&self.functions[k].text)? + self.functions[k].text.find("\n{")?;
+                let own = &self.functions[k].text;
+                let body = text.find(own)? + own.find("\n{").or_else(|| own.find(" {\n"))?;
                 Some(if place < body {
                     Owner::Contract(k)
                 } else {
@@ -138,16 +140,13 @@ impl Sources {
     /// Whether a text of a file uses a definition: the file has it, or brings it in, and the text names it.
     fn uses(&self, file: &str, text: &str, definition: usize) -> bool {
         let it = &self.definitions[definition];
-        let module = format!(
-            "·specs.specs.{}",
-            it.file
-                .trim_start_matches("specs/")
-                .trim_end_matches(".antt")
-        );
+        let module = it.file.trim_start_matches("specs/");
+        let module = module.trim_end_matches(".antt").replace('/', ".");
+        let module = format!("use Rattle.{}.specs.{module}", self.name);
         let brings = |line: &str| {
             let rest = line.split_once(&module).map(|(_, rest)| rest);
             rest.is_some_and(|rest| {
-                rest.is_empty()
+                rest.trim_end_matches(';').is_empty()
                     || rest.starts_with(" as ")
                     || rest.starts_with(".{") && has_word(rest, &it.name)
             })
@@ -174,7 +173,7 @@ impl Sources {
 
 impl Function {
     fn proved_by(&self, fact: &Fact) -> bool {
-        fact.file == self.proof && fact.name.starts_with(&self.prefix)
+        fact.file.starts_with(&self.proof) && fact.name.starts_with(&self.prefix)
     }
 
     fn uses_constant(&self, file: &str, name: &str) -> bool {
@@ -189,7 +188,7 @@ impl Function {
 }
 
 /// The functions of a file of src/.
-fn functions(files: &BTreeMap<String, String>, file: &str, text: &str) -> Vec<Function> {
+fn functions(file: &str, text: &str) -> Vec<Function> {
     let folder = match file.trim_start_matches("src/").trim_end_matches(".rt") {
         "lib" | "main" => "proofs/".to_string(),
         module => format!("proofs/{module}/"),
@@ -204,7 +203,7 @@ fn functions(files: &BTreeMap<String, String>, file: &str, text: &str) -> Vec<Fu
     let mut all = Vec::new();
     for ((start, item), end) in items.into_iter().zip(ends) {
         if let Item::Function(name) = item {
-            let (proof, prefix) = proof_of(files, &folder, &name);
+            let (proof, prefix) = proof_of(text, start, &folder, &name);
             all.push(Function {
                 file: file.to_string(),
                 name,
@@ -217,18 +216,25 @@ fn functions(files: &BTreeMap<String, String>, file: &str, text: &str) -> Vec<Fu
     all
 }
 
-/// The file of a function's proof, and how its facts begin: `+f+g/Proof.antt` is of both, with facts `f-..` and `g-..`.
-fn proof_of(files: &BTreeMap<String, String>, folder: &str, name: &str) -> (String, String) {
-    let part = format!("+{name}+");
-    let shared = files.keys().find(|file| {
-        let names = file
-            .strip_prefix(folder)
-            .and_then(|rest| rest.strip_suffix("/Proof.antt"));
-        names.is_some_and(|names| names.starts_with('+') && format!("{names}+").contains(&part))
-    });
-    match shared {
-        Some(file) => (file.clone(), format!("{}-", name.replace('_', "-"))),
-        None => (format!("{folder}{name}/Proof.antt"), String::new()),
+/// The folder of a function's proof, and how its facts begin: `+NAME` is of all functions under `#[cycle(NAME)]`, and where these are
+/// more than one, the facts of `f` begin with `f-`.
+fn proof_of(text: &str, start: usize, folder: &str, name: &str) -> (String, String) {
+    let mut above = text[..start]
+        .lines()
+        .rev()
+        .take_while(|line| line.starts_with("#["));
+    let cycle = above.find(|line| line.starts_with("#[cycle("));
+    match cycle.map(|line| (line, &line["#[cycle(".len()..line.len() - ")]".len()])) {
+        Some((line, cycle)) => {
+            let is_shared = text.lines().filter(|other| *other == line).count() > 1;
+            let prefix = if is_shared {
+                format!("{name}-")
+            } else {
+                String::new()
+            };
+            (format!("{folder}+{cycle}/"), prefix)
+        }
+        None => (format!("{folder}{name}/"), String::new()),
     }
 }
 
@@ -317,7 +323,7 @@ fn definition_at(text: &str, place: usize) -> Option<String> {
 
 /// Whether a text has a name as a whole word.
 fn has_word(text: &str, name: &str) -> bool {
-    let inside = |c: char| c.is_alphanumeric() || "_-′".contains(c);
+    let inside = |c: char| c.is_alphanumeric() || "_-'".contains(c);
     text.match_indices(name).any(|(at, _)| {
         let (before, after) = (
             text[..at].chars().next_back(),

@@ -1,0 +1,130 @@
+//! A copy of the crates, in which edits are tried.
+
+use crate::answers;
+use crate::edit::Edit;
+use crate::facts;
+use crate::{entries, read};
+use std::collections::BTreeMap;
+use std::path::{Path, PathBuf};
+use std::process::Command;
+
+/// The copy. It lies outside the checkout, where `rt ci` takes no sources but its crates', and goes when it is dropped.
+pub struct Room {
+    top: PathBuf,
+}
+
+impl Room {
+    pub fn new(top: &Path) -> Room {
+        let name = format!("dillplatter-edits-{}", std::process::id());
+        let room = Room {
+            top: std::env::temp_dir().join(name),
+        };
+        for name in ["crates.txt", "HANDLES"] {
+            copy(&top.join(name), &room.top.join(name));
+        }
+        for folder in entries(&top.join("crates")) {
+            let name = folder.file_name().expect("a name");
+            let to = room.top.join("crates").join(name);
+            for part in ["src", "specs", "proofs"] {
+                copy(&folder.join(part), &to.join(part));
+            }
+        }
+        room
+    }
+
+    /// Checks a crate as it stands, so that the checks of its edits begin with that. It panics where the crate is not proved.
+    pub fn begin(&self, name: &str) {
+        let log = self.check(name);
+        let is_proved = log.lines().any(|line| line.starts_with("logic=proved "));
+        assert!(is_proved, "{name} is not proved:\n{log}");
+    }
+
+    /// What the prover says of a crate with all edits of a file. A goal's name can have a number of the code in it: where an edit
+    /// changes that number, the goal's answer is given the new name. An answer that names what is no longer known there is taken
+    /// out, so that a search is tried for its goal. Then it is no name that is refused.
+    pub fn tried(&self, name: &str, edits: &[Edit]) -> String {
+        let mut was: BTreeMap<String, String> = BTreeMap::new();
+        for change in edits.iter().flat_map(|edit| &edit.changes) {
+            let text = self.text(name, &change.file);
+            let times = text.matches(&change.old).count();
+            assert_eq!(times, 1, "{name}, {}: `{}`", change.file, change.old);
+            self.write(name, &change.file, &text.replace(&change.old, &change.new));
+            was.entry(change.file.clone()).or_insert(text);
+        }
+        let mut log = self.check(name);
+        let gone = facts::gone(&log);
+        if !gone.is_empty() {
+            for file in gone.keys() {
+                let text = self.text(name, file);
+                std::fs::remove_file(self.path(name, file)).expect("a file of answers");
+                was.entry(file.clone()).or_insert(text);
+            }
+            let open = facts::facts(&self.check(name));
+            for (file, answers) in &gone {
+                let goals: Vec<&str> = open
+                    .iter()
+                    .filter(|fact| fact.file == *file)
+                    .map(|fact| fact.name.as_str())
+                    .collect();
+                self.write(name, file, &answers::renamed(&was[file], answers, &goals));
+            }
+            log = self.check(name);
+        }
+        let unfit = facts::unfit(&log);
+        if !unfit.is_empty() {
+            for (file, answers) in &unfit {
+                let text = self.text(name, file);
+                self.write(name, file, &answers::without(&text, answers));
+                was.entry(file.clone()).or_insert(text);
+            }
+            log = self.check(name);
+        }
+        for (file, text) in &was {
+            self.write(name, file, text);
+        }
+        log
+    }
+
+    /// What `rt check` says of a crate.
+    fn check(&self, name: &str) -> String {
+        let ran = Command::new("rt")
+            .arg("check")
+            .current_dir(self.top.join("crates").join(name))
+            .output()
+            .expect("rt");
+        String::from_utf8_lossy(&ran.stdout).into_owned()
+    }
+
+    fn path(&self, name: &str, file: &str) -> PathBuf {
+        self.top.join("crates").join(name).join(file)
+    }
+
+    fn text(&self, name: &str, file: &str) -> String {
+        read(&self.path(name, file))
+    }
+
+    fn write(&self, name: &str, file: &str, text: &str) {
+        let path = self.path(name, file);
+        std::fs::write(&path, text).unwrap_or_else(|error| panic!("{}: {error}", path.display()));
+    }
+}
+
+impl Drop for Room {
+    fn drop(&mut self) {
+        // What is left lies in the folder for temporary files.
+        let _ = std::fs::remove_dir_all(&self.top);
+    }
+}
+
+/// Copies a file or a folder, if it is there.
+fn copy(from: &Path, to: &Path) {
+    let failed = |error| panic!("{}: {error}", from.display());
+    if from.is_dir() {
+        for entry in entries(from) {
+            copy(&entry, &to.join(entry.file_name().expect("a name")));
+        }
+    } else if from.is_file() {
+        std::fs::create_dir_all(to.parent().expect("a folder")).unwrap_or_else(failed);
+        std::fs::copy(from, to).map_or_else(failed, |_| ());
+    }
+}
