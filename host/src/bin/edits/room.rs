@@ -85,14 +85,23 @@ impl Room {
         log
     }
 
-    /// What `rt check` says of a crate.
+    /// What `rt check` says of a crate. A check that comes to no verdict, as one that is killed, is made once more.
     fn check(&self, name: &str) -> String {
-        let ran = Command::new("rt")
-            .arg("check")
-            .current_dir(self.top.join("crates").join(name))
-            .output()
-            .expect("rt");
-        String::from_utf8_lossy(&ran.stdout).into_owned()
+        let once = || {
+            let ran = Command::new("rt")
+                .arg("check")
+                .current_dir(self.top.join("crates").join(name))
+                .output()
+                .expect("rt");
+            [ran.stdout, ran.stderr].map(|text| String::from_utf8_lossy(&text).into_owned())
+        };
+        let is_verdict = |log: &str| log.lines().any(|line| line.starts_with("logic="));
+        let [mut log, mut told] = once();
+        if !is_verdict(&log) {
+            [log, told] = once();
+        }
+        assert!(is_verdict(&log), "{name}: no verdict:\n{log}{told}");
+        log
     }
 
     fn path(&self, name: &str, file: &str) -> PathBuf {
