@@ -16,13 +16,22 @@ mod source;
 
 use room::Room;
 use source::Sources;
+use std::collections::{BTreeMap, BTreeSet};
 use std::path::{Path, PathBuf};
+use std::sync::atomic::{AtomicUsize, Ordering};
+use std::sync::Mutex;
+
+/// A file of edits.
+struct Job {
+    name: String,
+    file: PathBuf,
+}
 
 fn main() {
     let top = Path::new(env!("CARGO_MANIFEST_DIR")).join("..");
     let wanted: Vec<String> = std::env::args().skip(1).collect();
-    let room = Room::new(&top);
-    let (mut all, mut unseen) = (0, 0);
+    let mut jobs = Vec::new();
+    let mut sources = BTreeMap::new();
     for folder in entries(&top.join("crates")) {
         let name = stem(&folder);
         let mut files = entries(&folder.join("must-fail"));
@@ -30,22 +39,64 @@ fn main() {
         if files.is_empty() || !wanted.is_empty() && !wanted.contains(&name) {
             continue;
         }
-        let sources = Sources::new(&name, files_of(&folder));
-        room.begin(&name);
-        for file in files {
-            let edits = edit::edits(&read(&file));
-            let facts = facts::facts(&room.tried(&name, &edits));
-            for (edit, fact) in edits.iter().zip(seen::seen(&sources, &edits, &facts)) {
-                all += 1;
-                unseen += usize::from(fact.is_none());
-                let place = fact.map_or("NO FACT OF ITS OWN".to_string(), |fact| fact.to_string());
-                println!("{name}/{}: {} [{place}]", stem(&file), edit.says);
-            }
-        }
+        sources.insert(name.clone(), Sources::new(&name, files_of(&folder)));
+        let job = |file| Job {
+            name: name.clone(),
+            file,
+        };
+        jobs.extend(files.into_iter().map(job));
+    }
+    let said = side_by_side(&top, &jobs, &sources);
+    let (mut all, mut unseen) = (0, 0);
+    for (line, is_seen) in said.iter().flatten() {
+        println!("{line}");
+        all += 1;
+        unseen += usize::from(!is_seen);
     }
     println!("{all} edits, {unseen} with no fact of their own");
-    drop(room);
     std::process::exit(i32::from(all == 0 || unseen > 0));
+}
+
+/// What is said of each file, as many at a time as there are processors, each at work in a copy of its own.
+fn side_by_side(top: &Path, jobs: &[Job], sources: &BTreeMap<String, Sources>) -> Vec<Vec<Said>> {
+    let next = AtomicUsize::new(0);
+    let said = Mutex::new(vec![Vec::new(); jobs.len()]);
+    let workers = std::thread::available_parallelism().map_or(1, |count| count.get());
+    std::thread::scope(|scope| {
+        for number in 0..workers.min(jobs.len()) {
+            let (next, said) = (&next, &said);
+            scope.spawn(move || {
+                let room = Room::new(top, number);
+                let mut begun = BTreeSet::new();
+                loop {
+                    let at = next.fetch_add(1, Ordering::SeqCst);
+                    let Some(job) = jobs.get(at) else { break };
+                    if begun.insert(&job.name) {
+                        room.begin(&job.name);
+                    }
+                    let lines = tried(&room, job, &sources[&job.name]);
+                    said.lock().expect("no thread has failed")[at] = lines;
+                }
+            });
+        }
+    });
+    said.into_inner().expect("no thread has failed")
+}
+
+/// A line, and whether it names a fact.
+type Said = (String, bool);
+
+/// A line for each edit of a file.
+fn tried(room: &Room, job: &Job, sources: &Sources) -> Vec<Said> {
+    let edits = edit::edits(&read(&job.file));
+    let facts = facts::facts(&room.tried(&job.name, &edits));
+    let seen = seen::seen(sources, &edits, &facts);
+    let line = |(edit, fact): (&edit::Edit, Option<&facts::Fact>)| {
+        let place = fact.map_or("NO FACT OF ITS OWN".to_string(), |fact| fact.to_string());
+        let line = format!("{}/{}: {} [{place}]", job.name, stem(&job.file), edit.says);
+        (line, fact.is_some())
+    };
+    edits.iter().zip(seen).map(line).collect()
 }
 
 /// The sources of a crate, by their paths in it.

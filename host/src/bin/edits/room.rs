@@ -14,8 +14,8 @@ pub struct Room {
 }
 
 impl Room {
-    pub fn new(top: &Path) -> Room {
-        let name = format!("dillplatter-edits-{}", std::process::id());
+    pub fn new(top: &Path, number: usize) -> Room {
+        let name = format!("dillplatter-edits-{}-{number}", std::process::id());
         let room = Room {
             top: std::env::temp_dir().join(name),
         };
