@@ -89,7 +89,7 @@ type Said = (String, bool);
 /// A line for each edit of a file.
 fn tried(room: &Room, job: &Job, sources: &Sources) -> Vec<Said> {
     let edits = edit::edits(&read(&job.file));
-    let facts = facts::facts(&room.tried(&job.name, &edits));
+    let facts = room.tried(&job.name, &edits);
     let seen = seen::seen(sources, &edits, &facts);
     let line = |(edit, fact): (&edit::Edit, Option<&facts::Fact>)| {
         let place = fact.map_or("NO FACT OF ITS OWN".to_string(), |fact| fact.to_string());

@@ -2,7 +2,7 @@
 
 use crate::answers;
 use crate::edit::Edit;
-use crate::facts;
+use crate::facts::{self, Fact};
 use crate::{entries, read};
 use std::collections::BTreeMap;
 use std::path::{Path, PathBuf};
@@ -39,10 +39,10 @@ impl Room {
         assert!(is_proved, "{name} is not proved:\n{log}");
     }
 
-    /// What the prover says of a crate with all edits of a file. A goal's name can have a number of the code in it: where an edit
-    /// changes that number, the goal's answer is given the new name. An answer that names what is no longer known there is taken
-    /// out, so that a search is tried for its goal. Then it is no name that is refused.
-    pub fn tried(&self, name: &str, edits: &[Edit]) -> String {
+    /// The facts that the prover refuses of a crate with all edits of a file. A goal's name can have a number of the code in it:
+    /// where an edit changes that number, the goal's answer is given the new name. An answer that names what is no longer known
+    /// there is taken out, so that the prover goes on to the other goals; that a search then fails at its goal is no fact.
+    pub fn tried(&self, name: &str, edits: &[Edit]) -> Vec<Fact> {
         let mut was: BTreeMap<String, String> = BTreeMap::new();
         for change in edits.iter().flat_map(|edit| &edit.changes) {
             let text = self.text(name, &change.file);
@@ -82,7 +82,13 @@ impl Room {
         for (file, text) in &was {
             self.write(name, file, text);
         }
-        log
+        let mut facts = facts::facts(&log);
+        facts.retain(|fact| {
+            !unfit
+                .get(&fact.file)
+                .is_some_and(|answers| answers.contains(&fact.name))
+        });
+        facts
     }
 
     /// What `rt check` says of a crate. A check that comes to no verdict, as one that is killed, is made once more.
