@@ -145,7 +145,7 @@ unfolding kind_of reference_count order_of sizes_fit tree_of checked_of digit_va
 feeds = record { first = refl; second = refl; third = refl; fourth = refl }
 
 record Rests : Type 0 where
-  at_first_lem : Waits start
+  its_start : Waits start
   first : Waits after1
   second : Waits after2
   third : Waits after3
@@ -155,7 +155,7 @@ rests : Rests
 unfolding kind_of reference_count order_of sizes_fit tree_of checked_of digit_value digits_at_front bad_place line_of of_event referenced smallest base some_not_void first_from first_instance rule_passes count_passes all_to tally_passes state_passes admission with_tally with_sum stored kept added_up sum_of feed_event feed_def report_bytes pull_read pull_def hex_of pulled_once fed_line
 rests =
     record {
-      at_first_lem = record { none = refl; same = refl };
+      its_start = record { none = refl; same = refl };
       first = record { none = refl; same = refl };
       second = record { none = refl; same = refl };
       third = record { none = refl; same = refl };
@@ -182,7 +182,7 @@ four = line1 ∷ (line2 ∷ (line3 ∷ (line4 ∷ [])))
 run-four : after_lines (begun (opened_for frames_of5)) four ≡ after4
 unfolding after_lines
 run-four =
-    rw (opens, waits 1010000 rests.at_first_lem, feeds.first, waits 1010000 rests.first, feeds.second, one-verdict 1009999 false_0 rests.second, feeds.third, waits 1010000 rests.third, feeds.fourth, one-verdict 1009999 true_1 rests.fourth)
+    rw (opens, waits 1010000 rests.its_start, feeds.first, waits 1010000 rests.first, feeds.second, one-verdict 1009999 false_0 rests.second, feeds.third, waits 1010000 rests.third, feeds.fourth, one-verdict 1009999 true_1 rests.fourth)
 
 -- ---- all that is printed
 abbrev log_four : List String
@@ -269,10 +269,10 @@ run_3 : after_lines (begun (opened_for frames_of3)) (bytes "00FFFFFFFF0000000000
 unfolding after_lines
 run_3 = rw (begun_3, feeds_3, one-verdict 1009999 false_3 one-waits)
 
-pub starts-at_1 : output_of (bytes one_before) (lines ("00FFFFFFFF000000000000000000000000" ∷ []))
+pub starts_at_1 : output_of (bytes one_before) (lines ("00FFFFFFFF000000000000000000000000" ∷ []))
     ≡ lines ("00000001000100FFFFFFFF" ∷ "000000000000000100000000000000010000000000000000" ∷ [])
 unfolding lines_of hex_of
-starts-at_1 =
+starts_at_1 =
     output_run (bytes one_before) (lines ("00FFFFFFFF000000000000000000000000" ∷ [])) 3 filled3 read-before ∙ ap with_totals run_3
 
 -- ---- refused rules, whatever the log: "`EE`, number (1 byte), place (2 bytes) as the only line"

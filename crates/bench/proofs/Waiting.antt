@@ -33,7 +33,7 @@ pub record LetIn (x : Progress) : Type 0 where
   pub bytes : Bytes (state_frames x.state)
 
 low : (s : State) → state_passes s ≡ true → s.next.0 ≤ instance_limit
-low s g = ((passes_exactly s).0 g).few-verdicts
+low s g = ((passes_exactly s).0 g).few_verdicts
 
 same-frames : (s t : State) → SameRule s t → state_frames t ≡ state_frames s
 same-frames s t r = rw (r.frames, r.len)

@@ -176,9 +176,9 @@ unfolding base
 base_mono refs e p q h = smallest_mono (start_at p) (start_at q) (λ r. start_mono r p q h) (of_event e refs)
 
 -- ---- the first instance at which a reference isn't void
-not-void : (m : Meant) → (m ≢ Void) ↔ (is_not_void m ≡ true)
-not-void Void = (λ n. absurd (n refl), λ q. absurd (true-false (sym q)))
-not-void (At k) = (λ n. refl, λ q z. true-false (ap is_not_void z))
+not_void : (m : Meant) → (m ≢ Void) ↔ (is_not_void m ≡ true)
+not_void Void = (λ n. absurd (n refl), λ q. absurd (true-false (sym q)))
+not_void (At k) = (λ n. refl, λ q z. true-false (ap is_not_void z))
 
 some-not-void : (refs : List Reference) (i : ℕ) → (some_not_void refs i ≡ true) ↔ SomeNotVoid refs i
 unfolding some_not_void
@@ -187,15 +187,15 @@ some-not-void (x ∷ xs) i = (to (is_not_void (meant i x)) refl (some-not-void x
   where
     to : (t : Bool) → is_not_void (meant i x) ≡ t → (some_not_void xs i ≡ true → SomeNotVoid xs i)
         → (t || some_not_void xs i) ≡ true → SomeNotVoid (x ∷ xs) i
-    to true e ih q = record { reference = x; one = Memᴰ.head refl; not-void = (not-void (meant i x)).1 e }
-    to false e ih q = let h = ih q in record { reference = h.reference; one = Memᴰ.tail h.one; not-void = h.not-void }
+    to true e ih q = record { reference = x; one = Memᴰ.head refl; not_void = (not_void (meant i x)).1 e }
+    to false e ih q = let h = ih q in record { reference = h.reference; one = Memᴰ.tail h.one; not_void = h.not_void }
 
     back : (SomeNotVoid xs i → some_not_void xs i ≡ true) → SomeNotVoid (x ∷ xs) i → (is_not_void (meant i x) || some_not_void xs i) ≡ true
     back ih h =
         ⊎_elim
-        (λ (p : h.reference ≡ x). rw ((not-void (meant i x)).0 (λ z. h.not-void (ap (meant i) p ∙ z))))
+        (λ (p : h.reference ≡ x). rw ((not_void (meant i x)).0 (λ z. h.not_void (ap (meant i) p ∙ z))))
         (λ (m : Memᴰ h.reference xs).
-        rw (ih (record { reference = h.reference; one = m; not-void = h.not-void })) (or-true (is_not_void (meant i x))))
+        rw (ih (record { reference = h.reference; one = m; not_void = h.not_void })) (or-true (is_not_void (meant i x))))
         (Memᴰ.cases_cons h.one)
 
 first_found : (n i m : ℕ) (f : ℕ → Bool) → i ≤ m → m ≤ i + n → f m ≡ true → ((j : ℕ) → j < m → f j ≡ false) → first_from n i f ≡ m
@@ -220,7 +220,7 @@ round_exactly n d i h =
 void-sub : (a b : ℕ) → (meant_by (sub_ℕ a b) ≢ Void) ↔ (b ≤ a)
 void-sub a b = (
   λ n. ⊎_elim (λ (h : a < b). absurd (n (rw (lt-ltb a b h)))) (λ (h : b ≤ a). h) (less_or a b),
-  λ h. (not-void (meant_by (sub_ℕ a b))).1 (rw (le-ltb a b h)),
+  λ h. (not_void (meant_by (sub_ℕ a b))).1 (rw (le-ltb a b h)),
 )
 
 void-by : (f i : ℕ) (z : ℤ) → 1 ≤ f → (meant_by (pos (f * i) +ℤ z) ≢ Void) ↔ (first_by f z ≤ i)
@@ -257,11 +257,11 @@ module _ (refs : List Reference) (some : refs ≢ []) (limits : (r : Reference) 
   smallest-on : (i : ℕ) → SomeNotVoid refs i ↔ (smallest (map first_of refs) ≤ i)
   smallest-on i = (
     λ s. (let r = s.reference in
-        omega (arith, smallest_le first_of refs r s.one, (void-by r.factor i r.offset (limits r s.one).least).0 s.not-void)),
+        omega (arith, smallest_le first_of refs r s.one, (void-by r.factor i r.offset (limits r s.one).least).0 s.not_void)),
     λ h. (let x = one-first in record {
       reference = x.0;
       one = x.1;
-      not-void = (void-by x.0.factor i x.0.offset (limits x.0 x.1).least).1 (omega (arith, x.2, h));
+      not_void = (void-by x.0.factor i x.0.offset (limits x.0 x.1).least).1 (omega (arith, x.2, h));
     }),
   )
 

@@ -11,7 +11,7 @@ use Rattle.checker.specs.Calls.{Call}
 use Rattle.checker.specs.Demand.{Unrefused, count_in, checker_after, machine_after, handed_out}
 use Rattle.checker.specs.Tariff.{band_limit, last_limit, price_limit, surcharge_limit}
 use Rattle.checker.specs.Tariff.{Band, band_at, bands_of, rise_from, bands_fit, in_range, prices_fit, price_sum, surcharged, cents_of}
-use Rattle.checker.specs.Tariff.{Charge, cents, turned, charge_told, charge_def, BandsRise, PricesInRange, ChargeRefused, bad_bands, bad_prices, bad-state}
+use Rattle.checker.specs.Tariff.{Charge, cents, turned, charge_told, charge_def, BandsRise, PricesInRange, ChargeRefused, bad_bands, bad_prices, bad_state}
 use Rattle.checker.specs.declared.Profile.{Profile}
 use Rattle.checker.specs.declared.State.{State}
 use Rattle.checker.specs.declared.Totals.{Totals}
@@ -176,7 +176,7 @@ refused-by : (s : State) (t : Tariff) (x y z : Bool) (n number place : ℕ) → 
     → charge_by x y z n ≡ turned number place → ChargeRefused s t number place
 refused-by s t true true true n number place a b g e = absurd (true-false (ap is_cents e))
 refused-by s t true true false n number place a b g e =
-    rw (sym (ap number_in e), sym (ap place_in e)) (bad-state (rise_facts t a) (range_facts t b) g)
+    rw (sym (ap number_in e), sym (ap place_in e)) (bad_state (rise_facts t a) (range_facts t b) g)
 refused-by s t true false z n number place a b g e =
     rw (sym (ap number_in e), sym (ap place_in e)) (bad_prices (rise_facts t a) (λ r. true-false (sym (range-fits t r) ∙ b)))
 refused-by s t false y z n number place a b g e =
@@ -185,7 +185,7 @@ refused-by s t false y z n number place a b g e =
 refused-back : (s : State) (t : Tariff) (number place : ℕ) → ChargeRefused s t number place → charge_def s t ≡ turned number place
 refused-back s t _ _ (bad_bands h) = turned_28 s t (never_true (bands_fit t) (λ e. h (rise_facts t e)))
 refused-back s t _ _ (bad_prices r h) = turned_29 s t (rise-fits t r) (never_true (prices_fit t) (λ e. h (range_facts t e)))
-refused-back s t _ _ (bad-state r p g) = turned_12 s t (rise-fits t r) (range-fits t p) g
+refused-back s t _ _ (bad_state r p g) = turned_12 s t (rise-fits t r) (range-fits t p) g
 
 pub charge_refused : (s : State) (t : Tariff) (number place : ℕ) → (charge_def s t ≡ turned number place) ↔ ChargeRefused s t number place
 unfolding charge_def

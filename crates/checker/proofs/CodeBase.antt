@@ -50,16 +50,16 @@ startable s p k h l x e =
 -- what it holds after the first k frames
 pub record PassHolds (s : List ℕ) (p k : ℕ) (bases : List ℕ) (first : ℕ) : Type 0 where
   pub long : length bases ≡ event_limit
-  pub bases_to_lem : bases ≡ bases_to s p k
-  pub first_to_lem : first ≡ first_to s k
+  pub its_bases : bases ≡ bases_to s p k
+  pub its_first : first ≡ first_to s k
 
 pub pass-next : (s : List ℕ) (p k : ℕ) (x : Frame) → x ≡ frame_at s k → (bases bases' : List ℕ) (first first' : ℕ) → PassHolds s p k bases first
     → length bases' ≡ event_limit → bases' ≡ bases_with p x bases → first' ≡ first_with x first → PassHolds s p (k + 1) bases' first'
 pass-next s p k x e bases bases' first first' h l q q' =
     record {
       long = l;
-      bases_to_lem = rw (add-one k) (q ∙ ap (bases_with p x) h.bases_to_lem ∙ ap (λ (y : Frame). bases_with p y (bases_to s p k)) e);
-      first_to_lem = rw (add-one k) (q' ∙ ap (first_with x) h.first_to_lem ∙ ap (λ (y : Frame). first_with y (first_to s k)) e);
+      its_bases = rw (add-one k) (q ∙ ap (bases_with p x) h.its_bases ∙ ap (λ (y : Frame). bases_with p y (bases_to s p k)) e);
+      its_first = rw (add-one k) (q' ∙ ap (first_with x) h.its_first ∙ ap (λ (y : Frame). first_with y (first_to s k)) e);
     }
 
 -- ---- an event's references
@@ -210,7 +210,7 @@ pub pass-found : {s : List ℕ} → Bytes s → (p k : ℕ) → Passable s p →
     → (bases ≡ bases_of s p) × (first ≡ first_for s)
 unfolding bases_of
 pass-found {s} b p k h e bases first x =
-    (x.bases_to_lem ∙ ap (bases_to s p) e, x.first_to_lem ∙ ap (first_to s) e ∙ first-is b h.accepted)
+    (x.its_bases ∙ ap (bases_to s p) e, x.its_first ∙ ap (first_to s) e ∙ first-is b h.accepted)
 
 -- ---- 12
 count_same : (t : Bool) (b low w c : ℕ) → BaseIs t b low → count_fits w low c ≡ (leb c line_limit && cond t (leb c (b + w)) (eqb c 0))

@@ -39,8 +39,8 @@ module _ (profile : Profile) (frames : List ℕ) (w : ℕ) (win : List ℤ) (e :
       ∙ ap (λ (t : Bool). cond a (cond t (opened_as profile frames w) (not_opened win 26 0)) (not_opened win 11 0)) q
 
   -- by 0 it is opened, and the window is as long as W asks
-  pub opens-at_0 : number_by fits within ≡ 0 → (length win ≡ window_words w) × (open_def profile frames w win ≡ opened_as profile frames w)
-  opens-at_0 = go fits within refl refl
+  pub opens_at_0 : number_by fits within ≡ 0 → (length win ≡ window_words w) × (open_def profile frames w win ≡ opened_as profile frames w)
+  opens_at_0 = go fits within refl refl
     where
       go : (a b : Bool) → fits ≡ a → within ≡ b → number_by a b ≡ 0
           → (length win ≡ window_words w) × (open_def profile frames w win ≡ opened_as profile frames w)
@@ -63,8 +63,8 @@ module _ (profile : Profile) (frames : List ℕ) (w : ℕ) (win : List ℤ) (e :
   decided_by number h =
       record {
         accepted = λ _. e;
-        long = λ z. (opens-at_0 (sym h ∙ z)).0;
-        opens = λ z. (opens-at_0 (sym h ∙ z)).1;
+        long = λ z. (opens_at_0 (sym h ∙ z)).0;
+        opens = λ z. (opens_at_0 (sym h ∙ z)).1;
         refuses = refused-at number h;
       }
 

@@ -8,8 +8,8 @@ pub row_most : (w e : ℕ) → w ≤ 256 → e < 8 → e * w ≤ 2048
 row_most w e hw he = let h : e * w ≤ 8 * 256 = mul-le-mul (le_of_lt he) hw in omega arith
 
 -- document 02, point 4: "The place of an occurrence in its ring is below 256", for every W
-pub ring_place-most : (w k : ℕ) → 1 ≤ w → w ≤ width_limit → ring_place w k < 256
-ring_place-most w k hw hm = omega (arith, mod-lt k hw)
+pub ring_place_most : (w k : ℕ) → 1 ≤ w → w ≤ width_limit → ring_place w k < 256
+ring_place_most w k hw hm = omega (arith, mod-lt k hw)
 
 row_end : (w e : ℕ) → e < 8 → e * w + w ≤ 8 * w
 row_end w e h = rw (← suc-mul e w) (mul-le-mul_right w h)

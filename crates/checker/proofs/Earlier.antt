@@ -119,6 +119,6 @@ raised_log {frames} {w} o other named cs =
     let same = Lists.answers o (map (raised_call other) cs) ∙ all-outs frames w other named cs (at_first frames) in
     record {
       answers = same;
-      verdicts-same = ap verdicts same ∙ verdicts-kept (outs (old_machine_for frames w) cs (at_first frames));
+      verdicts_same = ap verdicts same ∙ verdicts-kept (outs (old_machine_for frames w) cs (at_first frames));
       state = Lists.state o (map (raised_call other) cs) ∙ ap tally_of (all_end frames w other named cs (at_first frames));
     }

@@ -80,7 +80,7 @@ some-present l i rs t s = go (some_of is_present (resolve l i) rs) (some_of is_p
     go false true p q h = absurd (true-false (sym h))
     go false false p q h =
         let r = s.reference in
-        let z = pending-or-present l r.event r.note (meant i r) s.not-void (none_so is_present (resolve l i) rs p r s.one) in
+        let z = pending-or-present l r.event r.note (meant i r) s.not_void (none_so is_present (resolve l i) rs p r s.one) in
         absurd (true-false (sym z ∙ none_so is_pending (resolve l i) rs q r s.one))
 
 -- ---- when a line is accepted, and when the window is full

@@ -101,13 +101,13 @@ module _ (frames : List ℕ) (w : ℕ) where
       (all-handed cs (after_pull m x))
 
 module _ {profile : Profile} {frames : List ℕ} {w : ℕ} {win : List ℤ} (o : Unrefused profile frames w win) (cs : List Call) where
-  pub verdicts-same : verdicts (outs checker cs (fresh profile frames w win)) ≡ verdicts (outs (machine_for frames w) cs (at_first frames))
-  verdicts-same = ap verdicts (lists.answers o cs)
+  pub verdicts_same : verdicts (outs checker cs (fresh profile frames w win)) ≡ verdicts (outs (machine_for frames w) cs (at_first frames))
+  verdicts_same = ap verdicts (lists.answers o cs)
 
   -- instance by instance from the first on, over the machine's lists after the last call
   pub final : map settling.verdict (verdicts (outs checker cs (fresh profile frames w win)))
       ≡ instances_from (first_for frames) (length (verdicts (outs checker cs (fresh profile frames w win)))) (said frames (end (machine_for frames w) cs (at_first frames)))
-  final = rw verdicts-same (all-handed frames w cs (at_first frames)).0
+  final = rw verdicts_same (all-handed frames w cs (at_first frames)).0
 
 -- ---- one verdict
 verdict_in : Judgement → Verdict
@@ -137,5 +137,5 @@ get_d_instances_from f p (suc n) zero h = rw add-zero
 get_d_instances_from f p (suc n) (suc i) h = get_d_instances_from f (p + 1) n i (le_of_suc-le-suc h) ∙ ap f (omega arith)
 
 -- the verdict at a place of a list that is a span
-pub instances_from-at : (vs : List Verdict) (p : ℕ) (f : ℕ → Judgement) (i : ℕ) → map settling.verdict vs ≡ instances_from p (length vs) f → i < length vs → settling.verdict (get_or vs i Verdict.Unknown) ≡ f (p + i)
-instances_from-at vs p f i q h = sym (get_d_map vs i h) ∙ ap (λ (l : List Judgement). get_or l i Unsettled) q ∙ get_d_instances_from f p (length vs) i h
+pub instances_from_at : (vs : List Verdict) (p : ℕ) (f : ℕ → Judgement) (i : ℕ) → map settling.verdict vs ≡ instances_from p (length vs) f → i < length vs → settling.verdict (get_or vs i Verdict.Unknown) ≡ f (p + i)
+instances_from_at vs p f i q h = sym (get_d_map vs i h) ∙ ap (λ (l : List Judgement). get_or l i Unsettled) q ∙ get_d_instances_from f p (length vs) i h

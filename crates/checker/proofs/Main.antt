@@ -260,13 +260,13 @@ pub charge_told_injective : (a b : ChargeAnswer) → charge_told a ≡ charge_to
 charge_told_injective = Charges.charge_told_injective
 
 -- "More violations never cost less": by every tariff, those that 28 and 29 let through among them
-pub more-never_less : (t : Tariff) (m n : ℕ) → m ≤ n → cents_of t m ≤ cents_of t n
-more-never_less = Charges.more
+pub more_never_less : (t : Tariff) (m n : ℕ) → m ≤ n → cents_of t m ≤ cents_of t n
+more_never_less = Charges.more
 
 -- so it is of any two states that are charged by one tariff
-pub more-never_less_charged : (s s' : State) (t : Tariff) (c c' : ℕ) → charge_def s t ≡ cents c → charge_def s' t ≡ cents c'
+pub more_never_less_charged : (s s' : State) (t : Tariff) (c c' : ℕ) → charge_def s t ≡ cents c → charge_def s' t ≡ cents c'
     → s.totals.failed ≤ s'.totals.failed → c ≤ c'
-more-never_less_charged = Charges.more_charged
+more_never_less_charged = Charges.more_charged
 
 -- the most that is charged, 20,199,980,000 cents: 1,009,999 violations, 10,000 cents each, doubled
 pub cents_bound : (s : State) (t : Tariff) (c : ℕ) → charge_def s t ≡ cents c → c ≤ instance_limit * price_limit * 2
@@ -400,14 +400,14 @@ zero-pull = Exactly.zero-pull
 
 -- ---- a state that 12 lets through stays one, whatever is fed and pulled, and an unrefused opening gives one; a state's frames
 -- are bytes, as an array of them is
-pub good-stays_open : {profile : Profile} {frames : List ℕ} {w : ℕ} {win : List ℤ} → Unrefused profile frames w win → state_passes (open_def profile frames w win).state ≡ true
-good-stays_open = Stays.good_open
+pub good_stays_open : {profile : Profile} {frames : List ℕ} {w : ℕ} {win : List ℤ} → Unrefused profile frames w win → state_passes (open_def profile frames w win).state ≡ true
+good_stays_open = Stays.good_open
 
-pub good-stays-feed : (s : State) → state_passes s ≡ true → (win : List ℤ) (line : List ℕ) → state_passes (feed_def s win line).state ≡ true
-good-stays-feed = Stays.good-feed
+pub good_stays_feed : (s : State) → state_passes s ≡ true → (win : List ℤ) (line : List ℕ) → state_passes (feed_def s win line).state ≡ true
+good_stays_feed = Stays.good-feed
 
-pub good-stays-pull : (s : State) → state_passes s ≡ true → Bytes (state_frames s) → (win : List ℤ) (buffer : List ℕ) → state_passes (pull_def s win buffer).state ≡ true
-good-stays-pull = Stays.good-pull
+pub good_stays_pull : (s : State) → state_passes s ≡ true → Bytes (state_frames s) → (win : List ℤ) (buffer : List ℕ) → state_passes (pull_def s win buffer).state ≡ true
+good_stays_pull = Stays.good-pull
 
 -- the frames, W and the profile stay, and the window keeps its length
 pub feed-keeps : (s : State) (win : List ℤ) (line : List ℕ) → SameRule s (feed_def s win line).state

@@ -17,7 +17,7 @@ use Rattle.checker.specs.declared.Profile.{Profile}
 use Rattle.checker.specs.declared.State.{State}
 use Rattle.checker.proofs.SumLaws.{sums-differ}
 use Rattle.checker.proofs.Admissions.{tested, let_in, barred_27, in_good, in_long, in_sum}
-use Rattle.checker.proofs.Simulation.{in_step-stays}
+use Rattle.checker.proofs.Simulation.{in_step_stays}
 use Rattle.checker.proofs.Fresh.{opened-fine}
 use Rattle.checker.proofs.Lists.{in_step}
 use Rattle.checker.proofs.Stays.{fed-stays, pulled-stays}
@@ -84,5 +84,5 @@ module _ {profile : Profile} {frames : List ℕ} {w : ℕ} {win : List ℤ} (o :
       → (c : Call) → answer_of (checker (record { state = (checker_after profile frames w win cs).state; words = win' }) c).out ≡ refused 27 0
   one-word-shows-after f win' f' a =
       let k = checker_after profile frames w win cs in
-      let e = in_step-stays frames w (opened-fine o) (machine_after frames w cs) k (in_step o cs) in
+      let e = in_step_stays frames w (opened-fine o) (machine_after frames w cs) k (in_step o cs) in
       shows k.state k.words win' f f' a (in_good _ _ e) (in_long _ _ e) (in_sum _ _ e)

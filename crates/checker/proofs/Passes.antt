@@ -60,8 +60,8 @@ module _ (s : State) (g : state_passes s ≡ true) where
         number = (good_facts s g).known.number_of;
         room = most.1;
         opens = passes-opens;
-        few-lines = λ e l. (t.counts e l).few;
-        few-verdicts = t.low;
+        few_lines = λ e l. (t.counts e l).few;
+        few_verdicts = t.low;
         begun = omega (arith, t.begun);
         sum = t.sum;
         none = λ e l h. (t.counts e l).none (never_true (referenced (refs_in s) e) (λ q. h ((referenced_exactly (refs_in s) e).0 q)));
@@ -74,11 +74,11 @@ module _ (s : State) (h : Passing s) where
   passing_sound =
       record {
         counts = λ e l. record {
-          few = h.few-lines e l;
+          few = h.few_lines e l;
           room = λ q. h.within e l ((referenced_exactly (refs_in s) e).0 q);
           none = λ q. h.none e l (λ r. true-false (sym ((referenced_exactly (refs_in s) e).1 r) ∙ q));
         };
-        low = h.few-verdicts;
+        low = h.few_verdicts;
         begun = omega (arith, h.begun, h.sum);
         sum = h.sum;
       }

@@ -13,9 +13,9 @@ use Rattle.verdict.specs.Marks.{Tells, TellAll}
 use Rattle.checker.specs.Sights.{Shows, ShownTo, ShowsAll, Limited}
 
 shows_tells : (x : Found) (m : ℕ) (z : ℤ) → Shows x m z → Tells x m z
-shows_tells (present y) m z w = (w.mark-is, w.note-is)
-shows_tells pending m z w = w.mark-is
-shows_tells void m z w = w.mark-is
+shows_tells (present y) m z w = (w.mark_is, w.note_is)
+shows_tells pending m z w = w.mark_is
+shows_tells void m z w = w.mark_is
 
 pub shown_told : (s : List ℕ) (found : Reference → Found) (marks : List ℕ) (notes : List ℤ) → ShownTo s found marks notes (frame_count s) → TellAll s found marks notes
 shown_told s found marks notes w k h e = shows_tells (found (reference_of (frame_at s k))) (get_or marks k 0) (get_or notes k (pos 0)) (w k h e)
@@ -40,8 +40,8 @@ pub record LookedTo (s : List ℕ) (found : Reference → Found) (marks : List �
   pub noted : length notes ≡ 64
   pub shown : ShownTo s found marks notes k
 
-pub few-frames : (s : List ℕ) → checked_of s ≡ checking.accepted → frame_count s ≤ 64
-few-frames s e = omega (arith, (passed s e).whole.most)
+pub few_frames : (s : List ℕ) → checked_of s ≡ checking.accepted → frame_count s ≤ 64
+few_frames s e = omega (arith, (passed s e).whole.most)
 
 pub limited : (s : List ℕ) (k : ℕ) (x : Frame) → checked_of s ≡ checking.accepted → k < frame_count s → x ≡ frame_at s k → Limited x
 limited s k x a h e = subst (λ (y : Frame). Limited y) (sym e) (reference-at s k h (passed s a))

@@ -114,7 +114,7 @@ module _ (found : Reference → Found) where
           → cond t (old ++ entry_of (get_or marks k 0) (get_or notes k (pos 0))) old ≡ cond t (adds (reference_of (frame_at s k)) old') old'
       go true d i =
           let g = w k (omega arith) (eqb-true (frame_at s k).kind reference_byte d) in
-          rw (i, g.mark-is, g.note-is)
+          rw (i, g.mark_is, g.note_is)
       go false d i = i
 
   over-adds : (rs : List Reference) (out : List ℕ) → over_references adds rs out ≡ out ++ entries (map found rs)

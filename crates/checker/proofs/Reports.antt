@@ -17,7 +17,7 @@ use Rattle.checker.specs.Calls.{Call, feed, pull, outs, end}
 use Rattle.checker.specs.Machine.{Machine, at_first, joined, moved, after_feed, after_pull, machine_feed, machine_pull, machine_for}
 use Rattle.checker.specs.Demand.{Unrefused, handed, verdicts, is_it, machine_after, handed_out, accepted_in, Reordered}
 use Rattle.checker.specs.Demand.{reporting, reports, reports_out, Reported, ReportedTwice}
-use Rattle.checker.specs.Demand.{FreeBetween, equal, present-pending, pending-present}
+use Rattle.checker.specs.Demand.{FreeBetween, equal, present_pending, pending_present}
 use Rattle.checker.specs.declared.Profile.{Profile}
 use Rattle.checker.proofs.Lists as lists
 use Rattle.checker.proofs.Final.{more_trans, more-end}
@@ -132,8 +132,8 @@ module _ {profile : Profile} {frames : List ℕ} {w : ℕ} {win : List ℤ} (o :
 free_by : (x y : Found) (z : ℤ) (t : Bool) → Gains x (cond t (present z) pending) → Gains y (cond t (present z) pending) → FreeBetween x y
 free_by x y z t (inl p) (inl q) = rw (p, q) (equal (cond t (present z) pending))
 free_by x y z t (inr p) (inr q) = rw (p, q) (equal pending)
-free_by x y z true (inl p) (inr q) = rw (p, q) (present-pending z)
-free_by x y z true (inr p) (inl q) = rw (p, q) (pending-present z)
+free_by x y z true (inl p) (inr q) = rw (p, q) (present_pending z)
+free_by x y z true (inr p) (inl q) = rw (p, q) (pending_present z)
 free_by x y z false (inl p) (inr q) = rw (p, q) (equal pending)
 free_by x y z false (inr p) (inl q) = rw (p, q) (equal pending)
 

@@ -232,14 +232,14 @@ module _ (frames : List ℕ) (w : ℕ) (ok : Fine frames w) where
     fits : window_fits k.state.width k.words ≡ true
     fits = eq-eqb (length k.words) (window_words k.state.width) (b.sim.long ∙ ap window_words (sym b.sim.width))
 
-    pub in_step-stays : admission k.state k.words ≡ admitted
-    in_step-stays = let_in k.state k.words good fits (eq-eqb k.state.sum (sum_of k.words) b.sim.sum)
+    pub in_step_stays : admission k.state k.words ≡ admitted
+    in_step_stays = let_in k.state k.words good fits (eq-eqb k.state.sum (sum_of k.words) b.sim.sum)
 
     -- ---- feeding
     feed_eq : (line : List ℕ) → feed_def k.state k.words line ≡ fed_by k.state k.words (machine_feed (tree_of frames) w m line)
     unfolding feed_def
     feed_eq line =
-        ap (fed_if k.state k.words line) in_step-stays
+        ap (fed_if k.state k.words line) in_step_stays
         ∙ ap (fed_by k.state k.words) (as_machine (λ (rs : List Reference) (v : ℕ) (t : Tally). feed_read rs v t (line_of line)))
 
     sim-taken : (e : ℕ) (notes : List ℤ) → e < 8 → length (m.lists e) < base (references (tree_of frames)) e m.next + w
@@ -307,7 +307,7 @@ module _ (frames : List ℕ) (w : ℕ) (ok : Fine frames w) where
     pull_eq : (buffer : List ℕ) → pull_def k.state k.words buffer ≡ result_at (tree_of frames) (given_in m.lists m.next) buffer
     unfolding pull_def
     pull_eq buffer =
-        ap (pulled_if k.state k.words buffer) in_step-stays
+        ap (pulled_if k.state k.words buffer) in_step_stays
         ∙ ap (λ (x : List ℕ). result_at (tree_of x) (given_in_window k.state.width k.state.counts k.words k.state.next.0) buffer) b.sim.rule
         ∙ ap₂ (λ (v : ℕ) (t : Tally). result_at (tree_of frames) (given_in_window v t.counts k.words t.next) buffer) b.sim.width b.sim.tally
         ∙ result_own (tree_of frames) (given_in_window w (tally_of m).counts k.words m.next) (found_in m.lists m.next) buffer window_same

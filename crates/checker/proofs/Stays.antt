@@ -34,7 +34,7 @@ use Rattle.checker.proofs.Ring.{length-kept}
 use Rattle.checker.proofs.Bases.{late-pending}
 use Rattle.checker.proofs.Admissions.{let_in, in_good, in_long, in_sum}
 use Rattle.checker.proofs.Tallies.{Sound, tally_facts, tally-good, sound-line, sound-verdict}
-use Rattle.checker.proofs.Simulation.{in_step-stays, Took, took, all-pending, verdict-settled, Gave, gave-judged}
+use Rattle.checker.proofs.Simulation.{in_step_stays, Took, took, all-pending, verdict-settled, Gave, gave-judged}
 use Rattle.checker.proofs.Fresh.{passed, opened-fine, both-opened, within_member}
 use Rattle.checker.proofs.CodeBase.{within_in}
 use Rattle.checker.proofs.CodeStateTest.{good_facts}
@@ -207,7 +207,7 @@ module _ (s : State) (win : List ℤ) (a : admission s win ≡ admitted) where
 
 -- so is what an unrefused opening gives
 pub opened-stays : {profile : Profile} {frames : List ℕ} {w : ℕ} {win : List ℤ} → Unrefused profile frames w win → admission (open_def profile frames w win).state (open_def profile frames w win).words ≡ admitted
-opened-stays {profile} {frames} {w} {win} o = in_step-stays frames w (opened-fine o) (at_first frames) (fresh profile frames w win) (both-opened o)
+opened-stays {profile} {frames} {w} {win} o = in_step_stays frames w (opened-fine o) (at_first frames) (fresh profile frames w win) (both-opened o)
 
 pub good_open : {profile : Profile} {frames : List ℕ} {w : ℕ} {win : List ℤ} → Unrefused profile frames w win → state_passes (open_def profile frames w win).state ≡ true
 good_open {profile} {frames} {w} {win} o = in_good (open_def profile frames w win).state (open_def profile frames w win).words (opened-stays o)

@@ -13,7 +13,7 @@ use Rattle.checker.specs.Demand.{Unrefused, fresh, handed, verdicts, count_in, t
 use Rattle.checker.specs.declared.Profile.{Profile}
 use Rattle.checker.specs.declared.Totals.{Totals}
 use Rattle.checker.proofs.Lists as lists
-use Rattle.checker.proofs.Final.{verdicts-same}
+use Rattle.checker.proofs.Final.{verdicts_same}
 
 record Counted (m m' : Machine) (vs : List Verdict) : Type 0 where
   pub next : m'.next ≡ m.next + length vs
@@ -69,6 +69,6 @@ module _ {profile : Profile} {frames : List ℕ} {w : ℕ} {win : List ℤ} (o :
       × ((end checker cs (fresh profile frames w win)).state.totals ≡ totals_of (verdicts (outs checker cs (fresh profile frames w win))))
   sums =
       let t = lists.state o cs in
-      let v = verdicts-same o cs in
+      let v = verdicts_same o cs in
       let c = sums-are frames (end (machine_for frames w) cs (at_first frames)) (verdicts (outs (machine_for frames w) cs (at_first frames))) (all-counted frames w cs (at_first frames)) in
       (ap (λ (x : Tally). x.next) t ∙ c.0 ∙ ap (λ (l : List Verdict). first_for frames + length l) (sym v), ap (λ (x : Tally). x.totals) t ∙ c.1 ∙ ap totals_of (sym v))

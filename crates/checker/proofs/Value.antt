@@ -13,7 +13,7 @@ use Rattle.checker.specs.Calls.{Call}
 use Rattle.checker.specs.Demand.{Unrefused, machine_after, handed_out}
 use Rattle.checker.specs.declared.Profile.{Profile}
 use Rattle.checker.proofs.Simulation.{verdict-settled}
-use Rattle.checker.proofs.Final.{said, final, verdict-one, instances_from-at}
+use Rattle.checker.proofs.Final.{said, final, verdict-one, instances_from_at}
 
 -- a verdict that is said is the value's
 from-said : (b : Bool) (v t : Verdict) → settling.verdict v ≡ cond b (settling.verdict t) Unsettled → v ≡ t
@@ -27,4 +27,4 @@ module _ {profile : Profile} {frames : List ℕ} {w : ℕ} {win : List ℤ} (o :
       let m = machine_after frames w cs in
       let g = given_in m.lists (first_for frames + i) in
       from-said (settled g (tree_of frames)) (get_or (handed_out profile frames w win cs) i Unknown) (verdict_of (value g (tree_of frames)))
-      (instances_from-at (handed_out profile frames w win cs) (first_for frames) (said frames m) i (final o cs) h)
+      (instances_from_at (handed_out profile frames w win cs) (first_for frames) (said frames m) i (final o cs) h)

@@ -104,7 +104,7 @@ pub record SomeNotVoid (refs : List Reference) (i : ℕ) : Type 0 where
   pub reference : Reference
   -- the rule has it
   pub one : Memᴰ reference refs
-  pub not-void : meant i reference ≢ Void
+  pub not_void : meant i reference ≢ Void
 
 -- "the first i with a reference that isn't void": n
 pub record FirstInstance (refs : List Reference) (n : ℕ) : Type 0 where

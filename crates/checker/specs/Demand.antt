@@ -173,8 +173,8 @@ pub record Reported (frames : List ℕ) (w : ℕ) (cs : List Call) (i : ℕ) (re
 -- "Report marks are free only between two lists": a reference of one instance may be present in one and pending in the other
 pub data FreeBetween : Found → Found → Type 0 where
   equal : (x : Found) → FreeBetween x x
-  present-pending : (z : ℤ) → FreeBetween (present z) pending
-  pending-present : (z : ℤ) → FreeBetween pending (present z)
+  present_pending : (z : ℤ) → FreeBetween (present z) pending
+  pending_present : (z : ℤ) → FreeBetween pending (present z)
 
 -- the reports of instance i in two lists: the same but for such references
 pub record ReportedTwice (frames : List ℕ) (w w' : ℕ) (cs cs' : List Call) (i : ℕ)

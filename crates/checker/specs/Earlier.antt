@@ -62,7 +62,7 @@ pub record RaisedLog (profile : Profile) (frames : List ℕ) (w : ℕ) (win : Li
   pub answers : outs checker (map (raised_call other) cs) (fresh profile frames w win)
       ≡ map out_raised (outs (old_machine_for frames w) cs (at_first frames))
   -- the verdicts handed out
-  pub verdicts-same : handed_out profile frames w win (map (raised_call other) cs)
+  pub verdicts_same : handed_out profile frames w win (map (raised_call other) cs)
       ≡ verdicts (outs (old_machine_for frames w) cs (at_first frames))
   -- the counts, p and totals
   pub state : tally_in (checker_after profile frames w win (map (raised_call other) cs)).state

@@ -18,8 +18,8 @@ use Rattle.checker.specs.Report.{mark_of, false_byte}
 
 -- "a mark (00 present, 01 pending, 02 void) and the value (4 bytes, 0 unless present)"
 pub record Shows (x : Found) (mark : ℕ) (note : ℤ) : Type 0 where
-  pub mark-is : mark ≡ mark_of x
-  pub note-is : note ≡ note_of x
+  pub mark_is : mark ≡ mark_of x
+  pub note_is : note ≡ note_of x
 
 -- "per reference in frame order": at each among the first k frames
 abbrev pub ShownTo : List ℕ → (Reference → Found) → List ℕ → List ℤ → ℕ → Type 0

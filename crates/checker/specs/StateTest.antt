@@ -65,9 +65,9 @@ pub record Passing (s : State) : Type 0 where
   pub opens : (win : List ℤ) → length win ≡ window_words s.width
       → (open_def profile (state_frames s) s.width win).answer ≡ opened
   -- not "a count over 1,000,000"
-  pub few-lines : (e : ℕ) → e < event_limit → count_of (tally_in s) e ≤ line_limit
+  pub few_lines : (e : ℕ) → e < event_limit → count_of (tally_in s) e ≤ line_limit
   -- not "p over 1,009,999"
-  pub few-verdicts : s.next.0 ≤ instance_limit
+  pub few_verdicts : s.next.0 ≤ instance_limit
   -- not "a p below the start"
   pub begun : first_instance (refs_in s) ≤ s.next.0
   -- "The totals sum to p less that start"

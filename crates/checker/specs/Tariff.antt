@@ -125,4 +125,4 @@ pub record PricesInRange (t : Tariff) : Type 0 where
 pub data ChargeRefused (s : State) (t : Tariff) : ℕ → ℕ → Type 0 where
   bad_bands : (BandsRise t → ⊥) → ChargeRefused s t 28 0
   bad_prices : BandsRise t → (PricesInRange t → ⊥) → ChargeRefused s t 29 0
-  bad-state : BandsRise t → PricesInRange t → state_passes s ≡ false → ChargeRefused s t 12 0
+  bad_state : BandsRise t → PricesInRange t → state_passes s ≡ false → ChargeRefused s t 12 0

@@ -35,11 +35,11 @@ capitals_keep_values (b ∷ bs) zero = capital-keeps-value b
 capitals_keep_values (b ∷ bs) (suc k) = capitals_keep_values bs k
 
 -- and as many stand at the front
-capitals_keep-front : (s : List ℕ) → digits_at_front (map capital s) ≡ digits_at_front s
+capitals_keep_front : (s : List ℕ) → digits_at_front (map capital s) ≡ digits_at_front s
 unfolding digits_at_front
-capitals_keep-front [] = refl
-capitals_keep-front (b ∷ bs) = rw (capital-keeps-value b, capitals_keep-front bs)
+capitals_keep_front [] = refl
+capitals_keep_front (b ∷ bs) = rw (capital-keeps-value b, capitals_keep_front bs)
 
 pub either_case : (s : List ℕ) → line_of (map capital s) ≡ line_of s
 unfolding line_of bad_place
-either_case s = simp (length-map s capital, capitals_keep-front s, capitals_keep_values s)
+either_case s = simp (length-map s capital, capitals_keep_front s, capitals_keep_values s)

@@ -110,9 +110,9 @@ unfolding digit_value digits_at_front bad_place line_of
 carriage_return = refl
 
 -- 40 bytes, no digit at 36
-bad-past_34 : line_of (replicate 36 48 ++ (71 ∷ 48 ∷ 48 ∷ 48 ∷ [])) ≡ refused 15 34
+bad_past_34 : line_of (replicate 36 48 ++ (71 ∷ 48 ∷ 48 ∷ 48 ∷ [])) ≡ refused 15 34
 unfolding digit_value digits_at_front bad_place line_of
-bad-past_34 = refl
+bad_past_34 = refl
 
 -- an empty line is a line, and a last LF ends the last line
 lines-of : lines_of (65 ∷ 10 ∷ 10 ∷ 66 ∷ 67 ∷ 10 ∷ []) ≡ (65 ∷ []) ∷ [] ∷ (66 ∷ 67 ∷ []) ∷ []

@@ -13,7 +13,7 @@ use Rattle.numbers.specs.Word.{big_endian}
 use Rattle.log_lines.specs.Digit.{digit_value, is_digit, capital, hex_digit}
 use Rattle.log_lines.specs.Line.{digits_at_front, byte_from}
 use Rattle.log_lines.specs.Earlier.{digits_of}
-use Rattle.log_lines.proofs.Values.{digit-back, hex_of-value}
+use Rattle.log_lines.proofs.Values.{digit-back, hex_of_value}
 
 -- ---- one digit more
 digit-onto : (k n x : ℕ) (rest : List ℕ) → x < 16 → digits_of (suc k) (16 * n + x) rest ≡ digits_of k n (hex_digit x ∷ rest)
@@ -26,7 +26,7 @@ digit-onto k n x rest h =
 own-digit : (k n b : ℕ) (rest : List ℕ) → is_digit b ≡ true
     → digits_of (suc k) (16 * n + digit_value b) rest ≡ digits_of k n (capital b ∷ rest)
 own-digit k n b rest h =
-    digit-onto k n (digit_value b) rest (ltb-true _ _ h) ∙ ap (λ (c : ℕ). digits_of k n (c ∷ rest)) (hex_of-value b h)
+    digit-onto k n (digit_value b) rest (ltb-true _ _ h) ∙ ap (λ (c : ℕ). digits_of k n (c ∷ rest)) (hex_of_value b h)
 
 -- ---- a line's own digits, two by two
 -- those from a place on as capitals, before others

@@ -61,9 +61,9 @@ digit-back d h = go (ltb d 10) refl
     go false e = let l = ltb-false d 10 e in sym (value-of-capital (0x41 + (d - 10)) d (omega arith) (omega arith) (omega arith))
 
 -- the digit of a digit's value is its capital
-pub hex_of-value : (b : ℕ) → is_digit b ≡ true → hex_digit (digit_value b) ≡ capital b
+pub hex_of_value : (b : ℕ) → is_digit b ≡ true → hex_digit (digit_value b) ≡ capital b
 unfolding digit_value capital
-hex_of-value b = go (between 0x30 0x39 b) (between 0x41 0x46 b) (between 0x61 0x66 b) refl refl refl
+hex_of_value b = go (between 0x30 0x39 b) (between 0x41 0x46 b) (between 0x61 0x66 b) refl refl refl
   where
     range : (lo hi : ℕ) → between lo hi b ≡ true → (lo ≤ b) × (b ≤ hi)
     range lo hi e = let t = and-true (leb lo b) (leb b hi) e in (leb-true lo b t.0, leb-true b hi t.1)

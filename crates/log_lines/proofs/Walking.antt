@@ -26,9 +26,9 @@ module _ (s : List ℕ) (i : ℕ) where
   unfolding to_lf
   at_other h n = rw (add-one, drop-cons s i 0, ne_eqb _ _ n)
 
-  pub at-end : length s ≤ i → to_lf (drop i s) ≡ 0
+  pub at_end : length s ≤ i → to_lf (drop i s) ≡ 0
   unfolding to_lf
-  at-end h = rw (drop_of_length-le s h)
+  at_end h = rw (drop_of_length-le s h)
 
 toLF-within : (s : List ℕ) → to_lf s ≤ length s
 unfolding to_lf

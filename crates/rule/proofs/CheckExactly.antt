@@ -16,7 +16,7 @@ use Rattle.rule.specs.Opening.{Whole, PlaceOf10, Opening, refused_9, refused_10,
 use Rattle.rule.specs.CheckTold.{CheckAnswer}
 use Rattle.rule.specs.CheckTold as checking
 use Rattle.rule.specs.declared.Frame.{Frame}
-use Rattle.rule.proofs.FrameReferences.{rule-length, at-most_32, count-of}
+use Rattle.rule.proofs.FrameReferences.{rule-length, at_most_32, count-of}
 use Rattle.rule.proofs.CheckAnswers.{opening_iff}
 
 -- ---- frames of a rule: at least one, and as many as the bytes say
@@ -78,4 +78,4 @@ pub few : {s : List ℕ} → Bytes s → checked_of s ≡ checking.accepted → 
 few {s} b e =
     let p : Proper s = (accepted_iff b).0 e in
     let r : IsRule s = proper-rule p in
-    subst (λ (n : ℕ). n ≤ 32) (sym (count-of r)) (at-most_32 r (whole_of r p.short).most)
+    subst (λ (n : ℕ). n ≤ 32) (sym (count-of r)) (at_most_32 r (whole_of r p.short).most)

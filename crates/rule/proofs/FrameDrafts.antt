@@ -14,8 +14,8 @@ use Rattle.rule.specs.Limits.{event_limit, note_limit, factor_limit, offset_limi
 use Rattle.rule.specs.Frames.{Source, Kind, kind_byte, scale_byte, frame, bare}
 use Rattle.rule.specs.Grammar.{index}
 use Rattle.rule.specs.Tree.{LimitsR}
-use Rattle.rule.specs.Draft.{Draft, head, lit, index-var, ref, plain}
-use Rattle.rule.specs.Measure.{Named, declared, used, Sized, sized-by, multiple_numbers, shift_numbers, names_of, numbers_of}
+use Rattle.rule.specs.Draft.{Draft, head, lit, index_var, ref, plain}
+use Rattle.rule.specs.Measure.{Named, declared, used, Sized, sized_by, multiple_numbers, shift_numbers, names_of, numbers_of}
 use Rattle.rule.specs.Spelling.{beyond}
 use Rattle.rule.specs.Meaning.{factor_at, offset_at, reference_at}
 use Rattle.rule.specs.declared.Frame.{Frame}
@@ -64,27 +64,27 @@ Used (used r p) = Unit {0}
 pub names_used : (d : Draft) → All Used (names_of d)
 names_used (head p) = tt
 names_used (lit p) = tt
-names_used index-var = tt
+names_used index_var = tt
 names_used (ref n e f o) = (tt, (tt, tt))
 names_used (plain k) = tt
 
 -- decimals within their limits: at most 6 in the clause, at most z in a literal
 abbrev pub DecimalsFit : (value decimals : Place → ℕ) → ℕ → Sized → Type 0
-DecimalsFit value decimals z (sized-by OfClause p) = value p ≤ decimal_limit
-DecimalsFit value decimals z (sized-by OfLiteral p) = decimals p ≤ z
-DecimalsFit value decimals z (sized-by OfFactor p) = Unit {0}
-DecimalsFit value decimals z (sized-by OfOffset p) = Unit {0}
+DecimalsFit value decimals z (sized_by OfClause p) = value p ≤ decimal_limit
+DecimalsFit value decimals z (sized_by OfLiteral p) = decimals p ≤ z
+DecimalsFit value decimals z (sized_by OfFactor p) = Unit {0}
+DecimalsFit value decimals z (sized_by OfOffset p) = Unit {0}
 
 -- a number within its limits
 abbrev pub Fine : (value decimals : Place → ℕ) → ℕ → Sized → Type 0
-Fine value decimals z (sized-by l p) = (beyond l (value p) ≡ false) × DecimalsFit value decimals z (sized-by l p)
+Fine value decimals z (sized_by l p) = (beyond l (value p) ≡ false) × DecimalsFit value decimals z (sized_by l p)
 
 module _ (event_of note_of value decimals : Place → ℕ) where
   -- a frame with its names and numbers looked up
   abbrev pub frame_of : Draft → Frame
   frame_of (head p) = frame scale_byte (value p) 0 0 (pos 0)
   frame_of (lit p) = frame (kind_byte (Kind.operand Source.literal)) (decimals p) 0 0 (pos (value p))
-  frame_of index-var = bare (Kind.operand Source.instance)
+  frame_of index_var = bare (Kind.operand Source.instance)
   frame_of (ref n e f o) = frame (kind_byte (Kind.operand Source.reference)) (event_of e) (note_of n) (factor_at event_of note_of value decimals f) (offset_at event_of note_of value decimals o)
   frame_of (plain k) = frame k 0 0 0 (pos 0)
 
@@ -134,7 +134,7 @@ module _ (number number' : Role → Place → ℕ) (value value' decimals : Plac
   Numbered (used r p) = number r p ≡ number' r p
 
   abbrev pub Valued : Sized → Type 0
-  Valued (sized-by l p) = value p ≡ value' p
+  Valued (sized_by l p) = value p ≡ value' p
 
   factor-alike : (f : Multiple) → All Valued (multiple_numbers f) → factor_at (number Event) (number Note) value decimals f ≡ factor_at (number' Event) (number' Note) value' decimals f
   factor-alike Once k = refl
@@ -152,7 +152,7 @@ module _ (number number' : Role → Place → ℕ) (value value' decimals : Plac
   pub alike : (d : Draft) → All Numbered (names_of d) → All Valued (numbers_of d) → Alike d
   alike (head p) h k = ap (λ (v : ℕ). frame scale_byte v 0 0 (pos 0)) k.0
   alike (lit p) h k = ap (λ (v : ℕ). frame (kind_byte (Kind.operand Source.literal)) (decimals p) 0 0 (pos v)) k.0
-  alike index-var h k = refl
+  alike index_var h k = refl
   alike (ref n e f o) h k = rw (h.0, h.1.0, factor-alike f (all_left Valued (multiple_numbers f) (shift_numbers o) k), offset-alike o (all_right Valued (multiple_numbers f) (shift_numbers o) k))
   alike (plain k) h l = refl
 

@@ -11,7 +11,7 @@ use lib.ListN.{length, length-append}
 use borrow.Author.Tests.{leb-false}
 use Rattle.rule.specs.Name.{long_name}
 use Rattle.rule.specs.Grammar.{Rule}
-use Rattle.rule.specs.Measure.{Named, declared, used, Sized, sized-by, flat, names_of, numbers_of, header, frames, names, numbers}
+use Rattle.rule.specs.Measure.{Named, declared, used, Sized, sized_by, flat, names_of, numbers_of, header, frames, names, numbers}
 use Rattle.rule.specs.Spelling.{same_role, room, beyond}
 use Rattle.rule.proofs.ReaderRefusals.{codes, bad-name, spot, first-name, first-number}
 use Rattle.rule.specs.Memory.{position, is_declared}
@@ -114,9 +114,9 @@ module _ (code value decimals : Place → ℕ) where
   -- ---- numbers
   pub all-fine : (z : ℕ) (l : List Sized) → first-number code value decimals l ≡ none → All (DecimalsFit value decimals z) l → All (Fine value decimals z) l
   all-fine z [] e d = tt
-  all-fine z (sized-by l p ∷ xs) e d = go (beyond l (value p)) (λ f. all-fine z xs f d.1) e
+  all-fine z (sized_by l p ∷ xs) e d = go (beyond l (value p)) (λ f. all-fine z xs f d.1) e
     where
-      go : (b : Bool) → (first-number code value decimals xs ≡ none → All (Fine value decimals z) xs) → cond b (some p) (first-number code value decimals xs) ≡ none → ((b ≡ false) × DecimalsFit value decimals z (sized-by l p)) × All (Fine value decimals z) xs
+      go : (b : Bool) → (first-number code value decimals xs ≡ none → All (Fine value decimals z) xs) → cond b (some p) (first-number code value decimals xs) ≡ none → ((b ≡ false) × DecimalsFit value decimals z (sized_by l p)) × All (Fine value decimals z) xs
       go true k f = absurd (some-not-none f)
       go false k f = ((refl, d.0), k f)
 

@@ -46,17 +46,17 @@ compared_in (b ∷ (a ∷ ms)) = emptied (sides_fit a b)
 
 -- ---- where each note has so many decimals
 module _ (scale : ℕ) where
-  sizes-after_in : (o : Kind) (x : Frame) (ms : List (Term ℕ)) → Bounded ms → BoundedIn (sizes_after scale o x ms)
-  sizes-after_in (operand s) x ms h = pushed_in (operand_size scale s x) ms h
-  sizes-after_in (arithmetic o) x ms h = topped_in (grown o) ms h
-  sizes-after_in absolute x ms h = h
-  sizes-after_in (relation r) x ms h = compared_in ms
-  sizes-after_in negation x ms h = h
-  sizes-after_in (connective j) x ms h = h
-  sizes-after_in none x ms h = h
+  sizes_after_in : (o : Kind) (x : Frame) (ms : List (Term ℕ)) → Bounded ms → BoundedIn (sizes_after scale o x ms)
+  sizes_after_in (operand s) x ms h = pushed_in (operand_size scale s x) ms h
+  sizes_after_in (arithmetic o) x ms h = topped_in (grown o) ms h
+  sizes_after_in absolute x ms h = h
+  sizes_after_in (relation r) x ms h = compared_in ms
+  sizes_after_in negation x ms h = h
+  sizes_after_in (connective j) x ms h = h
+  sizes_after_in none x ms h = h
 
   next_in_lem : (x : Frame) (z : Sizes) → BoundedIn z → BoundedIn (size_next scale x z)
-  next_in_lem x (fits ms) h = sizes-after_in (kind_of x.kind) x ms h
+  next_in_lem x (fits ms) h = sizes_after_in (kind_of x.kind) x ms h
   next_in_lem x over h = tt
 
   pub sizes_in : (s : List ℕ) (i : ℕ) → BoundedIn (size_at scale s i)
@@ -81,14 +81,14 @@ module _ (scale : ℕ) where
   fits-at s i h f = fits_by s i (size_at scale s i) refl h f
 
   -- ---- for the functions
-  pub sizes-after_keeping : (o : Kind) (x : Frame) (ms : List (Term ℕ)) → T (is_keeping o) → sizes_after scale o x ms ≡ fits ms
-  sizes-after_keeping (operand s) x ms t = absurd t
-  sizes-after_keeping (arithmetic o) x ms t = absurd t
-  sizes-after_keeping absolute x ms t = refl
-  sizes-after_keeping (relation r) x ms t = absurd t
-  sizes-after_keeping negation x ms t = refl
-  sizes-after_keeping (connective j) x ms t = refl
-  sizes-after_keeping none x ms t = refl
+  pub sizes_after_keeping : (o : Kind) (x : Frame) (ms : List (Term ℕ)) → T (is_keeping o) → sizes_after scale o x ms ≡ fits ms
+  sizes_after_keeping (operand s) x ms t = absurd t
+  sizes_after_keeping (arithmetic o) x ms t = absurd t
+  sizes_after_keeping absolute x ms t = refl
+  sizes_after_keeping (relation r) x ms t = absurd t
+  sizes_after_keeping negation x ms t = refl
+  sizes_after_keeping (connective j) x ms t = refl
+  sizes_after_keeping none x ms t = refl
 
   pub size_again : (s cells counts cells' counts' : List ℕ) (i k : ℕ) (x : Frame) (r : Size) → size_at scale s i ≡ fits (terms_of 0 cells counts k) → x ≡ frame_at s i
       → loaded cells' counts' r ≡ sizes_after scale (kind_of x.kind) x (terms_of 0 cells counts k) → size_at scale s (i + 1) ≡ loaded cells' counts' r

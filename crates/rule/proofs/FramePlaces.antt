@@ -133,7 +133,7 @@ module _ (z : Option ℕ) where
         }
     place-by p (viable c k) e g f =
         let l : length (frames_of s) ≡ frame_count s = frames-length s in
-        let i : p ≡ frame_count s = at-end (frame_count s) (reference_count s) (eqb c 1 && eqb k 0) g in
+        let i : p ≡ frame_count s = at_end (frame_count s) (reference_count s) (eqb c 1 && eqb k 0) g in
         let j : p ≡ length (frames_of s) = omega arith in
         let b : BeginsF z (frames_of s) = good-begins (frames_of s) c k ok (sym (order-all z s) ∙ ap shape_of e) in
         record {
@@ -143,9 +143,9 @@ module _ (z : Option ℕ) where
           end = λ h r. never (reference_count s) (sym (rule-order z s r) ∙ f);
         }
       where
-        at-end : (n m : ℕ) (t : Bool) → cond t (Fine m) (At n) ≡ At p → p ≡ n
-        at-end n m true g = cc
-        at-end n m false g = cc
+        at_end : (n m : ℕ) (t : Bool) → cond t (Fine m) (At n) ≡ At p → p ≡ n
+        at_end n m true g = cc
+        at_end n m false g = cc
 
         never : (m : ℕ) → Fine m ≡ At p → ⊥
         never m z = let y : ◌≡◌ {A = ℕ} 0 1 = cc in omega arith

@@ -54,8 +54,8 @@ pub rule-length : {s : List ℕ} (r : IsRule s) → length s ≡ length (postfix
 rule-length r = ap length r.bytes ∙ bytes-length (postfix r.tree)
 
 -- at most 32 references in 64 frames
-pub at-most_32 : {s : List ℕ} (r : IsRule s) → length s ≤ frame_limit * frame_bytes → length (references r.tree) ≤ 32
-at-most_32 {s} r h =
+pub at_most_32 : {s : List ℕ} (r : IsRule s) → length s ≤ frame_limit * frame_bytes → length (references r.tree) ≤ 32
+at_most_32 {s} r h =
     let e : length s ≡ length (postfix r.tree) * 8 = rule-length r in
     omega (arith, half r.tree)
 

@@ -14,7 +14,7 @@ use Rattle.rule.specs.Limits.{decimal_limit, factor_limit, offset_limit, frame_l
 use Rattle.rule.specs.Grammar.{Rule}
 use Rattle.rule.specs.Tree.{RuleTree, Limits, postfix, bytes_of, IsRule}
 use Rattle.rule.specs.Measure.{frames, names, numbers}
-use Rattle.rule.specs.Draft.{Draft, head, lit, index-var, ref, plain}
+use Rattle.rule.specs.Draft.{Draft, head, lit, index_var, ref, plain}
 use Rattle.rule.proofs.ReaderRefusals.{codes, first-name, first-number, first-decimals}
 use Rattle.rule.specs.Memory.{position, negated, factor_of, offset_of, fields, code_at, value_at, decimals_at}
 use Rattle.rule.proofs.ReaderFrames.{each, tree_bytes}
@@ -63,7 +63,7 @@ module _ (code value decimals : Place → ℕ) (E N : List ℕ) where
   same-eight : (z : ℕ) → z ≤ decimal_limit → (d : Draft) → LimitsD event note value decimals z d → eight (fields code value decimals E N d) ≡ bytes_of (frame_of event note value decimals d ∷ [])
   same-eight z k (head p) l = let q : value p ≤ 6 = l.1.0.1 in let e : value p % 256 ≡ value p = omega arith in rw e
   same-eight z k (lit p) l = let q : decimals p ≤ z = l.1.0.1 in let e : decimals p % 256 ≡ decimals p = omega arith in rw e
-  same-eight z k index-var l = refl
+  same-eight z k index_var l = refl
   same-eight z k (ref n e f o) l = let q = reference-fits event note value decimals z n e f o l in rw (same-factor f q.factor, same-offset o q.offset)
   same-eight z h (plain k) l = refl
 
@@ -81,24 +81,24 @@ meaning-count text x =
 
 module _ (text : List ℕ) (x : Rule) (w : Within text x) where
   -- at most 64 frames of the tree
-  pub few-frames : length (frames x) ≤ frame_limit
-  few-frames = subst (λ (n : ℕ). n ≤ frame_limit) (meaning-count text x) w.few-frames
+  pub few_frames : length (frames x) ≤ frame_limit
+  few_frames = subst (λ (n : ℕ). n ≤ frame_limit) (meaning-count text x) w.few_frames
 
   -- no name is bad by codes, no number by capped values
   pub coded-names : first-name (code_at text) (value_at text) (decimals_at text) [] (names x) ≡ none
-  coded-names = first-name-same text x w.spelled.spells ∙ w.names-good
+  coded-names = first-name-same text x w.spelled.spells ∙ w.names_good
 
   pub coded-numbers : first-number (code_at text) (value_at text) (decimals_at text) (numbers x) ≡ none
-  coded-numbers = first-number-same text x ∙ w.numbers-good
+  coded-numbers = first-number-same text x ∙ w.numbers_good
 
   same : coded_meaning text x ≡ meaning text x
-  same = meaning-same text x w.spelled.spells w.names-good w.numbers-good w.decimals-good
+  same = meaning-same text x w.spelled.spells w.names_good w.numbers_good w.decimals_good
 
   pub coded-decimals : first-decimals (code_at text) (value_at text) (decimals_at text) (numbers x) ≡ none
-  coded-decimals = first-decimals-same text x ∙ w.decimals-good
+  coded-decimals = first-decimals-same text x ∙ w.decimals_good
 
   fit : All (LimitsD (coded_number text x Event) (coded_number text x Note) (value_at text) (decimals_at text) (most_decimals x)) (frames x)
-  fit = frames-fit (code_at text) (value_at text) (decimals_at text) (most_decimals x) x coded-names coded-numbers (decimals-fit text x w.spelled.spells w.decimals-good)
+  fit = frames-fit (code_at text) (value_at text) (decimals_at text) (most_decimals x) x coded-names coded-numbers (decimals-fit text x w.spelled.spells w.decimals_good)
 
   pub meaning-limits : Limits (meaning text x)
   meaning-limits = subst Limits same (limits-frames (coded_number text x Event) (coded_number text x Note) (value_at text) (decimals_at text) x fit)
@@ -118,7 +118,7 @@ module _ (text : List ℕ) (x : Rule) (w : Within text x) where
   -- the tree's bytes: the meaning's frames, and zero after the last
   pub tree-bytes : tree_bytes text x ≡ bytes_of (postfix (meaning text x)) ++ replicate (buffer_bytes - length (frames x) * frame_bytes) 0
   tree-bytes =
-      filled put-fields (rw put_count few-frames)
+      filled put-fields (rw put_count few_frames)
       ∙ ap₂ (λ (l : List ℕ) (n : ℕ). l ++ replicate (512 - n * 8) 0) packed-meaning put_count
 
   -- the frames alone

@@ -18,8 +18,8 @@ use Rattle.rule.specs.Token.{index_kind, bars_kind, ampersands_kind, arrow_kind,
 use Rattle.rule.specs.Class.{open_bracket, open_paren, star, bang, close_paren, open_brace, close_brace, close_bracket, equal_mark, less_mark, minus_mark, more_mark, plus_mark, semicolon}
 use Rattle.rule.specs.Grammar.{Word, mark, name, number, Rel, equal, unequal, less, at_most, more, at_least, rel_mark, sign_mark, word_of}
 use Rattle.rule.specs.Frames.{Arithmetic, Connective, Kind}
-use Rattle.rule.specs.Draft.{head, lit, index-var, ref, alone, relation_of, sign_of}
-use Rattle.rule.specs.Machine.{Act, declare, uses, sized, enter, out, deeper, Sym, unit, ands, ors, arrow, factor, muls, adds, rel, want, name_of, names_of, clause, clause-number, ref-event, ref-index, ref_shift, ref-by, doing, prod, sum, conj, condition, start, Next, stuck, on, start_factor, step}
+use Rattle.rule.specs.Draft.{head, lit, index_var, ref, alone, relation_of, sign_of}
+use Rattle.rule.specs.Machine.{Act, declare, uses, sized, enter, out, deeper, Sym, unit, ands, ors, arrow, factor, muls, adds, rel, want, name_of, names_of, clause, clause_number, ref_event, ref_index, ref_shift, ref_by, doing, prod, sum, conj, condition, start, Next, stuck, on, start_factor, step}
 
 abbrev pub is_leaf : ℕ → Bool
 is_leaf k = cond (eqb k name_kind) true (cond (eqb k number_kind) true (eqb k decimal_kind))
@@ -95,22 +95,22 @@ module _ (M : Type 0) (act : Act → M → M) where
     mul_none : {d : ℕ} {s : List Sym} {m m' : M} {ws : List Word} → Derives s m ws m' → Derives (muls d ∷ s) m ws m'
     literal : {d : ℕ} {s : List Sym} {m m' : M} {ws : List Word} (p : Place) → Derives s (act (out (lit p)) (act (sized OfLiteral p) m)) ws m' → Derives (factor d ∷ s) m (number p ∷ ws) m'
     decimal : {d : ℕ} {s : List Sym} {m m' : M} {ws : List Word} (p : Place) → Derives s (act (out (lit p)) (act (sized OfLiteral p) m)) ws m' → Derives (factor d ∷ s) m (Word.decimal p ∷ ws) m'
-    var : {d : ℕ} {s : List Sym} {m m' : M} {ws : List Word} → Derives s (act (out index-var) m) ws m' → Derives (factor d ∷ s) m (mark index_kind ∷ ws) m'
+    var : {d : ℕ} {s : List Sym} {m m' : M} {ws : List Word} → Derives s (act (out index_var) m) ws m' → Derives (factor d ∷ s) m (mark index_kind ∷ ws) m'
     parens : {d : ℕ} {s : List Sym} {m m' : M} {ws : List Word} → Derives (sum (deeper d) (want close_paren ∷ s)) (act (enter (deeper d)) m) ws m' → Derives (factor d ∷ s) m (mark open_paren ∷ ws) m'
     absolute : {d : ℕ} {s : List Sym} {m m' : M} {ws : List Word} → Derives (want open_paren ∷ sum (deeper d) (want close_paren ∷ doing (out (alone Kind.absolute)) ∷ s)) (act (enter (deeper d)) m) ws m' → Derives (factor d ∷ s) m (mark abs_kind ∷ ws) m'
-    reference : {d : ℕ} {s : List Sym} {m m' : M} {ws : List Word} (p : Place) → Derives (want open_paren ∷ ref-event p ∷ s) (act (uses Note p) m) ws m' → Derives (factor d ∷ s) m (name p ∷ ws) m'
-    event : {n : Place} {s : List Sym} {m m' : M} {ws : List Word} (p : Place) → Derives (want open_bracket ∷ ref-index n p ∷ want close_bracket ∷ want close_paren ∷ s) (act (uses Event p) m) ws m' → Derives (ref-event n ∷ s) m (name p ∷ ws) m'
-    multiplied : {n e : Place} {s : List Sym} {m m' : M} {ws : List Word} (p : Place) → Derives (want star ∷ want index_kind ∷ ref_shift n e (Times p) ∷ s) (act (sized OfFactor p) m) ws m' → Derives (ref-index n e ∷ s) m (number p ∷ ws) m'
-    unmultiplied : {n e : Place} {s : List Sym} {m m' : M} {ws : List Word} → Derives (ref_shift n e Once ∷ s) m ws m' → Derives (ref-index n e ∷ s) m (mark index_kind ∷ ws) m'
-    shifted : {n e : Place} {f : Multiple} {s : List Sym} {m m' : M} {ws : List Word} (g : Sign) → Derives (ref-by n e f g ∷ s) m ws m' → Derives (ref_shift n e f ∷ s) m (mark (sign_mark g) ∷ ws) m'
+    reference : {d : ℕ} {s : List Sym} {m m' : M} {ws : List Word} (p : Place) → Derives (want open_paren ∷ ref_event p ∷ s) (act (uses Note p) m) ws m' → Derives (factor d ∷ s) m (name p ∷ ws) m'
+    event : {n : Place} {s : List Sym} {m m' : M} {ws : List Word} (p : Place) → Derives (want open_bracket ∷ ref_index n p ∷ want close_bracket ∷ want close_paren ∷ s) (act (uses Event p) m) ws m' → Derives (ref_event n ∷ s) m (name p ∷ ws) m'
+    multiplied : {n e : Place} {s : List Sym} {m m' : M} {ws : List Word} (p : Place) → Derives (want star ∷ want index_kind ∷ ref_shift n e (Times p) ∷ s) (act (sized OfFactor p) m) ws m' → Derives (ref_index n e ∷ s) m (number p ∷ ws) m'
+    unmultiplied : {n e : Place} {s : List Sym} {m m' : M} {ws : List Word} → Derives (ref_shift n e Once ∷ s) m ws m' → Derives (ref_index n e ∷ s) m (mark index_kind ∷ ws) m'
+    shifted : {n e : Place} {f : Multiple} {s : List Sym} {m m' : M} {ws : List Word} (g : Sign) → Derives (ref_by n e f g ∷ s) m ws m' → Derives (ref_shift n e f ∷ s) m (mark (sign_mark g) ∷ ws) m'
     shift_none : {n e : Place} {f : Multiple} {s : List Sym} {m m' : M} {ws : List Word} → Derives s (act (out (ref n e f Unshifted)) m) ws m' → Derives (ref_shift n e f ∷ s) m ws m'
-    by_number : {n e : Place} {f : Multiple} {g : Sign} {s : List Sym} {m m' : M} {ws : List Word} (p : Place) → Derives s (act (out (ref n e f (By g p))) (act (sized OfOffset p) m)) ws m' → Derives (ref-by n e f g ∷ s) m (number p ∷ ws) m'
+    by_number : {n e : Place} {f : Multiple} {g : Sign} {s : List Sym} {m m' : M} {ws : List Word} (p : Place) → Derives s (act (out (ref n e f (By g p))) (act (sized OfOffset p) m)) ws m' → Derives (ref_by n e f g ∷ s) m (number p ∷ ws) m'
     named : {r : Role} {s : List Sym} {m m' : M} {ws : List Word} (p : Place) → Derives s (act (declare r p) m) ws m' → Derives (name_of r ∷ s) m (name p ∷ ws) m'
     name-more : {r : Role} {s : List Sym} {m m' : M} {ws : List Word} (p : Place) → Derives (names_of r ∷ s) (act (declare r p) m) ws m' → Derives (names_of r ∷ s) m (name p ∷ ws) m'
     name-none : {r : Role} {s : List Sym} {m m' : M} {ws : List Word} → Derives s m ws m' → Derives (names_of r ∷ s) m ws m'
-    scaled : {s : List Sym} {m m' : M} {ws : List Word} → Derives (clause-number ∷ want semicolon ∷ s) m ws m' → Derives (clause ∷ s) m (mark scale_kind ∷ ws) m'
+    scaled : {s : List Sym} {m m' : M} {ws : List Word} → Derives (clause_number ∷ want semicolon ∷ s) m ws m' → Derives (clause ∷ s) m (mark scale_kind ∷ ws) m'
     unscaled : {s : List Sym} {m m' : M} {ws : List Word} → Derives s m ws m' → Derives (clause ∷ s) m ws m'
-    scale-number : {s : List Sym} {m m' : M} {ws : List Word} (p : Place) → Derives s (act (out (head p)) (act (sized OfClause p) m)) ws m' → Derives (clause-number ∷ s) m (number p ∷ ws) m'
+    scale-number : {s : List Sym} {m m' : M} {ws : List Word} (p : Place) → Derives s (act (out (head p)) (act (sized OfClause p) m)) ws m' → Derives (clause_number ∷ s) m (number p ∷ ws) m'
 
   -- ---- each stack derives something
   nowhere : Place
@@ -133,11 +133,11 @@ module _ (M : Type 0) (act : Act → M → M) where
   some (name_of r ∷ s) m = let (ws, m', g) = some s _ in (_, m', named nowhere g)
   some (names_of r ∷ s) m = let (ws, m', g) = some s m in (_, m', name-none g)
   some (clause ∷ s) m = let (ws, m', g) = some s m in (_, m', unscaled g)
-  some (clause-number ∷ s) m = let (ws, m', g) = some s _ in (_, m', scale-number nowhere g)
-  some (ref-event n ∷ s) m = let (ws, m', g) = some s _ in (_, m', event nowhere (token (unmultiplied (shift_none (token (token g))))))
-  some (ref-index n e ∷ s) m = let (ws, m', g) = some s _ in (_, m', unmultiplied (shift_none g))
+  some (clause_number ∷ s) m = let (ws, m', g) = some s _ in (_, m', scale-number nowhere g)
+  some (ref_event n ∷ s) m = let (ws, m', g) = some s _ in (_, m', event nowhere (token (unmultiplied (shift_none (token (token g))))))
+  some (ref_index n e ∷ s) m = let (ws, m', g) = some s _ in (_, m', unmultiplied (shift_none g))
   some (ref_shift n e f ∷ s) m = let (ws, m', g) = some s _ in (_, m', shift_none g)
-  some (ref-by n e f g ∷ s) m = let (ws, m', h) = some s _ in (_, m', by_number nowhere h)
+  some (ref_by n e f g ∷ s) m = let (ws, m', h) = some s _ in (_, m', by_number nowhere h)
   some (doing a ∷ s) m = let (ws, m', g) = some s _ in (_, m', does g)
 
   -- ---- stacks on which the machine's choice is the only one
@@ -161,11 +161,11 @@ module _ (M : Type 0) (act : Act → M → M) where
   Good (name_of r ∷ s) = Good s
   Good (names_of r ∷ s) = Clear 1 s × Good s
   Good (clause ∷ s) = Clear 8 s × Good s
-  Good (clause-number ∷ s) = Good s
-  Good (ref-event n ∷ s) = Good s
-  Good (ref-index n e ∷ s) = Clear 43 s × Clear 45 s × Good s
+  Good (clause_number ∷ s) = Good s
+  Good (ref_event n ∷ s) = Good s
+  Good (ref_index n e ∷ s) = Clear 43 s × Clear 45 s × Good s
   Good (ref_shift n e f ∷ s) = Clear 43 s × Clear 45 s × Good s
-  Good (ref-by n e f g ∷ s) = Good s
+  Good (ref_by n e f g ∷ s) = Good s
   Good (doing a ∷ s) = Good s
 
   -- the same after a symbol that is passed over
@@ -267,16 +267,16 @@ module _ (M : Type 0) (act : Act → M → M) where
   fine (clause ∷ s) m k p =
       choose (Fine (clause ∷ s) m k p) k scale_kind (λ e g. ((refl, g.1), λ ws m' h. rw e (scaled h)))
       (pass (clause ∷ s) s m m k p (step M act s m k p) (λ g. g.1) (λ ws m' h. unscaled h) (fine s m k p))
-  fine (clause-number ∷ s) m k p = choose (Fine (clause-number ∷ s) m k p) k number_kind (λ e g. (g, λ ws m' h. rw e (scale-number p h))) tt
-  fine (ref-event n ∷ s) m k p = choose (Fine (ref-event n ∷ s) m k p) k name_kind (λ e g. ((refl, ((λ m p. refl), (λ m p. refl), (refl, (refl, g)))), λ ws m' h. rw e (event p h))) tt
-  fine (ref-index n x ∷ s) m k p =
-      choose (Fine (ref-index n x ∷ s) m k p) k number_kind (λ e g. ((refl, (refl, g)), λ ws m' h. rw e (multiplied p h)))
-      (choose (Fine (ref-index n x ∷ s) m k p) k index_kind (λ e g. (g, λ ws m' h. rw e (unmultiplied h))) tt)
+  fine (clause_number ∷ s) m k p = choose (Fine (clause_number ∷ s) m k p) k number_kind (λ e g. (g, λ ws m' h. rw e (scale-number p h))) tt
+  fine (ref_event n ∷ s) m k p = choose (Fine (ref_event n ∷ s) m k p) k name_kind (λ e g. ((refl, ((λ m p. refl), (λ m p. refl), (refl, (refl, g)))), λ ws m' h. rw e (event p h))) tt
+  fine (ref_index n x ∷ s) m k p =
+      choose (Fine (ref_index n x ∷ s) m k p) k number_kind (λ e g. ((refl, (refl, g)), λ ws m' h. rw e (multiplied p h)))
+      (choose (Fine (ref_index n x ∷ s) m k p) k index_kind (λ e g. (g, λ ws m' h. rw e (unmultiplied h))) tt)
   fine (ref_shift n x f ∷ s) m k p =
       choose (Fine (ref_shift n x f ∷ s) m k p) k plus_mark (λ e g. (g.2, λ ws m' h. rw e (shifted Plus h)))
       (choose (Fine (ref_shift n x f ∷ s) m k p) k minus_mark (λ e g. (g.2, λ ws m' h. rw e (shifted Minus h)))
       (pass (ref_shift n x f ∷ s) s m (act (out (ref n x f Unshifted)) m) k p (step M act s (act (out (ref n x f Unshifted)) m) k p) (λ g. g.2) (λ ws m' h. shift_none h) (fine s (act (out (ref n x f Unshifted)) m) k p)))
-  fine (ref-by n x f q ∷ s) m k p = choose (Fine (ref-by n x f q ∷ s) m k p) k number_kind (λ e g. (g, λ ws m' h. rw e (by_number p h))) tt
+  fine (ref_by n x f q ∷ s) m k p = choose (Fine (ref_by n x f q ∷ s) m k p) k number_kind (λ e g. (g, λ ws m' h. rw e (by_number p h))) tt
   fine (doing a ∷ s) m k p = pass (doing a ∷ s) s m (act a m) k p (step M act s (act a m) k p) (λ g. g) (λ ws m' h. does h) (fine s (act a m) k p)
 
   -- ---- completeness of a step: what the grammar allows, the machine takes

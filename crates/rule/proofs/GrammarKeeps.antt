@@ -7,8 +7,8 @@ use Rattle.rule.specs.Frames.{Kind}
 use Rattle.rule.specs.Token.{name_kind, number_kind, decimal_kind, scale_kind, index_kind, abs_kind, arrow_kind, bars_kind, ampersands_kind}
 use Rattle.rule.specs.Class.{bang, open_brace, open_paren, star}
 use Rattle.rule.specs.Grammar.{rel_mark, rels, sign_mark, signs, by_mark, place}
-use Rattle.rule.specs.Draft.{Draft, head, lit, index-var, ref, alone, relation_of, sign_of}
-use Rattle.rule.specs.Machine.{Act, declare, uses, sized, enter, out, deeper, Sym, unit, ands, ors, arrow, factor, muls, adds, rel, want, name_of, names_of, clause, clause-number, ref-event, ref-index, ref_shift, ref-by, doing, prod, sum, Next, stuck, on, MachineAnswer, accepted, refused, resume, start_factor, step, finish, run}
+use Rattle.rule.specs.Draft.{Draft, head, lit, index_var, ref, alone, relation_of, sign_of}
+use Rattle.rule.specs.Machine.{Act, declare, uses, sized, enter, out, deeper, Sym, unit, ands, ors, arrow, factor, muls, adds, rel, want, name_of, names_of, clause, clause_number, ref_event, ref_index, ref_shift, ref_by, doing, prod, sum, Next, stuck, on, MachineAnswer, accepted, refused, resume, start_factor, step, finish, run}
 use Rattle.rule.specs.declared.Token.{Token}
 use Rattle.rule.specs.declared.parts.Place.{Place}
 use Rattle.rule.specs.declared.parts.Role.TheVariants.{Event, Note}
@@ -62,11 +62,11 @@ Outs (want k ∷ s) = Outs s
 Outs (name_of r ∷ s) = Outs s
 Outs (names_of r ∷ s) = Outs s
 Outs (clause ∷ s) = Outs s
-Outs (clause-number ∷ s) = Outs s
-Outs (ref-event e ∷ s) = Outs s
-Outs (ref-index e i ∷ s) = Outs s
+Outs (clause_number ∷ s) = Outs s
+Outs (ref_event e ∷ s) = Outs s
+Outs (ref_index e i ∷ s) = Outs s
 Outs (ref_shift e i f ∷ s) = Outs s
-Outs (ref-by e i f g ∷ s) = Outs s
+Outs (ref_by e i f g ∷ s) = Outs s
 Outs (doing a ∷ s) = Is-out a × Outs s
 
 -- a choice by marks
@@ -85,7 +85,7 @@ module _ (M : Type 0) (act : Act → M → M) (P : M → Type 0) where
     factor-keeps d s m o h =
         choose Ok k number_kind (λ e. (o, keep (out (lit p)) tt _ (keep (sized OfLiteral p) (inl e, refl) m h)))
         (choose Ok k decimal_kind (λ e. (o, keep (out (lit p)) tt _ (keep (sized OfLiteral p) (inr e, refl) m h)))
-        (choose Ok k index_kind (λ e. (o, keep (out index-var) tt m h))
+        (choose Ok k index_kind (λ e. (o, keep (out index_var) tt m h))
         (choose Ok k open_paren (λ e. (o, keep (enter (deeper d)) tt m h))
         (choose Ok k abs_kind (λ e. ((tt, o), keep (enter (deeper d)) tt m h))
         (choose Ok k name_kind (λ e. (o, keep (uses Note p) (e, refl) m h)) tt)))))
@@ -108,12 +108,12 @@ module _ (M : Type 0) (act : Act → M → M) (P : M → Type 0) where
     step_keeps (name_of r ∷ s) m o h = choose Ok k name_kind (λ e. (o, keep (declare r p) (e, refl) m h)) tt
     step_keeps (names_of r ∷ s) m o h = choose Ok k name_kind (λ e. (o, keep (declare r p) (e, refl) m h)) (step_keeps s m o h)
     step_keeps (clause ∷ s) m o h = choose Ok k scale_kind (λ e. (o, h)) (step_keeps s m o h)
-    step_keeps (clause-number ∷ s) m o h = choose Ok k number_kind (λ e. (o, keep (out (head p)) tt _ (keep (sized OfClause p) (e, refl) m h))) tt
-    step_keeps (ref-event e ∷ s) m o h = choose Ok k name_kind (λ q. (o, keep (uses Event p) (q, refl) m h)) tt
-    step_keeps (ref-index e i ∷ s) m o h = choose Ok k number_kind (λ q. (o, keep (sized OfFactor p) (q, refl) m h)) (choose Ok k index_kind (λ q. (o, h)) tt)
+    step_keeps (clause_number ∷ s) m o h = choose Ok k number_kind (λ e. (o, keep (out (head p)) tt _ (keep (sized OfClause p) (e, refl) m h))) tt
+    step_keeps (ref_event e ∷ s) m o h = choose Ok k name_kind (λ q. (o, keep (uses Event p) (q, refl) m h)) tt
+    step_keeps (ref_index e i ∷ s) m o h = choose Ok k number_kind (λ q. (o, keep (sized OfFactor p) (q, refl) m h)) (choose Ok k index_kind (λ q. (o, h)) tt)
     step_keeps (ref_shift e i f ∷ s) m o h =
-        mark-keeps Ok sign_mark k (λ g. on (ref-by e i f g ∷ s) m) (step M act s (act (out (ref e i f Unshifted)) m) k p) signs (λ g. (o, h)) (step_keeps s _ o (keep (out (ref e i f Unshifted)) tt m h))
-    step_keeps (ref-by e i f g ∷ s) m o h = choose Ok k number_kind (λ q. (o, keep (out (ref e i f (By g p))) tt _ (keep (sized OfOffset p) (q, refl) m h))) tt
+        mark-keeps Ok sign_mark k (λ g. on (ref_by e i f g ∷ s) m) (step M act s (act (out (ref e i f Unshifted)) m) k p) signs (λ g. (o, h)) (step_keeps s _ o (keep (out (ref e i f Unshifted)) tt m h))
+    step_keeps (ref_by e i f g ∷ s) m o h = choose Ok k number_kind (λ q. (o, keep (out (ref e i f (By g p))) tt _ (keep (sized OfOffset p) (q, refl) m h))) tt
     step_keeps (doing a ∷ s) m o h = step_keeps s _ o.1 (keep a (out_at k p a o.0) m h)
 
   -- of an answer: its memory, or its place
@@ -125,27 +125,27 @@ module _ (M : Type 0) (act : Act → M → M) (P : M → Type 0) where
   abbrev pub Keeper : (ℕ → Type 0) → Token → Type 0
   Keeper Q t = Q t.start × ((a : Act) → At t.kind (place t) a → (m : M) → P m → P (act a m))
 
-  module _ (n : ℕ) (Q : ℕ → Type 0) (at-end : Q n) (puts : (f : Draft) (m : M) → P m → P (act (out f) m)) where
+  module _ (n : ℕ) (Q : ℕ → Type 0) (at_end : Q n) (puts : (f : Draft) (m : M) → P m → P (act (out f) m)) where
     finish-keeps : (s : List Sym) (m : M) → Outs s → P m → Holds Q (finish M act n s m)
     unfolding finish
     finish-keeps [] m o h = h
-    finish-keeps (unit d ∷ s) m o h = at-end
+    finish-keeps (unit d ∷ s) m o h = at_end
     finish-keeps (ands d ∷ s) m o h = finish-keeps s m o h
     finish-keeps (ors d ∷ s) m o h = finish-keeps s m o h
     finish-keeps (arrow d ∷ s) m o h = finish-keeps s m o h
-    finish-keeps (factor d ∷ s) m o h = at-end
+    finish-keeps (factor d ∷ s) m o h = at_end
     finish-keeps (muls d ∷ s) m o h = finish-keeps s m o h
     finish-keeps (adds d ∷ s) m o h = finish-keeps s m o h
-    finish-keeps (rel d ∷ s) m o h = at-end
-    finish-keeps (want x ∷ s) m o h = at-end
-    finish-keeps (name_of r ∷ s) m o h = at-end
+    finish-keeps (rel d ∷ s) m o h = at_end
+    finish-keeps (want x ∷ s) m o h = at_end
+    finish-keeps (name_of r ∷ s) m o h = at_end
     finish-keeps (names_of r ∷ s) m o h = finish-keeps s m o h
     finish-keeps (clause ∷ s) m o h = finish-keeps s m o h
-    finish-keeps (clause-number ∷ s) m o h = at-end
-    finish-keeps (ref-event e ∷ s) m o h = at-end
-    finish-keeps (ref-index e i ∷ s) m o h = at-end
+    finish-keeps (clause_number ∷ s) m o h = at_end
+    finish-keeps (ref_event e ∷ s) m o h = at_end
+    finish-keeps (ref_index e i ∷ s) m o h = at_end
     finish-keeps (ref_shift e i f ∷ s) m o h = finish-keeps s _ o (puts (ref e i f Unshifted) m h)
-    finish-keeps (ref-by e i f g ∷ s) m o h = at-end
+    finish-keeps (ref_by e i f g ∷ s) m o h = at_end
     finish-keeps (doing (out f) ∷ s) m o h = finish-keeps s _ o.1 (puts f m h)
     finish-keeps (doing (declare r p) ∷ s) m o h = absurd o.0
     finish-keeps (doing (uses r p) ∷ s) m o h = absurd o.0

@@ -4,7 +4,7 @@ use mathlib.Core.List.{List, [], ◌∷◌, ◌++◌}
 use Prim.Native.Nat.{ℕ}
 use Rattle.rule.specs.declared.Token.{Token}
 use Rattle.rule.specs.Grammar.{Word, place, word_of, words}
-use Rattle.rule.specs.Machine.{Act, Sym, unit, ands, ors, arrow, factor, muls, adds, rel, want, name_of, names_of, clause, clause-number, ref-event, ref-index, ref_shift, ref-by, doing, Next, stuck, on, MachineAnswer, accepted, refused, resume, step, finish, run}
+use Rattle.rule.specs.Machine.{Act, Sym, unit, ands, ors, arrow, factor, muls, adds, rel, want, name_of, names_of, clause, clause_number, ref_event, ref_index, ref_shift, ref_by, doing, Next, stuck, on, MachineAnswer, accepted, refused, resume, step, finish, run}
 use Rattle.rule.proofs.GrammarDerivations.{Derives, done, does, relation, and_none, or-none, implies-none, add_none, mul_none, shift_none, name-none, unscaled, some, Good, Fine, fine, Takes, complete}
 
 module _ (M : Type 0) (act : Act → M → M) where
@@ -59,11 +59,11 @@ module _ (M : Type 0) (act : Act → M → M) where
   ends n (name_of r ∷ s) m = refl
   ends n (names_of r ∷ s) m = down n (names_of r ∷ s) s m m (finish M act n s m) (λ m' g. name-none g) (ends n s m)
   ends n (clause ∷ s) m = down n (clause ∷ s) s m m (finish M act n s m) (λ m' g. unscaled g) (ends n s m)
-  ends n (clause-number ∷ s) m = refl
-  ends n (ref-event e ∷ s) m = refl
-  ends n (ref-index e i ∷ s) m = refl
+  ends n (clause_number ∷ s) m = refl
+  ends n (ref_event e ∷ s) m = refl
+  ends n (ref_index e i ∷ s) m = refl
   ends n (ref_shift e i f ∷ s) m = down n (ref_shift e i f ∷ s) s m _ (finish M act n s _) (λ m' g. shift_none g) (ends n s _)
-  ends n (ref-by e i f g ∷ s) m = refl
+  ends n (ref_by e i f g ∷ s) m = refl
   ends n (doing a ∷ s) m = down n (doing a ∷ s) s m (act a m) (finish M act n s (act a m)) (λ m' g. does g) (ends n s (act a m))
 
   -- ---- 1. COMPLETENESS: what is derived is accepted, with the memory of the derivation
@@ -86,8 +86,8 @@ module _ (M : Type 0) (act : Act → M → M) where
   Spelled s m ts = (m' : M) × Derives M act s m (words ts) m'
 
   pub data Wrong (n : ℕ) (s : List Sym) (m : M) : List Token → ℕ → Type 0 where
-    at-token : (us : List Token) (t : Token) (vs : List Token) → Begins s m us → (Begins s m (us ++ t ∷ []) → ⊥) → Wrong n s m (us ++ t ∷ vs) t.start
-    at-end : (ts : List Token) → Begins s m ts → (Spelled s m ts → ⊥) → Wrong n s m ts n
+    at_token : (us : List Token) (t : Token) (vs : List Token) → Begins s m us → (Begins s m (us ++ t ∷ []) → ⊥) → Wrong n s m (us ++ t ∷ vs) t.start
+    at_end : (ts : List Token) → Begins s m ts → (Spelled s m ts → ⊥) → Wrong n s m ts n
 
   abbrev pub Says : ℕ → List Sym → M → List Token → MachineAnswer M → Type 0
   Says n s m ts (accepted m') = Derives M act s m (words ts) m'
@@ -95,7 +95,7 @@ module _ (M : Type 0) (act : Act → M → M) where
 
   at_last : (n : ℕ) (s : List Sym) (m : M) (a : MachineAnswer M) → finish M act n s m ≡ a → Ends n s m a → Says n s m [] a
   at_last n s m (accepted m') q e = e
-  at_last n s m (refused p) q e = rw e (at-end [] (some M act s m) (λ x. no_way (sym (gen_ends n x.1) ∙ q)))
+  at_last n s m (refused p) q e = rw e (at_end [] (some M act s m) (λ x. no_way (sym (gen_ends n x.1) ∙ q)))
     where
       Is : MachineAnswer M → Type 0
       Is (accepted m') = Unit {0}
@@ -112,8 +112,8 @@ module _ (M : Type 0) (act : Act → M → M) where
     before ws m' g = ((subst (λ (x : Next M). Fine M act s m t.kind (place t) x) e (fine M act s m t.kind (place t))) gd).1 ws m' g
 
     later : {ts : List Token} {p : ℕ} → Wrong n s₁ m₁ ts p → Wrong n s m (t ∷ ts) p
-    later (at-token us v vs y z) = at-token (t ∷ us) v vs (y.0, y.1, before _ _ y.2) (λ x. z (x.0, x.1, after _ _ x.2))
-    later (at-end ts y z) = at-end (t ∷ ts) (y.0, y.1, before _ _ y.2) (λ x. z (x.0, after _ _ x.1))
+    later (at_token us v vs y z) = at_token (t ∷ us) v vs (y.0, y.1, before _ _ y.2) (λ x. z (x.0, x.1, after _ _ x.2))
+    later (at_end ts y z) = at_end (t ∷ ts) (y.0, y.1, before _ _ y.2) (λ x. z (x.0, after _ _ x.1))
 
     says-later : (ts : List Token) (a : MachineAnswer M) → Says n s₁ m₁ ts a → Says n s m (t ∷ ts) a
     says-later ts (accepted m') x = before _ _ x
@@ -127,7 +127,7 @@ module _ (M : Type 0) (act : Act → M → M) where
     where
       go : ((s₁ : List Sym) (m₁ : M) → Good M act s₁ → Says n s₁ m₁ ts (run M act n s₁ m₁ ts))
           → (x : Next M) → step M act s m t.kind (place t) ≡ x → Fine M act s m t.kind (place t) x → Says n s m (t ∷ ts) (resume x t.start (λ s₁ m₁. run M act n s₁ m₁ ts))
-      go ih stuck e f = at-token [] t ts (some M act s m) (λ y. subst (λ (x : Next M). Takes M act x y.0 y.1) e (complete M act y.2 gd t.kind (place t) refl))
+      go ih stuck e f = at_token [] t ts (some M act s m) (λ y. subst (λ (x : Next M). Takes M act x y.0 y.1) e (complete M act y.2 gd t.kind (place t) refl))
       go ih (on s₁ m₁) e f = says-later n s m t gd s₁ m₁ e ts (run M act n s₁ m₁ ts) (ih s₁ m₁ (f gd).0)
 
   -- ---- and the other way round: the answer is fixed by what is so of the tokens
@@ -176,5 +176,5 @@ module _ (M : Type 0) (act : Act → M → M) where
           ∙ ih s₁ m₁ (good-after s m u gd s₁ m₁ e) (y.0, y.1, after n s m u gd s₁ m₁ e _ _ y.2) (λ x. z (x.0, before n s m u gd s₁ m₁ e _ _ x.1))
 
   pub refuses : (n : ℕ) {ts : List Token} {p : ℕ} (s : List Sym) (m : M) → Good M act s → Wrong n s m ts p → run M act n s m ts ≡ refused p
-  refuses n s m gd (at-token us t vs y z) = refuses-token n us t vs s m gd y z
-  refuses n s m gd (at-end ts y z) = refuses-end n ts s m gd y z
+  refuses n s m gd (at_token us t vs y z) = refuses-token n us t vs s m gd y z
+  refuses n s m gd (at_end ts y z) = refuses-end n ts s m gd y z

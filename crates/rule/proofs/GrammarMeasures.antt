@@ -14,7 +14,7 @@ use Rattle.rule.specs.ReadLimits.{depth_limit}
 use Rattle.rule.specs.Grammar.{Rule, rule}
 use Rattle.rule.specs.Draft.{Draft}
 use Rattle.rule.specs.Items.{Item, enters, puts, items}
-use Rattle.rule.specs.Measure.{deepest, depth, frames_in, frames, Named, declared, used, Sized, sized-by, flat, names_of, numbers_of}
+use Rattle.rule.specs.Measure.{deepest, depth, frames_in, frames, Named, declared, used, Sized, sized_by, flat, names_of, numbers_of}
 use Rattle.rule.specs.Measure.{declares, names, numbers}
 use Rattle.rule.specs.Machine.{Act, declare, uses, sized, enter, out, deeper}
 use Rattle.rule.proofs.GrammarWalk.{down, read_each, read_name, read_number, read_draft, read_items, read_names, read_rule}
@@ -37,7 +37,7 @@ note-name (out f) l = l
 abbrev pub note-number : Act → List Sized → List Sized
 note-number (declare r p) l = l
 note-number (uses r p) l = l
-note-number (sized b p) l = l ++ sized-by b p ∷ []
+note-number (sized b p) l = l ++ sized_by b p ∷ []
 note-number (enter d) l = l
 note-number (out f) l = l
 
@@ -58,7 +58,7 @@ module _ {L : Type 0} (note : Act → L → L) where
 
   idle-numbers : ((b : Limit) (p : Place) (l : L) → note (sized b p) l ≡ l) → (vs : List Sized) (l : L) → read_each (read_number L note) vs l ≡ l
   idle-numbers h [] l = refl
-  idle-numbers h (sized-by b p ∷ vs) l = idle-numbers h vs (note (sized b p) l) ∙ h b p l
+  idle-numbers h (sized_by b p ∷ vs) l = idle-numbers h vs (note (sized b p) l) ∙ h b p l
 
 -- ---- items of which each frame adds h of it
 module _ {B : Type 0} (note : Act → List B → List B) (h : Draft → List B) (still : (k : ℕ) (l : List B) → note (enter k) l ≡ l)
@@ -76,11 +76,11 @@ flat-own : (fs : List Draft) → flat own fs ≡ fs
 flat-own [] = refl
 flat-own (f ∷ fs) = ap (λ (l : List Draft). f ∷ l) (flat-own fs)
 
-no_name-frame : (ns : List Named) (l : List Draft) → read_each (read_name (List Draft) note-frame) ns l ≡ l
-no_name-frame = idle-names note-frame (λ r p l. refl) (λ r p l. refl)
+no_name_frame : (ns : List Named) (l : List Draft) → read_each (read_name (List Draft) note-frame) ns l ≡ l
+no_name_frame = idle-names note-frame (λ r p l. refl) (λ r p l. refl)
 
 adds-frame : (f : Draft) (l : List Draft) → read_draft (List Draft) note-frame f l ≡ l ++ own f
-adds-frame f l = ap (λ (m : List Draft). m ++ own f) (idle-numbers note-frame (λ b p m. refl) (numbers_of f) _ ∙ no_name-frame (names_of f) l)
+adds-frame f l = ap (λ (m : List Draft). m ++ own f) (idle-numbers note-frame (λ b p m. refl) (numbers_of f) _ ∙ no_name_frame (names_of f) l)
 
 pub frames-items : (d : ℕ) (is : List Item) (l : List Draft) → read_items (List Draft) note-frame d is l ≡ l ++ frames_in is
 frames-items d is l = noted note-frame own (λ k m. refl) adds-frame d is l ∙ ap (λ (m : List Draft). l ++ m) (flat-own (frames_in is))
@@ -88,7 +88,7 @@ frames-items d is l = noted note-frame own (λ k m. refl) adds-frame d is l ∙ 
 pub frames-read : (x : Rule) → read_rule (List Draft) note-frame x [] ≡ frames x
 frames-read (rule e es n ns k c) =
     frames-items 0 (items (rule e es n ns k c)) _
-    ∙ ap (λ (l : List Draft). l ++ frames_in (items (rule e es n ns k c))) (no_name-frame (declares Note (n ∷ ns)) _ ∙ no_name-frame (declares Event (e ∷ es)) [])
+    ∙ ap (λ (l : List Draft). l ++ frames_in (items (rule e es n ns k c))) (no_name_frame (declares Note (n ∷ ns)) _ ∙ no_name_frame (declares Event (e ∷ es)) [])
 
 -- names
 names-listed : (ns l : List Named) → read_each (read_name (List Named) note-name) ns l ≡ l ++ ns
@@ -109,18 +109,18 @@ names-read (rule e es n ns k c) =
 -- numbers
 numbers-listed : (vs l : List Sized) → read_each (read_number (List Sized) note-number) vs l ≡ l ++ vs
 numbers-listed [] l = sym (append-nil l)
-numbers-listed (sized-by b p ∷ vs) l = numbers-listed vs (l ++ sized-by b p ∷ []) ∙ append_assoc l (sized-by b p ∷ []) vs
+numbers-listed (sized_by b p ∷ vs) l = numbers-listed vs (l ++ sized_by b p ∷ []) ∙ append_assoc l (sized_by b p ∷ []) vs
 
-no_name-number : (ns : List Named) (l : List Sized) → read_each (read_name (List Sized) note-number) ns l ≡ l
-no_name-number = idle-names note-number (λ r p l. refl) (λ r p l. refl)
+no_name_number : (ns : List Named) (l : List Sized) → read_each (read_name (List Sized) note-number) ns l ≡ l
+no_name_number = idle-names note-number (λ r p l. refl) (λ r p l. refl)
 
 adds-numbers : (f : Draft) (l : List Sized) → read_draft (List Sized) note-number f l ≡ l ++ numbers_of f
-adds-numbers f l = numbers-listed (numbers_of f) _ ∙ ap (λ (m : List Sized). m ++ numbers_of f) (no_name-number (names_of f) l)
+adds-numbers f l = numbers-listed (numbers_of f) _ ∙ ap (λ (m : List Sized). m ++ numbers_of f) (no_name_number (names_of f) l)
 
 pub numbers-read : (x : Rule) → read_rule (List Sized) note-number x [] ≡ numbers x
 numbers-read (rule e es n ns k c) =
     noted note-number numbers_of (λ k m. refl) adds-numbers 0 (items (rule e es n ns k c)) _
-    ∙ ap (λ (l : List Sized). l ++ flat numbers_of (frames_in (items (rule e es n ns k c)))) (no_name-number (declares Note (n ∷ ns)) _ ∙ no_name-number (declares Event (e ∷ es)) [])
+    ∙ ap (λ (l : List Sized). l ++ flat numbers_of (frames_in (items (rule e es n ns k c)))) (no_name_number (declares Note (n ∷ ns)) _ ∙ no_name_number (declares Event (e ∷ es)) [])
 
 -- ---- depth: the register stops at 17
 deeper-is : (d : ℕ) → d ≤ 17 → deeper d ≡ min 17 (d + 1)
@@ -135,11 +135,11 @@ down_is : (k d : ℕ) → d ≤ 17 → down k d ≡ min 17 (d + k)
 down_is zero d h = omega arith
 down_is (suc k) d h = let e = deeper-is d h in let f = down_is k (deeper d) (omega arith) in omega arith
 
-no_name-depth : (ns : List Named) (t : ℕ) → read_each (read_name ℕ note-depth) ns t ≡ t
-no_name-depth = idle-names note-depth (λ r p t. refl) (λ r p t. refl)
+no_name_depth : (ns : List Named) (t : ℕ) → read_each (read_name ℕ note-depth) ns t ≡ t
+no_name_depth = idle-names note-depth (λ r p t. refl) (λ r p t. refl)
 
 keeps-depth : (f : Draft) (t : ℕ) → read_draft ℕ note-depth f t ≡ t
-keeps-depth f t = idle-numbers note-depth (λ b p u. refl) (numbers_of f) _ ∙ no_name-depth (names_of f) t
+keeps-depth f t = idle-numbers note-depth (λ b p u. refl) (numbers_of f) _ ∙ no_name_depth (names_of f) t
 
 cap_max : (a b : ℕ) → min 17 (max a b) ≡ max (min 17 a) (min 17 b)
 cap_max a b = omega arith
@@ -157,4 +157,4 @@ depth-items (puts f ∷ is) t = rw (keeps-depth f t) (depth-items is t)
 -- the greatest depth entered, which stops at 17, is the tree's
 pub depth-read : (x : Rule) → read_rule ℕ note-depth x 0 ≡ min 17 (depth x)
 depth-read (rule e es n ns k c) =
-    rw (no_name-depth (declares Event (e ∷ es)) 0, no_name-depth (declares Note (n ∷ ns)) 0) (let q = depth-items (items (rule e es n ns k c)) 0 in omega arith)
+    rw (no_name_depth (declares Event (e ∷ es)) 0, no_name_depth (declares Note (n ∷ ns)) 0) (let q = depth-items (items (rule e es n ns k c)) 0 in omega arith)

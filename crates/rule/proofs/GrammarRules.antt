@@ -32,12 +32,12 @@ module _ (M : Type 0) (act : Act → M → M) (n : ℕ) (m : M) where
   begins-back ts (x, ws, e) = (ws, read_rule M act x m, subst (λ (v : List Word). Derives M act start m v (read_rule M act x m)) e (derives_rule M act x))
 
   wrong : {ts : List Token} {p : ℕ} → Wrong M act n start m ts p → Wrong-at n ts p
-  wrong (GrammarMachine.at-token us t vs y z) = Grammar.at-token us t vs (begins us y) (λ b. z (begins-back (us ++ t ∷ []) b))
-  wrong (GrammarMachine.at-end ts y z) = Grammar.at-end ts (begins ts y) (λ (x, e). z (read_rule M act x m, subst (λ (v : List Word). Derives M act start m v (read_rule M act x m)) e (derives_rule M act x)))
+  wrong (GrammarMachine.at_token us t vs y z) = Grammar.at_token us t vs (begins us y) (λ b. z (begins-back (us ++ t ∷ []) b))
+  wrong (GrammarMachine.at_end ts y z) = Grammar.at_end ts (begins ts y) (λ (x, e). z (read_rule M act x m, subst (λ (v : List Word). Derives M act start m v (read_rule M act x m)) e (derives_rule M act x)))
 
   wrong-back : {ts : List Token} {p : ℕ} → Wrong-at n ts p → Wrong M act n start m ts p
-  wrong-back (Grammar.at-token us t vs y z) = GrammarMachine.at-token us t vs (begins-back us y) (λ b. z (begins (us ++ t ∷ []) b))
-  wrong-back (Grammar.at-end ts y z) = GrammarMachine.at-end ts (begins-back ts y) (λ (m', g). z (ruled M act g))
+  wrong-back (Grammar.at_token us t vs y z) = GrammarMachine.at_token us t vs (begins-back us y) (λ b. z (begins (us ++ t ∷ []) b))
+  wrong-back (Grammar.at_end ts y z) = GrammarMachine.at_end ts (begins-back ts y) (λ (m', g). z (ruled M act g))
 
   as_rule : (ts : List Token) (a : MachineAnswer M) → Says M act n start m ts a → Says-rule ts a
   as_rule ts (accepted m') g = let (x, e) = ruled M act g in (x, e, one_memory (sym (accepts M act n ts g (good_start M act)) ∙ taken x ts e))

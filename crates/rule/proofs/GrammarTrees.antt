@@ -20,8 +20,8 @@ use Rattle.rule.specs.Frames.{Arithmetic, Connective, Kind}
 use Rattle.rule.specs.Draft.{ref, relation_of, sign_of}
 use Rattle.rule.specs.Measure.{multiple_numbers, shift_numbers}
 use Rattle.rule.specs.Items.{items_cond, items_disj, items_conj, items_unit, items_sum, items_prod, items_factor}
-use Rattle.rule.specs.Machine.{Act, out, Sym, unit, ands, ors, arrow, factor, muls, adds, rel, want, name_of, names_of, clause, clause-number, ref-event, ref-index, ref_shift, ref-by, doing, prod, sum, conj, condition, start}
-use Rattle.rule.proofs.GrammarWalk.{read_each, read_number, read_items, read_names, read_rule, read_in, read-two, read-one_in, read-two_in}
+use Rattle.rule.specs.Machine.{Act, out, Sym, unit, ands, ors, arrow, factor, muls, adds, rel, want, name_of, names_of, clause, clause_number, ref_event, ref_index, ref_shift, ref_by, doing, prod, sum, conj, condition, start}
+use Rattle.rule.proofs.GrammarWalk.{read_each, read_number, read_items, read_names, read_rule, read_in, read-two, read_one_in, read_two_in}
 use Rattle.rule.specs.Grammar
 use Rattle.rule.proofs.FrameDrafts.{All}
 use Rattle.rule.proofs.GrammarDerivations.{Derives, done, token, does, not, group, relation, compare, and-more, and_none, or-more, or-none, implies, implies-none, add-more, add_none, mul_more, mul_none, literal, decimal, var, parens, absolute, reference, event, multiplied, unmultiplied, shifted, shift_none, by_number, named, name-more, name-none, scaled, unscaled, scale-number}
@@ -31,7 +31,7 @@ module _ (M : Type 0) (act : Act → M → M) where
   read_index n e (index f o) m = act (out (ref n e f o)) (read_each (read_number M act) (multiple_numbers f ++ shift_numbers o) m)
 
   -- ---- each tree has a derivation
-  derives_index : (x : Index) {n e : Place} {s : List Sym} {m m' : M} {ws : List Word} → Derives M act s (read_index n e x m) ws m' → Derives M act (ref-index n e ∷ s) m (spell_index x ws) m'
+  derives_index : (x : Index) {n e : Place} {s : List Sym} {m m' : M} {ws : List Word} → Derives M act s (read_index n e x m) ws m' → Derives M act (ref_index n e ∷ s) m (spell_index x ws) m'
   derives_index (index Once Unshifted) g = unmultiplied (shift_none g)
   derives_index (index Once (By q p)) g = unmultiplied (shifted q (by_number p g))
   derives_index (index (Times f) Unshifted) g = multiplied f (token (token (shift_none g)))
@@ -44,7 +44,7 @@ module _ (M : Type 0) (act : Act → M → M) where
   mutual
     pub derives_cond : (x : Cond) {d : ℕ} {s : List Sym} {m m' : M} {ws : List Word} → Derives M act s (read_items M act d (items_cond x) m) ws m' → Derives M act (condition d s) m (spell_cond x ws) m'
     derives_cond (a_disj x) g = derives_disj x (or-none (implies-none g))
-    derives_cond (Grammar.implies x y) {d} {m = m} g = derives_disj x (or-none (implies (derives_cond y (does (from (read-two_in M act d (items_disj x) (items_cond y) (Kind.connective Connective.implies) m) g)))))
+    derives_cond (Grammar.implies x y) {d} {m = m} g = derives_disj x (or-none (implies (derives_cond y (does (from (read_two_in M act d (items_disj x) (items_cond y) (Kind.connective Connective.implies) m) g)))))
 
     derives_disj : (x : Disj) {d : ℕ} {s : List Sym} {m m' : M} {ws : List Word} → Derives M act (ors d ∷ s) (read_items M act d (items_disj x) m) ws m' → Derives M act (conj d (ors d ∷ s)) m (spell_disj x ws) m'
     derives_disj (a_conj x) g = derives_conj x (and_none g)
@@ -55,7 +55,7 @@ module _ (M : Type 0) (act : Act → M → M) where
     derives_conj (and x y) {d} {m = m} g = derives_conj x (and-more (derives_unit y (does (from (read-two M act d (items_conj x) (items_unit y) (Kind.connective Connective.and) m) g))))
 
     derives_unit : (x : CUnit) {d : ℕ} {s : List Sym} {m m' : M} {ws : List Word} → Derives M act s (read_items M act d (items_unit x) m) ws m' → Derives M act (unit d ∷ s) m (spell_unit x ws) m'
-    derives_unit (Grammar.not x) {d} {m = m} g = not (derives_unit x (does (from (read-one_in M act d (items_unit x) Kind.negation m) g)))
+    derives_unit (Grammar.not x) {d} {m = m} g = not (derives_unit x (does (from (read_one_in M act d (items_unit x) Kind.negation m) g)))
     derives_unit (Grammar.group x) {d} {m = m} g = group (derives_cond x (token (from (read_in M act d (items_cond x) m) g)))
     derives_unit (Grammar.relation x c y) {d} {m = m} g = relation (derives_sum x (add_none (compare c (derives_sum y (add_none (does (from (read-two M act d (items_sum x) (items_sum y) (Kind.relation (relation_of c)) m) g)))))))
 
@@ -72,7 +72,7 @@ module _ (M : Type 0) (act : Act → M → M) where
     derives_factor (Factor.decimal p) g = decimal p g
     derives_factor Grammar.var g = var g
     derives_factor (Grammar.parens x) {d} {m = m} g = parens (derives_sum x (add_none (token (from (read_in M act d (items_sum x) m) g))))
-    derives_factor (Grammar.absolute x) {d} {m = m} g = absolute (token (derives_sum x (add_none (token (does (from (read-one_in M act d (items_sum x) Kind.absolute m) g))))))
+    derives_factor (Grammar.absolute x) {d} {m = m} g = absolute (token (derives_sum x (add_none (token (does (from (read_one_in M act d (items_sum x) Kind.absolute m) g))))))
     derives_factor (Grammar.reference n e (index f o)) g = reference n (token (event e (token (derives_index (index f o) (token (token g))))))
 
   derives_names : (r : Role) (ps : List Place) {s : List Sym} {m m' : M} {ws : List Word} → Derives M act s (read_names M act r ps m) ws m' → Derives M act (names_of r ∷ s) m (spell_names ps ws) m'
@@ -136,31 +136,31 @@ abbrev spell_addends : List (Sign × Prod) → List Word → List Word
 spell_addends [] r = r
 spell_addends (u ∷ us) r = mark (sign_mark u.0) ∷ spell_prod u.1 (spell_addends us r)
 
-spell_conj-of : (c : Conj) (us : List CUnit) (r : List Word) → spell_conj (conj-of c us) r ≡ spell_conj c (spell_units us r)
-spell_conj-of c [] r = refl
-spell_conj-of c (u ∷ us) r = spell_conj-of (and c u) us r
+spell_conj_of : (c : Conj) (us : List CUnit) (r : List Word) → spell_conj (conj-of c us) r ≡ spell_conj c (spell_units us r)
+spell_conj_of c [] r = refl
+spell_conj_of c (u ∷ us) r = spell_conj_of (and c u) us r
 
 spell_disj_of : (c : Disj) (us : List Conj) (r : List Word) → spell_disj (disj_of c us) r ≡ spell_disj c (spell_conjs us r)
 spell_disj_of c [] r = refl
 spell_disj_of c (u ∷ us) r = spell_disj_of (or c u) us r
 
-spell_cond-of : (x : Disj) (o : Option Cond) (r : List Word) → spell_cond (cond_of x o) r ≡ spell_disj x (spell_then o r)
-spell_cond-of x none r = refl
-spell_cond-of x (some y) r = refl
+spell_cond_of : (x : Disj) (o : Option Cond) (r : List Word) → spell_cond (cond_of x o) r ≡ spell_disj x (spell_then o r)
+spell_cond_of x none r = refl
+spell_cond_of x (some y) r = refl
 
-spell_prod-of : (c : Prod) (us : List Factor) (r : List Word) → spell_prod (prod-of c us) r ≡ spell_prod c (spell_factors us r)
-spell_prod-of c [] r = refl
-spell_prod-of c (u ∷ us) r = spell_prod-of (multiply c u) us r
+spell_prod_of : (c : Prod) (us : List Factor) (r : List Word) → spell_prod (prod-of c us) r ≡ spell_prod c (spell_factors us r)
+spell_prod_of c [] r = refl
+spell_prod_of c (u ∷ us) r = spell_prod_of (multiply c u) us r
 
-spell_sum-of : (c : Sum) (us : List (Sign × Prod)) (r : List Word) → spell_sum (sum_of c us) r ≡ spell_sum c (spell_addends us r)
-spell_sum-of c [] r = refl
-spell_sum-of c (u ∷ us) r = spell_sum-of (add c u.0 u.1) us r
+spell_sum_of : (c : Sum) (us : List (Sign × Prod)) (r : List Word) → spell_sum (sum_of c us) r ≡ spell_sum c (spell_addends us r)
+spell_sum_of c [] r = refl
+spell_sum_of c (u ∷ us) r = spell_sum_of (add c u.0 u.1) us r
 
-spell_whole-cond : (u : CUnit) (us : List CUnit) (cs : List Conj) (o : Option Cond) (r : List Word) → spell_cond (whole-cond u us cs o) r ≡ spell_unit u (spell_units us (spell_conjs cs (spell_then o r)))
-spell_whole-cond u us cs o r = spell_cond-of (disj_of (a_conj (whole-conj u us)) cs) o r ∙ (spell_disj_of (a_conj (whole-conj u us)) cs (spell_then o r) ∙ spell_conj-of (a_unit u) us (spell_conjs cs (spell_then o r)))
+spell_whole_cond : (u : CUnit) (us : List CUnit) (cs : List Conj) (o : Option Cond) (r : List Word) → spell_cond (whole-cond u us cs o) r ≡ spell_unit u (spell_units us (spell_conjs cs (spell_then o r)))
+spell_whole_cond u us cs o r = spell_cond_of (disj_of (a_conj (whole-conj u us)) cs) o r ∙ (spell_disj_of (a_conj (whole-conj u us)) cs (spell_then o r) ∙ spell_conj_of (a_unit u) us (spell_conjs cs (spell_then o r)))
 
-spell_whole-sum : (f : Factor) (fs : List Factor) (qs : List (Sign × Prod)) (r : List Word) → spell_sum (whole_sum f fs qs) r ≡ spell_factor f (spell_factors fs (spell_addends qs r))
-spell_whole-sum f fs qs r = spell_sum-of (a_prod (whole-prod f fs)) qs r ∙ spell_prod-of (a_factor f) fs (spell_addends qs r)
+spell_whole_sum : (f : Factor) (fs : List Factor) (qs : List (Sign × Prod)) (r : List Word) → spell_sum (whole_sum f fs qs) r ≡ spell_factor f (spell_factors fs (spell_addends qs r))
+spell_whole_sum f fs qs r = spell_sum_of (a_prod (whole-prod f fs)) qs r ∙ spell_prod_of (a_factor f) fs (spell_addends qs r)
 
 -- what a symbol of the stack stands for
 abbrev pub Tree_of : Sym → Type 0
@@ -176,11 +176,11 @@ Tree_of (want k) = Unit
 Tree_of (name_of r) = Place
 Tree_of (names_of r) = List Place
 Tree_of clause = Option Place
-Tree_of clause-number = Place
-Tree_of (ref-event n) = Place × Index
-Tree_of (ref-index n e) = Index
+Tree_of clause_number = Place
+Tree_of (ref_event n) = Place × Index
+Tree_of (ref_index n e) = Index
 Tree_of (ref_shift n e f) = Shift
-Tree_of (ref-by n e f g) = Place
+Tree_of (ref_by n e f g) = Place
 Tree_of (doing a) = Unit
 
 abbrev pub Forest : List Sym → Type 0
@@ -200,11 +200,11 @@ spell_sym (want k) t r = mark k ∷ r
 spell_sym (name_of x) t r = name t ∷ r
 spell_sym (names_of x) t r = spell_names t r
 spell_sym clause t r = spell_clause t r
-spell_sym clause-number t r = number t ∷ r
-spell_sym (ref-event n) t r = name t.0 ∷ mark open_bracket ∷ spell_index t.1 (mark close_bracket ∷ mark close_paren ∷ r)
-spell_sym (ref-index n e) t r = spell_index t r
+spell_sym clause_number t r = number t ∷ r
+spell_sym (ref_event n) t r = name t.0 ∷ mark open_bracket ∷ spell_index t.1 (mark close_bracket ∷ mark close_paren ∷ r)
+spell_sym (ref_index n e) t r = spell_index t r
 spell_sym (ref_shift n e f) t r = spell_shift t r
-spell_sym (ref-by n e f g) t r = number t ∷ r
+spell_sym (ref_by n e f g) t r = number t ∷ r
 spell_sym (doing a) t r = r
 
 abbrev spell_forest : (s : List Sym) → Forest s → List Word
@@ -226,24 +226,24 @@ module _ (M : Type 0) (act : Act → M → M) where
   made (token {k} g) = lift (made g) (λ r. mark k ∷ r) (λ f. (tt, f)) (λ f. refl)
   made (does g) = lift (made g) (λ r. r) (λ f. (tt, f)) (λ f. refl)
   made (not g) = lift (made g) (λ r. mark bang ∷ r) (λ f. (Grammar.not f.0, f.1.1)) (λ f. refl)
-  made (group g) = lift (made g) (λ r. mark open_brace ∷ r) (λ f. (Grammar.group (whole-cond f.0 f.1.0 f.1.1.0 f.1.1.1.0), f.1.1.1.1.1)) (λ f. rw (spell_whole-cond f.0 f.1.0 f.1.1.0 f.1.1.1.0 _))
-  made (relation g) = lift (made g) (λ r. r) (λ f. (Grammar.relation (whole_sum f.0 f.1.0 f.1.1.0) f.1.1.1.0.0 f.1.1.1.0.1, f.1.1.1.1)) (λ f. rw (spell_whole-sum f.0 f.1.0 f.1.1.0 _))
-  made (compare c g) = lift (made g) (λ r. mark (rel_mark c) ∷ r) (λ f. ((c, whole_sum f.0 f.1.0 f.1.1.0), f.1.1.1.1)) (λ f. rw (spell_whole-sum f.0 f.1.0 f.1.1.0 _))
+  made (group g) = lift (made g) (λ r. mark open_brace ∷ r) (λ f. (Grammar.group (whole-cond f.0 f.1.0 f.1.1.0 f.1.1.1.0), f.1.1.1.1.1)) (λ f. rw (spell_whole_cond f.0 f.1.0 f.1.1.0 f.1.1.1.0 _))
+  made (relation g) = lift (made g) (λ r. r) (λ f. (Grammar.relation (whole_sum f.0 f.1.0 f.1.1.0) f.1.1.1.0.0 f.1.1.1.0.1, f.1.1.1.1)) (λ f. rw (spell_whole_sum f.0 f.1.0 f.1.1.0 _))
+  made (compare c g) = lift (made g) (λ r. mark (rel_mark c) ∷ r) (λ f. ((c, whole_sum f.0 f.1.0 f.1.1.0), f.1.1.1.1)) (λ f. rw (spell_whole_sum f.0 f.1.0 f.1.1.0 _))
   made (and-more g) = lift (made g) (λ r. mark ampersands_kind ∷ r) (λ f. (f.0 ∷ f.1.1.0, f.1.1.1)) (λ f. refl)
   made (and_none g) = lift (made g) (λ r. r) (λ f. ([], f)) (λ f. refl)
-  made (or-more g) = lift (made g) (λ r. mark bars_kind ∷ r) (λ f. (whole-conj f.0 f.1.0 ∷ f.1.1.1.0, f.1.1.1.1)) (λ f. rw (spell_conj-of (a_unit f.0) f.1.0 _))
+  made (or-more g) = lift (made g) (λ r. mark bars_kind ∷ r) (λ f. (whole-conj f.0 f.1.0 ∷ f.1.1.1.0, f.1.1.1.1)) (λ f. rw (spell_conj_of (a_unit f.0) f.1.0 _))
   made (or-none g) = lift (made g) (λ r. r) (λ f. ([], f)) (λ f. refl)
-  made (implies g) = lift (made g) (λ r. mark arrow_kind ∷ r) (λ f. (some (whole-cond f.0 f.1.0 f.1.1.0 f.1.1.1.0), f.1.1.1.1.1)) (λ f. rw (spell_whole-cond f.0 f.1.0 f.1.1.0 f.1.1.1.0 _))
+  made (implies g) = lift (made g) (λ r. mark arrow_kind ∷ r) (λ f. (some (whole-cond f.0 f.1.0 f.1.1.0 f.1.1.1.0), f.1.1.1.1.1)) (λ f. rw (spell_whole_cond f.0 f.1.0 f.1.1.0 f.1.1.1.0 _))
   made (implies-none g) = lift (made g) (λ r. r) (λ f. (none, f)) (λ f. refl)
-  made (add-more q g) = lift (made g) (λ r. mark (sign_mark q) ∷ r) (λ f. ((q, whole-prod f.0 f.1.0) ∷ f.1.1.1.0, f.1.1.1.1)) (λ f. rw (spell_prod-of (a_factor f.0) f.1.0 _))
+  made (add-more q g) = lift (made g) (λ r. mark (sign_mark q) ∷ r) (λ f. ((q, whole-prod f.0 f.1.0) ∷ f.1.1.1.0, f.1.1.1.1)) (λ f. rw (spell_prod_of (a_factor f.0) f.1.0 _))
   made (add_none g) = lift (made g) (λ r. r) (λ f. ([], f)) (λ f. refl)
   made (mul_more g) = lift (made g) (λ r. mark star ∷ r) (λ f. (f.0 ∷ f.1.1.0, f.1.1.1)) (λ f. refl)
   made (mul_none g) = lift (made g) (λ r. r) (λ f. ([], f)) (λ f. refl)
   made (literal p g) = lift (made g) (λ r. number p ∷ r) (λ f. (Grammar.literal p, f)) (λ f. refl)
   made (decimal p g) = lift (made g) (λ r. Word.decimal p ∷ r) (λ f. (Factor.decimal p, f)) (λ f. refl)
   made (var g) = lift (made g) (λ r. mark index_kind ∷ r) (λ f. (Grammar.var, f)) (λ f. refl)
-  made (parens g) = lift (made g) (λ r. mark open_paren ∷ r) (λ f. (Grammar.parens (whole_sum f.0 f.1.0 f.1.1.0), f.1.1.1.1)) (λ f. rw (spell_whole-sum f.0 f.1.0 f.1.1.0 _))
-  made (absolute g) = lift (made g) (λ r. mark abs_kind ∷ r) (λ f. (Grammar.absolute (whole_sum f.1.0 f.1.1.0 f.1.1.1.0), f.1.1.1.1.1.1)) (λ f. rw (spell_whole-sum f.1.0 f.1.1.0 f.1.1.1.0 _))
+  made (parens g) = lift (made g) (λ r. mark open_paren ∷ r) (λ f. (Grammar.parens (whole_sum f.0 f.1.0 f.1.1.0), f.1.1.1.1)) (λ f. rw (spell_whole_sum f.0 f.1.0 f.1.1.0 _))
+  made (absolute g) = lift (made g) (λ r. mark abs_kind ∷ r) (λ f. (Grammar.absolute (whole_sum f.1.0 f.1.1.0 f.1.1.1.0), f.1.1.1.1.1.1)) (λ f. rw (spell_whole_sum f.1.0 f.1.1.0 f.1.1.1.0 _))
   made (reference p g) = lift (made g) (λ r. name p ∷ r) (λ f. (Grammar.reference p f.1.0.0 f.1.0.1, f.1.1)) (λ f. refl)
   made (event p g) = lift (made g) (λ r. name p ∷ r) (λ f. ((p, f.1.0), f.1.1.1.1)) (λ f. refl)
   made (multiplied p g) = lift (made g) (λ r. number p ∷ r) (λ f. (index (Times p) f.1.1.0, f.1.1.1)) (λ f. refl)
@@ -268,7 +268,7 @@ module _ (M : Type 0) (act : Act → M → M) where
           let h = f.1.1.1.1 in
           let k = h.1.1.1.1 in
           let c = k.1 in
-          (rule f.1.0 f.1.1.0 h.1.0 h.1.1.0 k.0 (whole-cond c.0 c.1.0 c.1.1.0 c.1.1.1.0), rw (spell_whole-cond c.0 c.1.0 c.1.1.0 c.1.1.1.0 []) (sym q.spelled))
+          (rule f.1.0 f.1.1.0 h.1.0 h.1.1.0 k.0 (whole-cond c.0 c.1.0 c.1.1.0 c.1.1.1.0), rw (spell_whole_cond c.0 c.1.0 c.1.1.0 c.1.1.1.0 []) (sym q.spelled))
 
 -- ---- no word of a tree is a token that no rule has; and none is the clause's word, where the clause is absent
 -- z is 0 for the clause's word, 1 for a token that no rule has

@@ -9,7 +9,7 @@ use Rattle.rule.specs.Frames.{Kind}
 use Rattle.rule.specs.Grammar.{Rule, rule}
 use Rattle.rule.specs.Draft.{Draft, alone}
 use Rattle.rule.specs.Items.{Item, enters, puts, deepened, inside, operates, items}
-use Rattle.rule.specs.Measure.{Named, declared, used, Sized, sized-by, names_of, numbers_of, declares}
+use Rattle.rule.specs.Measure.{Named, declared, used, Sized, sized_by, names_of, numbers_of, declares}
 use Rattle.rule.specs.Machine.{Act, declare, uses, sized, enter, out, deeper}
 
 -- k levels deeper than d, as the machine counts
@@ -28,7 +28,7 @@ module _ (M : Type 0) (act : Act → M → M) where
   read_name (used r p) m = act (uses r p) m
 
   abbrev pub read_number : Sized → M → M
-  read_number (sized-by l p) m = act (sized l p) m
+  read_number (sized_by l p) m = act (sized l p) m
 
   -- a frame: its names and numbers, then the frame itself
   abbrev pub read_draft : Draft → M → M
@@ -70,10 +70,10 @@ module _ (M : Type 0) (act : Act → M → M) where
   read-two d a b k m = read_one d (a ++ b) k m ∙ ap (act (out (alone k))) (read_append d a b m)
 
   -- the last operand one level further in
-  pub read-one_in : (d : ℕ) (a : List Item) (k : Kind) (m : M)
+  pub read_one_in : (d : ℕ) (a : List Item) (k : Kind) (m : M)
       → read_items d (inside a ++ operates k) m ≡ act (out (alone k)) (read_items (deeper d) a (act (enter (deeper d)) m))
-  read-one_in d a k m = read_one d (inside a) k m ∙ ap (act (out (alone k))) (read_in d a m)
+  read_one_in d a k m = read_one d (inside a) k m ∙ ap (act (out (alone k))) (read_in d a m)
 
-  pub read-two_in : (d : ℕ) (a b : List Item) (k : Kind) (m : M)
+  pub read_two_in : (d : ℕ) (a b : List Item) (k : Kind) (m : M)
       → read_items d (a ++ inside b ++ operates k) m ≡ act (out (alone k)) (read_items (deeper d) b (act (enter (deeper d)) (read_items d a m)))
-  read-two_in d a b k m = read-two d a (inside b) k m ∙ ap (act (out (alone k))) (read_in d b (read_items d a m))
+  read_two_in d a b k m = read-two d a (inside b) k m ∙ ap (act (out (alone k))) (read_in d b (read_items d a m))

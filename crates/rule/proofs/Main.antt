@@ -75,7 +75,7 @@ tokens-plain = modes.plain
 
 -- The end of a text has its length as its place.
 pub end-of-text : (points : Bool) (text : List ℕ) (at : ℕ) → at ≤ length text → (token_at points text at).kind ≡ end_kind → (token_at points text at).start ≡ length text
-end-of-text = lexing.at-end
+end-of-text = lexing.at_end
 
 -- Nothing but blanks stands between two tokens.
 pub blanks_between : (points : Bool) (text : List ℕ) (at k : ℕ) → at ≤ k → k < (token_at points text at).start → class_of (get_or text k 0) ≡ blank

@@ -13,7 +13,7 @@ use Rattle.rule.specs.Token.{tokens}
 use Rattle.rule.specs.Grammar.{Rule, yield, words, Wrong-at}
 use Rattle.rule.specs.Tree.{postfix}
 use Rattle.rule.specs.Measure.{frames, depth, names, numbers}
-use Rattle.rule.proofs.ReaderRefusals.{refused-by, read_as_lem, first-name, first-number, first-decimals, after-decimals, after-number, after-name, outcome}
+use Rattle.rule.proofs.ReaderRefusals.{refused-by, read_as, first-name, first-number, first-decimals, after-decimals, after-number, after-name, outcome}
 use Rattle.rule.specs.Memory.{code_at, value_at, decimals_at}
 use Rattle.rule.specs.Check.{checked_of}
 use Rattle.rule.specs.Meaning.{meaning}
@@ -52,12 +52,12 @@ module _ (text b : List ℕ) (fit : length b ≡ 512) (size : answers.LengthFits
         back _ (tree-read text b fit (length (postfix (meaning text x))) _ r) (accepted fit r)
 
     by-six : NamesGood text x → NumbersGood text x → DecimalsGood text x
-        → outcome (code_at text) (value_at text) (decimals_at text) x ≡ cond (ltb 16 (depth x)) (refused-by 6 0) (cond (ltb 64 (length (frames x))) (refused-by 6 0) (read_as_lem (frames x)))
+        → outcome (code_at text) (value_at text) (decimals_at text) x ≡ cond (ltb 16 (depth x)) (refused-by 6 0) (cond (ltb 64 (length (frames x))) (refused-by 6 0) (read_as (frames x)))
         → (q r : Bool) → ltb 16 (depth x) ≡ q → ltb 64 (length (frames x)) ≡ r → Answered text b (read_of text b)
     by-six e f i v true r g h = back _ (judged 6 0 (v ∙ rw g) (λ z. omega arith)) (refused_6 fit spelled e f i (inl (ltb-true 16 (depth x) g)))
     by-six e f i v false true g h = back _ (judged 6 0 (v ∙ rw (g, h)) (λ z. omega arith)) (refused_6 fit spelled e f i (inr (rw (meaning-count text x) (ltb-true 64 (length (frames x)) h))))
     by-six e f i v false false g h =
-        let w : Within text x = record { spelled = spelled; names-good = e; numbers-good = f; decimals-good = i; shallow = ltb-false 16 (depth x) g; few-frames = rw (meaning-count text x) (ltb-false 64 (length (frames x)) h) } in
+        let w : Within text x = record { spelled = spelled; names_good = e; numbers_good = f; decimals_good = i; shallow = ltb-false 16 (depth x) g; few_frames = rw (meaning-count text x) (ltb-false 64 (length (frames x)) h) } in
         by_check w (checked_of (take (length (frames x) * 8) (tree_bytes text x))) refl (checks text x w)
 
     by-eighteen : NamesGood text x → NumbersGood text x → outcome (code_at text) (value_at text) (decimals_at text) x ≡ after-decimals (code_at text) (value_at text) (decimals_at text) x (first-decimals (code_at text) (value_at text) (decimals_at text) (numbers x))

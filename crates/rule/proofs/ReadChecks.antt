@@ -61,7 +61,7 @@ module _ (text : List ℕ) (x : Rule) (w : Within text x) where
   bytes = rw (tree-taken text x w) (rule-bytes (meaning text x) (meaning-limits text x w))
 
   whole : Whole (length its-frames)
-  whole = whole_of (tree-rule text x w) w.few-frames
+  whole = whole_of (tree-rule text x w) w.few_frames
 
   pub checks : Checks (meaning text x) (checked_of its-frames)
   checks = checks-rule (tree-rule text x w) whole ((opening_iff bytes (checked_of its-frames)).0 refl)

@@ -10,7 +10,7 @@ use borrow.Author.Tests.{le-ltb}
 use Rattle.rule.specs.Grammar.{Rule}
 use Rattle.rule.specs.Tree.{postfix, bytes_of}
 use Rattle.rule.specs.Measure.{frames, depth}
-use Rattle.rule.proofs.ReaderRefusals.{Outcome, read_as_lem, telling, outcome}
+use Rattle.rule.proofs.ReaderRefusals.{Outcome, read_as, telling, outcome}
 use Rattle.rule.specs.Memory.{Mem, fresh, memory_answer, code_at, value_at, decimals_at, acts}
 use Rattle.rule.specs.Check.{checked_of}
 use Rattle.rule.specs.Reading.{after_check, concluded, read_of}
@@ -25,7 +25,7 @@ use Rattle.rule.proofs.GrammarWalk.{read_rule}
 use Rattle.rule.proofs.ReaderRegisters.{told_right}
 use Rattle.rule.proofs.ReaderBuffer.{bytes_read}
 use Rattle.rule.proofs.ReadText.{in_grammar}
-use Rattle.rule.proofs.FrameTrees.{meaning-count, few-frames, coded-names, coded-numbers, coded-decimals, tree-bytes}
+use Rattle.rule.proofs.FrameTrees.{meaning-count, few_frames, coded-names, coded-numbers, coded-decimals, tree-bytes}
 use Rattle.rule.proofs.ReadChecks.{check_accepted}
 
 -- the registers that refuse nothing tell the number of frames
@@ -58,8 +58,8 @@ module _ (text b : List ℕ) (fit : length b ≡ 512) where
     abbrev after : Mem
     after = read_rule Mem (acts text) x (fresh (replicate 512 0))
 
-    judged_well : outcome (code_at text) (value_at text) (decimals_at text) x ≡ read_as_lem (frames x)
-    judged_well = rw (coded-names text x w, coded-numbers text x w, coded-decimals text x w, le-ltb 16 (depth x) w.shallow, le-ltb 64 (length (frames x)) (few-frames text x w))
+    judged_well : outcome (code_at text) (value_at text) (decimals_at text) x ≡ read_as (frames x)
+    judged_well = rw (coded-names text x w, coded-numbers text x w, coded-decimals text x w, le-ltb 16 (depth x) w.shallow, le-ltb 64 (length (frames x)) (few_frames text x w))
 
     told_tree : memory_answer after ≡ (0, length (frames x))
     unfolding acts

@@ -95,8 +95,8 @@ module _ (code value decimals : Place → ℕ) where
   by_end : (E N : List ℕ) (b₀ : List ℕ) (w : Mem) (l : List Draft) → Holds E N b₀ w l → w.bytes ≡ fill 0 (each (fields code value decimals w.events w.notes) l) b₀
   by_end E N b₀ w l h = rw (h.its-events, h.its-notes) h.its-bytes
 
-  at-end : (b₀ : List ℕ) (x : Rule) → (read_rule Mem (remember code value decimals) x (fresh b₀)).bytes ≡ fill 0 (each (fields code value decimals (read_rule Mem (remember code value decimals) x (fresh b₀)).events (read_rule Mem (remember code value decimals) x (fresh b₀)).notes) (frames x)) b₀
-  at-end b₀ (rule e es n ns k c) =
+  at_end : (b₀ : List ℕ) (x : Rule) → (read_rule Mem (remember code value decimals) x (fresh b₀)).bytes ≡ fill 0 (each (fields code value decimals (read_rule Mem (remember code value decimals) x (fresh b₀)).events (read_rule Mem (remember code value decimals) x (fresh b₀)).notes) (frames x)) b₀
+  at_end b₀ (rule e es n ns k c) =
       by_end _ _ b₀ _ (frames_in (items (rule e es n ns k c)))
       (after-header b₀ _ (items (rule e es n ns k c)) (names-idle b₀ Note (n ∷ ns) _ (names-idle b₀ Event (e ∷ es) (fresh b₀) (record { no_frame = refl; no_byte = refl }))))
 
@@ -105,7 +105,7 @@ module _ (code value decimals : Place → ℕ) where
       → (read_rule Mem (remember code value decimals) x (fresh b₀)).bytes ≡ fill 0 (each (fields code value decimals (codes code value decimals Event (names x)) (codes code value decimals Note (names x))) (frames x)) b₀
   bytes_read b₀ x q =
       let t = (names-listed code value decimals b₀ x).tables q in
-      at-end b₀ x ∙ same _ _ t.0 _ _ t.1
+      at_end b₀ x ∙ same _ _ t.0 _ _ t.1
     where
       same : (E E' : List ℕ) → E ≡ E' → (N N' : List ℕ) → N ≡ N' → fill 0 (each (fields code value decimals E N) (frames x)) b₀ ≡ fill 0 (each (fields code value decimals E' N') (frames x)) b₀
       same E E' e N N' f = rw (e, f)

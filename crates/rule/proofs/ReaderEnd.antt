@@ -8,7 +8,7 @@ use lib.Dec.{ltb, eqb}
 use lib.ListN.{length, set, length-set}
 use Rattle.rule.specs.Token.{body, token_at, Rising}
 use Rattle.rule.specs.Grammar.{place}
-use Rattle.rule.specs.Measure.{sized-by}
+use Rattle.rule.specs.Measure.{sized_by}
 use Rattle.rule.specs.Machine.{Act, declare, uses, sized, enter, out, Sym, MachineAnswer, accepted, refused, step, finish, run}
 use Rattle.rule.specs.Memory.{Mem, table, first, blame, enlist, put, misnamed, code_at, value_at, decimals_at, acts, is_declared, bad-number, many-decimals}
 use Rattle.rule.specs.ReadsPart.{run_from}
@@ -85,7 +85,7 @@ module _ (text : List ℕ) (n : ℕ) where
   unfolding acts
   act_kept (declare r p) m l h = either (misnamed (code_at text) (value_at text) (decimals_at text) r p m) (blame p m) (enlist r (code_at text p) m) (blamed p m l h) (enlisted r (code_at text p) m h)
   act_kept (uses r p) m l h = either (is_declared (code_at text p) (table r m)) m (blame p m) h (blamed p m l h)
-  act_kept (sized b p) m l h = record { name-within = h.name-within; number-within = go m.number h.number-within (bad-number (code_at text) (value_at text) (decimals_at text) (sized-by b p)); decimals-within = go m.decimals h.decimals-within (many-decimals (code_at text) (value_at text) (decimals_at text) (sized-by b p)); long = h.long }
+  act_kept (sized b p) m l h = record { name-within = h.name-within; number-within = go m.number h.number-within (bad-number (code_at text) (value_at text) (decimals_at text) (sized_by b p)); decimals-within = go m.decimals h.decimals-within (many-decimals (code_at text) (value_at text) (decimals_at text) (sized_by b p)); long = h.long }
     where
       go : (z : ℕ) → z ≤ n → (q : Bool) → cond q (first z p) z ≤ n
       go z k true = first-within z p k l

@@ -18,7 +18,7 @@ use Rattle.rule.specs.declared.memory.Registers.{Registers}
 use Rattle.rule.specs.declared.memory.Step.{Step}
 use Rattle.rule.specs.declared.memory.Step.TheVariants.{Go, No}
 use Rattle.rule.proofs.TokenModes.{never-scale, no_clause}
-use Rattle.rule.proofs.TokenLists.{none_left, one_more_lem, moves, spans, at-end_in}
+use Rattle.rule.proofs.TokenLists.{none_left, one_more_lem, moves, spans, at_end_in}
 
 abbrev pub Part : Type 0
 Part = List Sym → List Sym
@@ -106,7 +106,7 @@ module _ {text : List ℕ} where
   fail {md} {md'} {at} {m} {t} {f} h is x y = record { runs = λ s. refuse s (eqb (token_in md text at).kind 0) refl; within = tt }
     where
       refuse : (s : List Sym) (q : Bool) → eqb (token_in md text at).kind 0 ≡ q → run Mem (acts text) (length text) (f s) m (tokens_from md text at) ≡ refused t.start
-      refuse s true e = rw (none_left md text at (eqb-true _ _ e), is, at-end_in text at md h (eqb-true _ _ e)) (y s)
+      refuse s true e = rw (none_left md text at (eqb-true _ _ e), is, at_end_in text at md h (eqb-true _ _ e)) (y s)
       refuse s false e = rw (one_more_lem md text at h (eqb-false _ _ e), ← is, x s)
 
   -- a token is taken

@@ -10,7 +10,7 @@ use lib.Dec.{ltb, leb}
 use Rattle.rule.specs.Limits.{frame_limit}
 use Rattle.rule.specs.ReadLimits.{depth_limit}
 use Rattle.rule.specs.Grammar.{Rule}
-use Rattle.rule.specs.Measure.{depth, frames, Named, declared, used, names, Sized, sized-by, numbers}
+use Rattle.rule.specs.Measure.{depth, frames, Named, declared, used, names, Sized, sized_by, numbers}
 use Rattle.rule.specs.Spelling.{same_role, room}
 use Rattle.rule.specs.Draft.{Draft}
 use Rattle.rule.specs.Name.{long_name}
@@ -21,17 +21,17 @@ use Rattle.rule.specs.declared.parts.Role.{Role}
 -- refused with a number and a place, or read as frames
 pub data Outcome : Type 0 where
   refused-by : ℕ → ℕ → Outcome
-  read_as_lem : List Draft → Outcome
+  read_as : List Draft → Outcome
 
 -- as two numbers: the refusal's number and place, or 0 and the number of frames
 abbrev pub telling : Outcome → ℕ × ℕ
 telling (refused-by k p) = (k, p)
-telling (read_as_lem fs) = (0, length fs)
+telling (read_as fs) = (0, length fs)
 
 -- the place of the first number that is bad
-abbrev pub first_by_lem : (Sized → Bool) → List Sized → Option Place
-first_by_lem bad [] = none
-first_by_lem bad (sized-by l p ∷ xs) = cond (bad (sized-by l p)) (some p) (first_by_lem bad xs)
+abbrev pub first_by : (Sized → Bool) → List Sized → Option Place
+first_by bad [] = none
+first_by bad (sized_by l p ∷ xs) = cond (bad (sized_by l p)) (some p) (first_by bad xs)
 
 module _ (code value decimals : Place → ℕ) where
   -- the names declared in a role, of those that stand in the list
@@ -57,16 +57,16 @@ module _ (code value decimals : Place → ℕ) where
 
   -- 5: "place the first"
   abbrev pub first-number : List Sized → Option Place
-  first-number xs = first_by_lem (bad-number code value decimals) xs
+  first-number xs = first_by (bad-number code value decimals) xs
 
   -- 18: "place the first"
   abbrev pub first-decimals : List Sized → Option Place
-  first-decimals xs = first_by_lem (many-decimals code value decimals) xs
+  first-decimals xs = first_by (many-decimals code value decimals) xs
 
   -- 18, then 6: "depth over 16 or over 64 frames"
   abbrev pub after-decimals : Rule → Option Place → Outcome
   after-decimals x (some p) = refused-by 18 p.start
-  after-decimals x none = cond (ltb depth_limit (depth x)) (refused-by 6 0) (cond (ltb frame_limit (length (frames x))) (refused-by 6 0) (read_as_lem (frames x)))
+  after-decimals x none = cond (ltb depth_limit (depth x)) (refused-by 6 0) (cond (ltb frame_limit (length (frames x))) (refused-by 6 0) (read_as (frames x)))
 
   -- 5, then the rest
   abbrev pub after-number : Rule → Option Place → Outcome

@@ -14,14 +14,14 @@ use Rattle.rule.specs.declared.parts.Role.{Role}
 use Rattle.rule.specs.declared.parts.Role.TheVariants.{Event, Note}
 use Rattle.rule.specs.declared.parts.Limit.{Limit}
 use Rattle.rule.specs.Grammar.{Rule, rule}
-use Rattle.rule.specs.Measure.{Named, declared, used, Sized, sized-by, names_of, numbers_of, declares, depth, frames, names, numbers}
+use Rattle.rule.specs.Measure.{Named, declared, used, Sized, sized_by, names_of, numbers_of, declares, depth, frames, names, numbers}
 use Rattle.rule.specs.Draft.{Draft}
 use Rattle.rule.specs.Items.{Item, enters, puts, items}
 use Rattle.rule.specs.Machine.{Act, declare, uses, sized, enter, out}
 use Rattle.rule.proofs.GrammarWalk.{read_each, read_name, read_number, read_draft, read_items, read_rule}
 use Rattle.rule.proofs.FrameDrafts.{All, Used, names_used}
 use Rattle.rule.proofs.FrameLimits.{some-not-none, codes_append}
-use Rattle.rule.proofs.ReaderRefusals.{refused-by, read_as_lem, telling, after-decimals, after-number, after-name, outcome, codes, bad-name, spot, first-name, first_by_lem, first-number, first-decimals}
+use Rattle.rule.proofs.ReaderRefusals.{refused-by, read_as, telling, after-decimals, after-number, after-name, outcome, codes, bad-name, spot, first-name, first_by, first-number, first-decimals}
 use Rattle.rule.specs.Spelling.{room}
 use Rattle.rule.specs.Name.{long_name}
 use Rattle.rule.specs.Memory.{Mem, fresh, table, enlist, first, blame, misnamed, remember, memory_answer, is_declared, bad-number, many-decimals}
@@ -38,7 +38,7 @@ Body (out f) = Unit
 module _ (M L : Type 0) (act : Act → M → M) (log : Act → L → L) (R : M → L → Type 0) (keep : (a : Act) → Body a → (m : M) (l : L) → R m l → R (act a m) (log a l)) where
   sim-numbers : (vs : List Sized) {m : M} {l : L} → R m l → R (read_each (read_number M act) vs m) (read_each (read_number L log) vs l)
   sim-numbers [] r = r
-  sim-numbers (sized-by b p ∷ vs) r = sim-numbers vs (keep _ tt _ _ r)
+  sim-numbers (sized_by b p ∷ vs) r = sim-numbers vs (keep _ tt _ _ r)
 
   sim_used : (ns : List Named) → All Used ns → {m : M} {l : L} → R m l → R (read_each (read_name M act) ns m) (read_each (read_name L log) ns l)
   sim_used [] u r = r
@@ -141,12 +141,12 @@ module _ (code value decimals : Place → ℕ) where
   deep-read b₀ x = simulate Mem ℕ (remember code value decimals) note-depth (λ m t. m.deep ≡ ltb 16 t) deep-kept x {m = fresh b₀} {l = 0} refl ∙ (ap (λ t. ltb 16 t) (depth-read x) ∙ cap_ltb (depth x))
 
   -- the first number that is beyond its limit
-  number_snoc : (bad : Sized → Bool) (l : List Sized) (b : Limit) (p : Place) → first_by_lem bad (l ++ sized-by b p ∷ []) ≡ or_else (first_by_lem bad l) (cond (bad (sized-by b p)) (some p) none)
+  number_snoc : (bad : Sized → Bool) (l : List Sized) (b : Limit) (p : Place) → first_by bad (l ++ sized_by b p ∷ []) ≡ or_else (first_by bad l) (cond (bad (sized_by b p)) (some p) none)
   number_snoc bad [] b p = refl
-  number_snoc bad (sized-by c q ∷ l) b p = go (bad (sized-by c q)) (number_snoc bad l b p)
+  number_snoc bad (sized_by c q ∷ l) b p = go (bad (sized_by c q)) (number_snoc bad l b p)
     where
-      go : (x : Bool) → first_by_lem bad (l ++ sized-by b p ∷ []) ≡ or_else (first_by_lem bad l) (cond (bad (sized-by b p)) (some p) none)
-          → cond x (some q) (first_by_lem bad (l ++ sized-by b p ∷ [])) ≡ or_else (cond x (some q) (first_by_lem bad l)) (cond (bad (sized-by b p)) (some p) none)
+      go : (x : Bool) → first_by bad (l ++ sized_by b p ∷ []) ≡ or_else (first_by bad l) (cond (bad (sized_by b p)) (some p) none)
+          → cond x (some q) (first_by bad (l ++ sized_by b p ∷ [])) ≡ or_else (cond x (some q) (first_by bad l)) (cond (bad (sized_by b p)) (some p) none)
       go true ih = refl
       go false ih = ih
 
@@ -161,7 +161,7 @@ module _ (code value decimals : Place → ℕ) where
   number-kept (uses r p) m l e = unblamed ℕ (λ x. x.number) p m refl (is_declared (code p) (table r m)) ∙ e
   number-kept (enter d) m l e = e
   number-kept (out f) m l e = e
-  number-kept (sized b p) m l e = rw (e, number_snoc (bad-number code value decimals) l b p) (firsts (bad-number code value decimals (sized-by b p)) (first-number code value decimals l) p)
+  number-kept (sized b p) m l e = rw (e, number_snoc (bad-number code value decimals) l b p) (firsts (bad-number code value decimals (sized_by b p)) (first-number code value decimals l) p)
 
   pub number_read : (b₀ : List ℕ) (x : Rule) → (read_rule Mem (remember code value decimals) x (fresh b₀)).number ≡ spot1 (first-number code value decimals (numbers x))
   number_read b₀ x = subst (λ (l : List Sized). (read_rule Mem (remember code value decimals) x (fresh b₀)).number ≡ spot1 (first-number code value decimals l)) (numbers-read x)
@@ -173,7 +173,7 @@ module _ (code value decimals : Place → ℕ) where
   decimals-kept (uses r p) m l e = unblamed ℕ (λ x. x.decimals) p m refl (is_declared (code p) (table r m)) ∙ e
   decimals-kept (enter d) m l e = e
   decimals-kept (out f) m l e = e
-  decimals-kept (sized b p) m l e = rw (e, number_snoc (many-decimals code value decimals) l b p) (firsts (many-decimals code value decimals (sized-by b p)) (first-decimals code value decimals l) p)
+  decimals-kept (sized b p) m l e = rw (e, number_snoc (many-decimals code value decimals) l b p) (firsts (many-decimals code value decimals (sized_by b p)) (first-decimals code value decimals l) p)
 
   pub decimals-read : (b₀ : List ℕ) (x : Rule) → (read_rule Mem (remember code value decimals) x (fresh b₀)).decimals ≡ spot1 (first-decimals code value decimals (numbers x))
   decimals-read b₀ x = subst (λ (l : List Sized). (read_rule Mem (remember code value decimals) x (fresh b₀)).decimals ≡ spot1 (first-decimals code value decimals l)) (numbers-read x)
@@ -258,18 +258,18 @@ module _ (code value decimals : Place → ℕ) where
       (simulate Mem (List Named) (remember code value decimals) note-name Listed name-kept x {m = fresh b₀} {l = []} (record { first-is = refl; tables = λ y. (refl, refl) }))
 
   -- ---- the answer
-  over-frames : (fs : List Draft) (c : ℕ) → c ≡ min 65 (length fs) → ◌≡◌ {A = ℕ × ℕ} (cond (ltb 64 c) (6, 0) (0, c)) (telling (cond (ltb 64 (length fs)) (refused-by 6 0) (read_as_lem fs)))
+  over-frames : (fs : List Draft) (c : ℕ) → c ≡ min 65 (length fs) → ◌≡◌ {A = ℕ × ℕ} (cond (ltb 64 c) (6, 0) (0, c)) (telling (cond (ltb 64 (length fs)) (refused-by 6 0) (read_as fs)))
   over-frames fs c e = go (ltb 64 (length fs)) refl
     where
-      go : (b : Bool) → ltb 64 (length fs) ≡ b → ◌≡◌ {A = ℕ × ℕ} (cond (ltb 64 c) (6, 0) (0, c)) (telling (cond b (refused-by 6 0) (read_as_lem fs)))
+      go : (b : Bool) → ltb 64 (length fs) ≡ b → ◌≡◌ {A = ℕ × ℕ} (cond (ltb 64 c) (6, 0) (0, c)) (telling (cond b (refused-by 6 0) (read_as fs)))
       go true q = let z : 64 < length fs = ltb-true 64 (length fs) q in rw (lt-ltb 64 c (omega arith))
       go false q = let z : length fs ≤ 64 = ltb-false 64 (length fs) q in let y : c ≡ length fs = omega arith in rw (le-ltb 64 c (omega arith), y)
 
   after-six : (x : Rule) (d : Bool) (c : ℕ) → d ≡ ltb 16 (depth x) → c ≡ min 65 (length (frames x))
-      → ◌≡◌ {A = ℕ × ℕ} (cond d (6, 0) (cond (ltb 64 c) (6, 0) (0, c))) (telling (cond (ltb 16 (depth x)) (refused-by 6 0) (cond (ltb 64 (length (frames x))) (refused-by 6 0) (read_as_lem (frames x)))))
+      → ◌≡◌ {A = ℕ × ℕ} (cond d (6, 0) (cond (ltb 64 c) (6, 0) (0, c))) (telling (cond (ltb 16 (depth x)) (refused-by 6 0) (cond (ltb 64 (length (frames x))) (refused-by 6 0) (read_as (frames x)))))
   after-six x d c e f = rw e (go (ltb 16 (depth x)))
     where
-      go : (b : Bool) → ◌≡◌ {A = ℕ × ℕ} (cond b (6, 0) (cond (ltb 64 c) (6, 0) (0, c))) (telling (cond b (refused-by 6 0) (cond (ltb 64 (length (frames x))) (refused-by 6 0) (read_as_lem (frames x)))))
+      go : (b : Bool) → ◌≡◌ {A = ℕ × ℕ} (cond b (6, 0) (cond (ltb 64 c) (6, 0) (0, c))) (telling (cond b (refused-by 6 0) (cond (ltb 64 (length (frames x))) (refused-by 6 0) (read_as (frames x)))))
       go true = refl
       go false = over-frames (frames x) c f
 

@@ -14,9 +14,9 @@ use Rattle.rule.specs.Class.{digit, point, class_of, OfClass}
 use Rattle.rule.specs.Token.{tokens}
 use Rattle.rule.specs.Number.{number_value}
 use Rattle.rule.specs.Grammar.{Cond, Rule, rule, yield, words}
-use Rattle.rule.specs.Measure.{Sized, sized-by, numbers}
+use Rattle.rule.specs.Measure.{Sized, sized_by, numbers}
 use Rattle.rule.specs.Memory.{value_at, decimals_at}
-use Rattle.rule.specs.Spelling.{NumberOf, of_number, of-decimal, first_decimals, decimal, decimals, letters}
+use Rattle.rule.specs.Spelling.{NumberOf, of_number, of_decimal, first_decimals, decimal, decimals, letters}
 use Rattle.rule.specs.declared.parts.Place.{Place}
 use Rattle.rule.specs.declared.parts.Limit.TheVariants.{OfClause, OfLiteral, OfFactor, OfOffset}
 use Rattle.rule.proofs.FrameDrafts.{All, DecimalsFit}
@@ -41,16 +41,16 @@ most-six (rule e es n ns none c) = omega arith
 most-six (rule e es n ns (some p) c) = omega arith
 
 module _ (text : List ℕ) where
-  clause-fits : (p : Place) → Few text (sized-by OfClause p) → value_at text p ≤ decimal_limit
+  clause-fits : (p : Place) → Few text (sized_by OfClause p) → value_at text p ≤ decimal_limit
   unfolding number_value
   clause-fits p h = let q = ltb-false 6 (decimal (letters text p)) h in omega arith
 
   -- with the clause
   few-fit : (s : Sized) → Few text s → DecimalsFit (value_at text) (decimals_at text) decimal_limit s
-  few-fit (sized-by OfClause p) h = clause-fits p h
-  few-fit (sized-by OfLiteral p) h = ltb-false 6 (decimals (letters text p)) h
-  few-fit (sized-by OfFactor p) h = tt
-  few-fit (sized-by OfOffset p) h = tt
+  few-fit (sized_by OfClause p) h = clause-fits p h
+  few-fit (sized_by OfLiteral p) h = ltb-false 6 (decimals (letters text p)) h
+  few-fit (sized_by OfFactor p) h = tt
+  few-fit (sized_by OfOffset p) h = tt
 
   all_fit : (l : List Sized) → All (Few text) l → All (DecimalsFit (value_at text) (decimals_at text) decimal_limit) l
   all_fit [] h = tt
@@ -59,14 +59,14 @@ module _ (text : List ℕ) where
   -- without it: no token is a decimal
   module _ (e : Place) (es : List Place) (n : Place) (ns : List Place) (c : Cond) (y : yield (rule e es n ns none c) ≡ words (tokens text)) where
     whole-fit : (s : Sized) → Few text s → NumberOf text s → DecimalsFit (value_at text) (decimals_at text) 0 s
-    whole-fit (sized-by OfClause p) h k = clause-fits p h
-    whole-fit (sized-by OfLiteral p) h (of_number t o) = let q = digits-whole (letters text p) o in omega arith
-    whole-fit (sized-by OfLiteral p) h (of-decimal t o) =
+    whole-fit (sized_by OfClause p) h k = clause-fits p h
+    whole-fit (sized_by OfLiteral p) h (of_number t o) = let q = digits-whole (letters text p) o in omega arith
+    whole-fit (sized_by OfLiteral p) h (of_decimal t o) =
         absurd
         (no_decimals (tokens text) (decimals-behind text) (λ u i k. no_clause_has e es n ns c (tokens text) [] u i k (y ∙ sym (append-nil (words (tokens text)))))
         t.token t.listed t.kind)
-    whole-fit (sized-by OfFactor p) h k = tt
-    whole-fit (sized-by OfOffset p) h k = tt
+    whole-fit (sized_by OfFactor p) h k = tt
+    whole-fit (sized_by OfOffset p) h k = tt
 
     whole-all : (l : List Sized) → All (Few text) l → All (NumberOf text) l → All (DecimalsFit (value_at text) (decimals_at text) 0) l
     whole-all [] h k = tt

@@ -9,7 +9,7 @@ use Rattle.rule.specs.Grammar.{Rule, rule, yield, words}
 use Rattle.rule.specs.Scale.{head_of}
 use Rattle.rule.specs.Tree
 use Rattle.rule.specs.Token.{tokens}
-use Rattle.rule.specs.Measure.{frames, Named, declared, used, Sized, sized-by, flat, names_of, numbers_of, header, names, numbers}
+use Rattle.rule.specs.Measure.{frames, Named, declared, used, Sized, sized_by, flat, names_of, numbers_of, header, names, numbers}
 use Rattle.rule.proofs.ReaderRefusals.{codes}
 use Rattle.rule.specs.Memory.{position, code_at, value_at, decimals_at}
 use Rattle.rule.specs.Spelling.{name_at, first_name, first_number, first_decimals, number_of_name, decimal, letters}
@@ -76,7 +76,7 @@ meaning-same text x y e f g = meaning-alike (coded_number text x) by_letters (va
     numbered = all_map (λ n. (r : Role) → coded_number text x r (name_at n) ≡ by_letters r (name_at n)) (Numbered (coded_number text x) by_letters (value_at text) by_decimal (decimals_at text)) (names x) one_name (SpellNames.name-number-same text (names x) (SpellTokens.names-lettered text x y) e)
 
     one_number : (n : Sized) → SpellNumbers.Exact text n → Valued (coded_number text x) by_letters (value_at text) by_decimal (decimals_at text) n
-    one_number (sized-by l p) h = h
+    one_number (sized_by l p) h = h
 
     valued : All (Valued (coded_number text x) by_letters (value_at text) by_decimal (decimals_at text)) (numbers x)
     valued = all_map (SpellNumbers.Exact text) (Valued (coded_number text x) by_letters (value_at text) by_decimal (decimals_at text)) (numbers x) one_number (SpellNumbers.value_same text (numbers x) f (SpellNumbers.all-few text (numbers x) g))

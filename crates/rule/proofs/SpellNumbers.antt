@@ -9,7 +9,7 @@ use native.Mathlib.Omega.{arith}
 use borrow.Author.Tests.{eqb-true, eqb-false, eq-eqb, ne_eqb, lt-ltb, le-ltb, ltb-true, ltb-false}
 use lib.Dec.{eqb, ltb}
 use Rattle.rule.specs.Number.{most, number_value}
-use Rattle.rule.specs.Measure.{Sized, sized-by}
+use Rattle.rule.specs.Measure.{Sized, sized_by}
 use Rattle.rule.proofs.ReaderRefusals.{first-number, first-decimals}
 use Rattle.rule.specs.Memory.{code_at, value_at, decimals_at, many-decimals}
 use Rattle.rule.specs.declared.parts.Place.{Place}
@@ -63,10 +63,10 @@ module _ (text : List ℕ) where
   -- 5: the same first number
   pub first-number-same : (xs : List Sized) → first-number (code_at text) (value_at text) (decimals_at text) xs ≡ first_number text xs
   first-number-same [] = refl
-  first-number-same (sized-by l p ∷ xs) = rw (beyond-same l (letters text p), first-number-same xs)
+  first-number-same (sized_by l p ∷ xs) = rw (beyond-same l (letters text p), first-number-same xs)
 
   -- 18: the same first decimals
-  many-same : (l : Limit) (p : Place) → many-decimals (code_at text) (value_at text) (decimals_at text) (sized-by l p) ≡ many_decimals text (sized-by l p)
+  many-same : (l : Limit) (p : Place) → many-decimals (code_at text) (value_at text) (decimals_at text) (sized_by l p) ≡ many_decimals text (sized_by l p)
   many-same OfClause p = over-same (letters text p) 6 (omega arith)
   many-same OfLiteral p = refl
   many-same OfFactor p = refl
@@ -74,7 +74,7 @@ module _ (text : List ℕ) where
 
   pub first-decimals-same : (xs : List Sized) → first-decimals (code_at text) (value_at text) (decimals_at text) xs ≡ first_decimals text xs
   first-decimals-same [] = refl
-  first-decimals-same (sized-by l p ∷ xs) = rw (many-same l p, first-decimals-same xs)
+  first-decimals-same (sized_by l p ∷ xs) = rw (many-same l p, first-decimals-same xs)
 
   -- where none is bad, none is
   abbrev pub Few : Sized → Type 0
@@ -91,7 +91,7 @@ module _ (text : List ℕ) where
   abbrev pub Exact : Sized → Type 0
   Exact s = value_at text (number_at s) ≡ decimal (letters text (number_at s))
 
-  many_is : (l : Limit) (p : Place) → Few (sized-by l p) → many l (letters text p) ≡ false
+  many_is : (l : Limit) (p : Place) → Few (sized_by l p) → many l (letters text p) ≡ false
   many_is OfClause p h = h
   many_is OfLiteral p h = h
   many_is OfFactor p h = refl
@@ -100,8 +100,8 @@ module _ (text : List ℕ) where
   -- where none is bad, each value is the decimal one
   pub value_same : (xs : List Sized) → first_number text xs ≡ none → All Few xs → All Exact xs
   value_same [] e h = tt
-  value_same (sized-by l p ∷ xs) e h = go (beyond l (decimal (letters text p))) refl e (λ f. value_same xs f h.1)
+  value_same (sized_by l p ∷ xs) e h = go (beyond l (decimal (letters text p))) refl e (λ f. value_same xs f h.1)
     where
-      go : (t : Bool) → beyond l (decimal (letters text p)) ≡ t → cond t (some p) (first_number text xs) ≡ none → (first_number text xs ≡ none → All Exact xs) → All Exact (sized-by l p ∷ xs)
+      go : (t : Bool) → beyond l (decimal (letters text p)) ≡ t → cond t (some p) (first_number text xs) ≡ none → (first_number text xs ≡ none → All Exact xs) → All Exact (sized_by l p ∷ xs)
       go true f g ih = absurd (let z : ◌≡◌ {A = ℕ} 0 1 = cc in omega arith)
       go false f g ih = (within-exact l (letters text p) f (many_is l p h.0), ih g)

@@ -8,7 +8,7 @@ use native.Mathlib.Omega.{arith}
 use Rattle.rule.specs.Class.{digit, Letters, OfClass}
 use Rattle.rule.specs.Token.{name_kind, number_kind, decimal_kind, takes_points, spelling, tokens, PointBetween}
 use Rattle.rule.specs.Grammar.{place, words, Rule, yield}
-use Rattle.rule.specs.Measure.{Named, declared, used, names, Sized, sized-by, numbers}
+use Rattle.rule.specs.Measure.{Named, declared, used, names, Sized, sized_by, numbers}
 use Rattle.rule.specs.Machine.{Act, declare, uses, sized, enter, out, start}
 use Rattle.rule.specs.declared.Token.{Token}
 use Rattle.rule.specs.declared.parts.Place.{Place}
@@ -17,7 +17,7 @@ use Rattle.rule.specs.declared.parts.Limit.TheVariants.{OfClause, OfLiteral, OfF
 use Rattle.rule.proofs.TokenModes.{found, as_plain, found-letters, found-digits}
 use Rattle.rule.proofs.TokenRuns as runs
 use Rattle.rule.proofs.TokenRuns.{decimal-digits}
-use Rattle.rule.specs.Spelling.{TokenOf, NumberOf, of_number, of-decimal, name_at, letters}
+use Rattle.rule.specs.Spelling.{TokenOf, NumberOf, of_number, of_decimal, name_at, letters}
 use Rattle.rule.proofs.FrameDrafts.{All, all_join}
 use Rattle.rule.proofs.SpellLists.{all_map, all_own}
 use Rattle.rule.proofs.GrammarMeasures.{note-name, note-number, names-read, numbers-read}
@@ -49,10 +49,10 @@ module _ (text : List ℕ) where
   Of_number n = NumberOf text n
 
   -- a number that stands at a token which it may be
-  number_at : (l : Limit) (p : Place) (t : Token) → Memᴰ t (tokens text) → Numeral l t.kind → p ≡ place t → NumberOf text (sized-by l p)
+  number_at : (l : Limit) (p : Place) (t : Token) → Memᴰ t (tokens text) → Numeral l t.kind → p ≡ place t → NumberOf text (sized_by l p)
   number_at OfClause p t i k e = let q : TokenOf text number_kind p = record { token = t; listed = i; kind = k; placed = sym e } in of_number q (number-of-digits p q)
   number_at OfLiteral p t i (inl k) e = let q : TokenOf text number_kind p = record { token = t; listed = i; kind = k; placed = sym e } in of_number q (number-of-digits p q)
-  number_at OfLiteral p t i (inr k) e = let q : TokenOf text decimal_kind p = record { token = t; listed = i; kind = k; placed = sym e } in of-decimal q (decimal-of-digits p q)
+  number_at OfLiteral p t i (inr k) e = let q : TokenOf text decimal_kind p = record { token = t; listed = i; kind = k; placed = sym e } in of_decimal q (decimal-of-digits p q)
   number_at OfFactor p t i k e = let q : TokenOf text number_kind p = record { token = t; listed = i; kind = k; placed = sym e } in of_number q (number-of-digits p q)
   number_at OfOffset p t i k e = let q : TokenOf text number_kind p = record { token = t; listed = i; kind = k; placed = sym e } in of_number q (number-of-digits p q)
 
@@ -82,7 +82,7 @@ module _ (text : List ℕ) where
             keep : (a : Act) → At t.kind (place t) a → (l : List Sized) → All Of_number l → All Of_number (note-number a l)
             keep (declare r p) h l k = k
             keep (uses r p) h l k = k
-            keep (sized b p) h l k = all_join Of_number l (sized-by b p ∷ []) k (number_at b p t i h.0 h.1, tt)
+            keep (sized b p) h l k = all_join Of_number l (sized_by b p ∷ []) k (number_at b p t i h.0 h.1, tt)
             keep (enter d) h l k = k
             keep (out f) h l k = k
 

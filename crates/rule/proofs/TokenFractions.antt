@@ -23,9 +23,9 @@ fraction_le (b ∷ bs) = go (eqb b point && leb 1 (span digit bs)) (span_le digi
     go true h = omega arith
     go false h = omega arith
 
-pub fraction-of_le : (points : Bool) (bs : List ℕ) → span digit bs + fraction_of points bs ≤ length bs
-fraction-of_le true bs = omega (arith, fraction_le (drop (span digit bs) bs), length-drop (span digit bs) bs, span_le digit bs)
-fraction-of_le false bs = omega (arith, span_le digit bs)
+pub fraction_of_le : (points : Bool) (bs : List ℕ) → span digit bs + fraction_of points bs ≤ length bs
+fraction_of_le true bs = omega (arith, fraction_le (drop (span digit bs) bs), length-drop (span digit bs) bs, span_le digit bs)
+fraction_of_le false bs = omega (arith, span_le digit bs)
 
 -- its first byte is a point with a digit after it, and the others are digits
 pub fraction_told : (l : List ℕ) (j : ℕ) → j < fraction l

@@ -15,7 +15,7 @@ use Rattle.rule.specs.Token.{end_kind, name_kind, events_kind, notes_kind, index
 use Rattle.rule.specs.Token.{Mode, declares, clause, body, next, takes_points, clause_at, as_scale, token_in, tokens_in, tokens_from}
 use Rattle.rule.specs.declared.Token.{Token}
 use Rattle.rule.proofs.TokenSpans.{span_le, span_class}
-use Rattle.rule.proofs.TokenFractions.{fraction-of_le}
+use Rattle.rule.proofs.TokenFractions.{fraction_of_le}
 use Rattle.rule.proofs.TokenMarks.{mark_high, width_some, width-alone}
 
 pub word-is : (w : List ℕ) → IsWord (word_kind w)
@@ -53,7 +53,7 @@ width_le points b bs = go (eqb (class_of b) letter) (eqb (class_of b) digit) (eq
     go : (t u v : Bool) → (1 ≤ cond t (1 + span letter bs) (cond u (1 + span digit bs + fraction_of points bs) (cond v (mark_width (longest_mark b (get_or bs 0 0))) 1)))
         × (cond t (1 + span letter bs) (cond u (1 + span digit bs + fraction_of points bs) (cond v (mark_width (longest_mark b (get_or bs 0 0))) 1)) ≤ suc (length bs))
     go true u v = (omega arith, omega (arith, span_le letter bs))
-    go false true v = (omega arith, omega (arith, fraction-of_le points bs))
+    go false true v = (omega arith, omega (arith, fraction_of_le points bs))
     go false false true = ((width_some (longest_mark b (get_or bs 0 0))).0, within bs)
     go false false false = (omega arith, omega arith)
 
@@ -107,9 +107,9 @@ module _ (points : Bool) (text : List ℕ) (at : ℕ) where
         (omega arith, omega arith)
 
     -- the end stands at the text's length
-    pub at-end : (token_at points text at).kind ≡ end_kind → (token_at points text at).start ≡ length text
+    pub at_end : (token_at points text at).kind ≡ end_kind → (token_at points text at).start ≡ length text
     unfolding token_at
-    at-end e =
+    at_end e =
         let r = here points (past text at) (drop (past text at) text) in
         let o = over points (past text at) (drop (past text at) text) e in
         let d = length-drop (past text at) text in
@@ -176,8 +176,8 @@ module _ (text : List ℕ) (at : ℕ) where
     pub moves_in : ((token_in md text at).kind ≡ end_kind → ⊥) → ((token_in md text at).start < (token_in md text at).end) × ((token_in md text at).end ≤ length text)
     moves_in ne = let r = moves (takes_points md) text at h (λ e. ne ((over-alike md).1 e)) in rw (starts-alike md, ends-alike md) r
 
-    pub at-end_in : (token_in md text at).kind ≡ end_kind → (token_in md text at).start ≡ length text
-    at-end_in e = starts-alike md ∙ at-end (takes_points md) text at h ((over-alike md).0 e)
+    pub at_end_in : (token_in md text at).kind ≡ end_kind → (token_in md text at).start ≡ length text
+    at_end_in e = starts-alike md ∙ at_end (takes_points md) text at h ((over-alike md).0 e)
 
 -- ---- the tokens from a place on
 

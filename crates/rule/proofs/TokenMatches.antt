@@ -14,12 +14,12 @@ use Rattle.numbers.proofs.Bools.{true-false}
 use Rattle.rule.specs.Class.{letter, digit, blank, mark, foreign, point, among, one_byte_marks, class_of, span}
 use Rattle.rule.specs.Token.{end_kind, number_kind, decimal_kind, foreign_kind, word_kind, two_byte_mark, one_byte_mark, longest_mark, mark_width, fraction_of, token_kind, width_of, past, token_here, token_at}
 use Rattle.rule.specs.Token.{Mode, declares, next, takes_points, token_in, tokens_in, tokens_from, tokens}
-use Rattle.rule.specs.Token.{Quoted, of-one-byte, arrow, bars, ampersands, unequal, at_most, at_least, LongestMatch, in_quoted, in_none, OfToken}
+use Rattle.rule.specs.Token.{Quoted, of_one_byte, arrow, bars, ampersands, unequal, at_most, at_least, LongestMatch, in_quoted, in_none, OfToken}
 use Rattle.rule.specs.declared.Token.{Token}
 use Rattle.rule.proofs.TokenSpans.{span_class, span-stops}
 use Rattle.rule.proofs.TokenMarks.{width_some, one_width}
 use Rattle.rule.proofs.TokenFractions.{fraction_told}
-use Rattle.rule.proofs.TokenLists.{here, moves_in, spans_in, at-end_in, starts-alike, ends-alike, gap_blank}
+use Rattle.rule.proofs.TokenLists.{here, moves_in, spans_in, at_end_in, starts-alike, ends-alike, gap_blank}
 
 -- ---- the marks of two bytes
 -- two bytes are no mark of two, or are quoted
@@ -47,7 +47,7 @@ second (x ∷ []) = 1
 second (x ∷ (y ∷ l)) = y
 
 second-some : {m : List ℕ} {k : ℕ} → Quoted m k → second m ≡ 0 → ⊥
-second-some (of-one-byte b h) e = omega arith
+second-some (of_one_byte b h) e = omega arith
 second-some arrow e = omega arith
 second-some bars e = omega arith
 second-some ampersands e = omega arith
@@ -71,7 +71,7 @@ module _ (b : ℕ) (bs : List ℕ) where
 
   longest : (m : List ℕ) (j : ℕ) → Quoted m j → take (length m) (b ∷ bs) ≡ m → length m ≤ mark_width (longest_mark b (get_or bs 0 0))
   unfolding longest_mark mark_width
-  longest m j (of-one-byte c h) e = (width_some (longest_mark b (get_or bs 0 0))).0
+  longest m j (of_one_byte c h) e = (width_some (longest_mark b (get_or bs 0 0))).0
   longest m j arrow e = as_two refl e
   longest m j bars e = as_two refl e
   longest m j ampersands e = as_two refl e
@@ -84,7 +84,7 @@ module _ (b : ℕ) (bs : List ℕ) where
   no_two {x} {y} n z e = let r = begins-two b bs e in n (subst (λ (c : ℕ). two_byte_mark c y ≡ 0) r.0 (subst (λ (c : ℕ). two_byte_mark b c ≡ 0) r.1 z))
 
   none-begins : two_byte_mark b (get_or bs 0 0) ≡ 0 → among one_byte_marks b ≡ false → (m : List ℕ) (j : ℕ) → Quoted m j → take (length m) (b ∷ bs) ≡ m → ⊥
-  none-begins z o m j (of-one-byte c h) e =
+  none-begins z o m j (of_one_byte c h) e =
       let f : b ≡ c = ap (λ (l : List ℕ). get_or l 0 0) e in
       true-false (sym h ∙ subst (λ (x : ℕ). among one_byte_marks x ≡ false) f o)
   none-begins z o m j arrow e = no_two (λ q. omega arith) z e
@@ -119,7 +119,7 @@ module _ (b : ℕ) (bs : List ℕ) where
   matches = by_two (two b (get_or bs 0 0))
     where
       by_one : two_byte_mark b (get_or bs 0 0) ≡ 0 → (t : Bool) → among one_byte_marks b ≡ t → Matches (b ∷ bs) (cond t b foreign_kind) 1
-      by_one z true o = inl (of-one-byte b o, λ m j q e. subst (λ (n : ℕ). length m ≤ n) (ap mark_width (is-short z) ∙ one_width b) (longest m j q e))
+      by_one z true o = inl (of_one_byte b o, λ m j q e. subst (λ (n : ℕ). length m ≤ n) (ap mark_width (is-short z) ∙ one_width b) (longest m j q e))
       by_one z false o = inr (refl, refl, none-begins z o)
 
       by_two : Two b (get_or bs 0 0) (two_byte_mark b (get_or bs 0 0)) → Matches (b ∷ bs) (longest_mark b (get_or bs 0 0)) (mark_width (longest_mark b (get_or bs 0 0)))
@@ -174,7 +174,7 @@ module _ (text : List ℕ) where
 -- the second byte of a mark of two bytes is a mark byte
 second_class : {m : List ℕ} {k : ℕ} → Quoted m k → length m ≡ 2 → class_of (second m) ≡ mark
 unfolding class_of
-second_class (of-one-byte b h) e = absurd (omega arith)
+second_class (of_one_byte b h) e = absurd (omega arith)
 second_class arrow e = refl
 second_class bars e = refl
 second_class ampersands e = refl
@@ -328,7 +328,7 @@ module _ (text : List ℕ) where
           → ((token_in md text at).end ≤ length text → length text - (token_in md text at).end ≤ j → (token_in md text at).end ≤ k → OfToken (tokens_in j (next md (token_in md text at).kind) text (token_in md text at).end) k)
           → OfToken (cond e [] (token_in md text at ∷ tokens_in j (next md (token_in md text at).kind) text (token_in md text at).end)) k
       go e p true q y r ih = absurd (n (gap_blank (takes_points md) text at k g (rw (starts-alike text at md) at (ltb-true k (token_in md text at).start q))))
-      go true p false q y r ih = absurd (omega (arith, at-end_in text at md h (eqb-true _ _ p), ltb-false k (token_in md text at).start q))
+      go true p false q y r ih = absurd (omega (arith, at_end_in text at md h (eqb-true _ _ p), ltb-false k (token_in md text at).start q))
       go false p false q true r ih =
           record { token = token_in md text at; one = Memᴰ.head refl; starts = ltb-false k (token_in md text at).start q; ends = ltb-true k (token_in md text at).end r }
       go false p false q false r ih =

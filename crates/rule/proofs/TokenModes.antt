@@ -77,10 +77,10 @@ pub record Found (text : List ℕ) (t : Token) : Type 0 where
   pub within : at ≤ length text
   pub is : t ≡ token_in mode text at
 
-found_in_lem : (k : ℕ) (md : Mode) (text : List ℕ) (at : ℕ) → at ≤ length text → (t : Token) → Memᴰ t (tokens_in k md text at) → Found text t
+found_in : (k : ℕ) (md : Mode) (text : List ℕ) (at : ℕ) → at ≤ length text → (t : Token) → Memᴰ t (tokens_in k md text at) → Found text t
 unfolding tokens_in
-found_in_lem zero md text at h t m = elim m [ ]
-found_in_lem (suc k) md text at h t m = go (eqb (token_in md text at).kind end_kind) refl (λ l. found_in_lem k (next md (token_in md text at).kind) text (token_in md text at).end l t) m
+found_in zero md text at h t m = elim m [ ]
+found_in (suc k) md text at h t m = go (eqb (token_in md text at).kind end_kind) refl (λ l. found_in k (next md (token_in md text at).kind) text (token_in md text at).end l t) m
   where
     go : (q : Bool) → eqb (token_in md text at).kind end_kind ≡ q
         → ((token_in md text at).end ≤ length text → Memᴰ t (tokens_in k (next md (token_in md text at).kind) text (token_in md text at).end) → Found text t)
@@ -91,7 +91,7 @@ found_in_lem (suc k) md text at h t m = go (eqb (token_in md text at).kind end_k
 
 pub found : (text : List ℕ) (t : Token) → Memᴰ t (tokens text) → Found text t
 unfolding tokens_from
-found text t = found_in_lem (length text - 0) (declares 2) text 0 (omega arith) t
+found text t = found_in (length text - 0) (declares 2) text 0 (omega arith) t
 
 -- so its bytes are letters where it is a word, and digits where it is a number
 module _ {text : List ℕ} {t : Token} (f : Found text t) where

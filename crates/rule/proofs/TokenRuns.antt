@@ -148,9 +148,9 @@ module _ (points : Bool) (b : ℕ) (bs : List ℕ) (k : token_kind points b bs �
         whole = b ∷ take (span digit bs) bs;
         rest = rest;
         is = rw (n, take-add (span digit bs) (fraction (drop (span digit bs) bs)) bs, e);
-        whole-digits = ((decimal_class points b bs k).0, run_class digit bs);
-        rest-digits = d;
-        whole-some = omega arith;
+        whole_digits = ((decimal_class points b bs k).0, run_class digit bs);
+        rest_digits = d;
+        whole_some = omega arith;
         rest_some = l;
       }
 

@@ -61,11 +61,11 @@ Oversized text x = (depth_limit < depth x) ⊎ (frame_limit < length (postfix (m
 -- no name, no number and no decimals of it are bad, its depth and its frames are within the limits: 4, 5, 18 and 6 leave it
 pub record Within (text : List ℕ) (x : Rule) : Type 0 where
   pub spelled : Spelled text x
-  pub names-good : NamesGood text x
-  pub numbers-good : NumbersGood text x
-  pub decimals-good : DecimalsGood text x
+  pub names_good : NamesGood text x
+  pub numbers_good : NumbersGood text x
+  pub decimals_good : DecimalsGood text x
   pub shallow : depth x ≤ depth_limit
-  pub few-frames : length (postfix (meaning text x)) ≤ frame_limit
+  pub few_frames : length (postfix (meaning text x)) ≤ frame_limit
 
 -- the text is that of a tree that 4, 5, 18 and 6 leave, and 7 and 8 what it means; n counts the frames of what it means, and s is a
 -- buffer that holds them, "zero after the last frame"

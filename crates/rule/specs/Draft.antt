@@ -14,7 +14,7 @@ use Rattle.rule.specs.declared.parts.Shift.{Shift}
 pub data Draft : Type 0 where
   head : Place → Draft
   lit : Place → Draft
-  index-var : Draft
+  index_var : Draft
   ref : Place → Place → Multiple → Shift → Draft
   plain : ℕ → Draft
 

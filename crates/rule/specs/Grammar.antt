@@ -198,6 +198,6 @@ Begins-rule ts = (x : Rule) × (ws : List Word) × (yield x ≡ words ts ++ ws)
 
 -- "outside the grammar, place the first token that with those before it begins no rule (the length if the text ends early)"
 pub data Wrong-at (n : ℕ) : List Token → ℕ → Type 0 where
-  at-token : (us : List Token) (t : Token) (vs : List Token) → Begins-rule us → (Begins-rule (us ++ t ∷ []) → ⊥)
+  at_token : (us : List Token) (t : Token) (vs : List Token) → Begins-rule us → (Begins-rule (us ++ t ∷ []) → ⊥)
       → Wrong-at n (us ++ t ∷ vs) t.start
-  at-end : (ts : List Token) → Begins-rule ts → (Is-rule ts → ⊥) → Wrong-at n ts n
+  at_end : (ts : List Token) → Begins-rule ts → (Is-rule ts → ⊥) → Wrong-at n ts n

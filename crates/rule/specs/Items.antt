@@ -9,7 +9,7 @@ use Rattle.rule.specs.Grammar.{index, Cond, a_disj, implies, Disj, a_conj, or, C
 use Rattle.rule.specs.Grammar.{CUnit, not, group, relation, Sum, a_prod, add, Prod, a_factor, multiply}
 use Rattle.rule.specs.Grammar.{Factor, literal, var, parens, absolute, reference}
 use Rattle.rule.specs.Grammar.{Rule, rule}
-use Rattle.rule.specs.Draft.{Draft, head, lit, index-var, ref, alone, relation_of, sign_of}
+use Rattle.rule.specs.Draft.{Draft, head, lit, index_var, ref, alone, relation_of, sign_of}
 use Rattle.rule.specs.declared.parts.Place.{Place}
 
 -- a level of that depth is entered, or a frame stands
@@ -62,7 +62,7 @@ abbrev mutual
   pub items_factor : Factor → List Item
   items_factor (literal p) = puts (lit p) ∷ []
   items_factor (Factor.decimal p) = puts (lit p) ∷ []
-  items_factor var = puts index-var ∷ []
+  items_factor var = puts index_var ∷ []
   items_factor (parens x) = inside (items_sum x)
   items_factor (absolute x) = inside (items_sum x) ++ operates Kind.absolute
   items_factor (reference n e (index f o)) = puts (ref n e f o) ∷ []

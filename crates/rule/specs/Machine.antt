@@ -17,7 +17,7 @@ use Rattle.rule.specs.declared.parts.Sign.{Sign}
 use Rattle.rule.specs.declared.parts.Multiple.{Multiple}
 use Rattle.rule.specs.declared.parts.Multiple.TheVariants.{Once, Times}
 use Rattle.rule.specs.declared.parts.Shift.TheVariants.{Unshifted, By}
-use Rattle.rule.specs.Draft.{Draft, head, lit, index-var, ref, alone, relation_of, sign_of}
+use Rattle.rule.specs.Draft.{Draft, head, lit, index_var, ref, alone, relation_of, sign_of}
 
 -- what reading does, in the order of the text
 pub data Act : Type 0 where
@@ -30,11 +30,11 @@ pub data Act : Type 0 where
 pub data Sym : Type 0 where
   unit ands ors arrow factor muls adds rel want : ℕ → Sym
   name_of names_of : Role → Sym
-  clause clause-number : Sym
-  ref-event : Place → Sym
-  ref-index : Place → Place → Sym
+  clause clause_number : Sym
+  ref_event : Place → Sym
+  ref_index : Place → Place → Sym
   ref_shift : Place → Place → Multiple → Sym
-  ref-by : Place → Place → Multiple → Sign → Sym
+  ref_by : Place → Place → Multiple → Sign → Sym
   doing : Act → Sym
 
 -- prod: factor {"*" factor}, and then s
@@ -84,11 +84,11 @@ module _ (M : Type 0) (act : Act → M → M) where
   start_factor d m k p s =
       cond (eqb k number_kind) (on s (act (out (lit p)) (act (sized OfLiteral p) m)))
       (cond (eqb k decimal_kind) (on s (act (out (lit p)) (act (sized OfLiteral p) m)))
-      (cond (eqb k index_kind) (on s (act (out index-var) m))
+      (cond (eqb k index_kind) (on s (act (out index_var) m))
       (cond (eqb k open_paren) (on (sum (deeper d) (want close_paren ∷ s)) (act (enter (deeper d)) m))
       (cond (eqb k abs_kind) (on (want open_paren ∷ sum (deeper d) (want close_paren ∷ doing (out (alone Kind.absolute)) ∷ s))
       (act (enter (deeper d)) m))
-      (cond (eqb k name_kind) (on (want open_paren ∷ ref-event p ∷ s) (act (uses Note p) m)) stuck)))))
+      (cond (eqb k name_kind) (on (want open_paren ∷ ref_event p ∷ s) (act (uses Note p) m)) stuck)))))
 
   -- what a token of kind k, at p, does with the stack
   unfoldable pub step : List Sym → M → ℕ → Place → Next M
@@ -117,17 +117,17 @@ module _ (M : Type 0) (act : Act → M → M) where
   step (want x ∷ s) m k p = cond (eqb k x) (on s m) stuck
   step (name_of r ∷ s) m k p = cond (eqb k name_kind) (on s (act (declare r p) m)) stuck
   step (names_of r ∷ s) m k p = cond (eqb k name_kind) (on (names_of r ∷ s) (act (declare r p) m)) (step s m k p)
-  step (clause ∷ s) m k p = cond (eqb k scale_kind) (on (clause-number ∷ want semicolon ∷ s) m) (step s m k p)
-  step (clause-number ∷ s) m k p = cond (eqb k number_kind) (on s (act (out (head p)) (act (sized OfClause p) m))) stuck
-  step (ref-event n ∷ s) m k p =
-      cond (eqb k name_kind) (on (want open_bracket ∷ ref-index n p ∷ want close_bracket ∷ want close_paren ∷ s)
+  step (clause ∷ s) m k p = cond (eqb k scale_kind) (on (clause_number ∷ want semicolon ∷ s) m) (step s m k p)
+  step (clause_number ∷ s) m k p = cond (eqb k number_kind) (on s (act (out (head p)) (act (sized OfClause p) m))) stuck
+  step (ref_event n ∷ s) m k p =
+      cond (eqb k name_kind) (on (want open_bracket ∷ ref_index n p ∷ want close_bracket ∷ want close_paren ∷ s)
       (act (uses Event p) m)) stuck
-  step (ref-index n e ∷ s) m k p =
+  step (ref_index n e ∷ s) m k p =
       cond (eqb k number_kind) (on (want star ∷ want index_kind ∷ ref_shift n e (Times p) ∷ s) (act (sized OfFactor p) m))
       (cond (eqb k index_kind) (on (ref_shift n e Once ∷ s) m) stuck)
   step (ref_shift n e f ∷ s) m k p =
-      by_mark sign_mark k (λ g. on (ref-by n e f g ∷ s) m) (step s (act (out (ref n e f Unshifted)) m) k p) signs
-  step (ref-by n e f g ∷ s) m k p =
+      by_mark sign_mark k (λ g. on (ref_by n e f g ∷ s) m) (step s (act (out (ref n e f Unshifted)) m) k p) signs
+  step (ref_by n e f g ∷ s) m k p =
       cond (eqb k number_kind) (on s (act (out (ref n e f (By g p))) (act (sized OfOffset p) m))) stuck
   step (doing a ∷ s) m k p = step s (act a m) k p
 
@@ -146,11 +146,11 @@ module _ (M : Type 0) (act : Act → M → M) where
   finish n (name_of r ∷ s) m = refused n
   finish n (names_of r ∷ s) m = finish n s m
   finish n (clause ∷ s) m = finish n s m
-  finish n (clause-number ∷ s) m = refused n
-  finish n (ref-event e ∷ s) m = refused n
-  finish n (ref-index e i ∷ s) m = refused n
+  finish n (clause_number ∷ s) m = refused n
+  finish n (ref_event e ∷ s) m = refused n
+  finish n (ref_index e i ∷ s) m = refused n
   finish n (ref_shift e i f ∷ s) m = finish n s (act (out (ref e i f Unshifted)) m)
-  finish n (ref-by e i f g ∷ s) m = refused n
+  finish n (ref_by e i f g ∷ s) m = refused n
   finish n (doing a ∷ s) m = finish n s (act a m)
 
   -- the answer to the tokens, from a stack; the text has n bytes

@@ -2,7 +2,7 @@
 -- From 'From rule text to frames' of document 01 and point 1 of document 02. Assumes nothing: definitions.
 use Rattle.std.specs.Prelude.{ℕ, max, List, [], ◌∷◌, ◌++◌}
 use Rattle.rule.specs.Grammar.{Rule, rule}
-use Rattle.rule.specs.Draft.{Draft, head, lit, index-var, ref, plain}
+use Rattle.rule.specs.Draft.{Draft, head, lit, index_var, ref, plain}
 use Rattle.rule.specs.Items.{Item, enters, puts, items}
 use Rattle.rule.specs.declared.parts.Place.{Place}
 use Rattle.rule.specs.declared.parts.Role.{Role}
@@ -43,7 +43,7 @@ pub data Named : Type 0 where
 
 -- a number, with the limit that it has
 pub data Sized : Type 0 where
-  sized-by : Limit → Place → Sized
+  sized_by : Limit → Place → Sized
 
 -- what each member has, one after the other
 abbrev pub flat : {A B : Type 0} → (A → List B) → List A → List B
@@ -53,26 +53,26 @@ flat g (x ∷ xs) = g x ++ flat g xs
 -- [number "*"]: the factor of i
 abbrev pub multiple_numbers : Multiple → List Sized
 multiple_numbers Once = []
-multiple_numbers (Times p) = sized-by OfFactor p ∷ []
+multiple_numbers (Times p) = sized_by OfFactor p ∷ []
 
 -- [("+" or "-") number]: the offset
 abbrev pub shift_numbers : Shift → List Sized
 shift_numbers Unshifted = []
-shift_numbers (By g p) = sized-by OfOffset p ∷ []
+shift_numbers (By g p) = sized_by OfOffset p ∷ []
 
 -- the names in a frame: of a reference "the note first, then the event"
 abbrev pub names_of : Draft → List Named
 names_of (head p) = []
 names_of (lit p) = []
-names_of index-var = []
+names_of index_var = []
 names_of (ref n e f o) = used Note n ∷ used Event e ∷ []
 names_of (plain k) = []
 
 -- the numbers in a frame, each with its limit
 abbrev pub numbers_of : Draft → List Sized
-numbers_of (head p) = sized-by OfClause p ∷ []
-numbers_of (lit p) = sized-by OfLiteral p ∷ []
-numbers_of index-var = []
+numbers_of (head p) = sized_by OfClause p ∷ []
+numbers_of (lit p) = sized_by OfLiteral p ∷ []
+numbers_of index_var = []
 numbers_of (ref n e f o) = multiple_numbers f ++ shift_numbers o
 numbers_of (plain k) = []
 

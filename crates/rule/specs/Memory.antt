@@ -6,8 +6,8 @@ use Rattle.rule.specs.ReadLimits.{depth_limit}
 use Rattle.rule.specs.Frames.{Source, Kind, kind_byte, scale_byte}
 use Rattle.rule.specs.Name.{long_name, name_code}
 use Rattle.rule.specs.Number.{number_value}
-use Rattle.rule.specs.Measure.{Sized, sized-by}
-use Rattle.rule.specs.Draft.{Draft, head, lit, index-var, ref, plain}
+use Rattle.rule.specs.Measure.{Sized, sized_by}
+use Rattle.rule.specs.Draft.{Draft, head, lit, index_var, ref, plain}
 use Rattle.rule.specs.Spelling as spelling
 use Rattle.rule.specs.Spelling.{letters, room, beyond}
 use Rattle.rule.specs.Machine.{Act, declare, uses, sized, enter, out}
@@ -155,7 +155,7 @@ module _ (code value decimals : Place → ℕ) where
         factor = 0;
         word = value p;
       }
-  fields E N index-var = record { kind = kind_byte (Kind.operand Source.instance); event = 0; note = 0; factor = 0; word = 0 }
+  fields E N index_var = record { kind = kind_byte (Kind.operand Source.instance); event = 0; note = 0; factor = 0; word = 0 }
   fields E N (ref n e f o) =
       record {
         kind = kind_byte (Kind.operand Source.reference);
@@ -168,14 +168,14 @@ module _ (code value decimals : Place → ℕ) where
 
   -- 5: "a number beyond its limit"
   abbrev pub bad-number : Sized → Bool
-  bad-number (sized-by l p) = beyond l (value p)
+  bad-number (sized_by l p) = beyond l (value p)
 
   -- 18: "more than 6 decimals in the clause or in a literal"
   abbrev pub many-decimals : Sized → Bool
-  many-decimals (sized-by OfClause p) = ltb decimal_limit (value p)
-  many-decimals (sized-by OfLiteral p) = ltb decimal_limit (decimals p)
-  many-decimals (sized-by OfFactor p) = false
-  many-decimals (sized-by OfOffset p) = false
+  many-decimals (sized_by OfClause p) = ltb decimal_limit (value p)
+  many-decimals (sized_by OfLiteral p) = ltb decimal_limit (decimals p)
+  many-decimals (sized_by OfFactor p) = false
+  many-decimals (sized_by OfOffset p) = false
 
   -- 4, of a name that is declared: "over 12 letters, twice in its list, a 9th event, a 5th note"
   abbrev pub misnamed : Role → Place → Mem → Bool
@@ -190,8 +190,8 @@ module _ (code value decimals : Place → ℕ) where
       record {
         count = m.count;
         deep = m.deep;
-        number = cond (bad-number (sized-by b p)) (first m.number p) m.number;
-        decimals = cond (many-decimals (sized-by b p)) (first m.decimals p) m.decimals;
+        number = cond (bad-number (sized_by b p)) (first m.number p) m.number;
+        decimals = cond (many-decimals (sized_by b p)) (first m.decimals p) m.decimals;
         name = m.name;
         events = m.events;
         notes = m.notes;

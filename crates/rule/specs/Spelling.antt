@@ -9,7 +9,7 @@ use Rattle.rule.specs.ReadLimits.{name_letters}
 use Rattle.rule.specs.Class.{digit, point, OfClass}
 use Rattle.rule.specs.Token.{number_kind, decimal_kind, same, tokens, PointBetween}
 use Rattle.rule.specs.Grammar.{Rule, place}
-use Rattle.rule.specs.Measure.{Named, declared, used, names, Sized, sized-by}
+use Rattle.rule.specs.Measure.{Named, declared, used, names, Sized, sized_by}
 use Rattle.rule.specs.Limits.{event_limit, note_limit, factor_limit, offset_limit, literal_limit, decimal_limit}
 use Rattle.rule.specs.declared.Token.{Token}
 use Rattle.rule.specs.declared.parts.Place.{Place}
@@ -65,9 +65,9 @@ pub record TokenOf (text : List ℕ) (k : ℕ) (p : Place) : Type 0 where
 -- a number of a tree, as the text has it: a number, or "only a literal" a decimal
 pub data NumberOf (text : List ℕ) : Sized → Type 0 where
   of_number : {l : Limit} {p : Place} → TokenOf text number_kind p → OfClass digit (letters text p)
-      → NumberOf text (sized-by l p)
-  of-decimal : {p : Place} → TokenOf text decimal_kind p → PointBetween (letters text p)
-      → NumberOf text (sized-by OfLiteral p)
+      → NumberOf text (sized_by l p)
+  of_decimal : {p : Place} → TokenOf text decimal_kind p → PointBetween (letters text p)
+      → NumberOf text (sized_by OfLiteral p)
 
 -- where a name stands
 abbrev pub name_at : Named → Place
@@ -76,7 +76,7 @@ name_at (used r p) = p
 
 -- where a number stands
 abbrev pub number_at : Sized → Place
-number_at (sized-by l p) = p
+number_at (sized_by l p) = p
 
 -- a word is one of a list of words
 abbrev pub among_words : List ℕ → List (List ℕ) → Bool
@@ -113,7 +113,7 @@ module _ (text : List ℕ) where
 
   -- 5: "a number beyond its limit", by its decimal value
   abbrev pub bad_number : Sized → Bool
-  bad_number (sized-by l p) = beyond l (decimal (letters text p))
+  bad_number (sized_by l p) = beyond l (decimal (letters text p))
 
   -- "place the first"
   abbrev pub first_number : List Sized → Option Place
@@ -122,10 +122,10 @@ module _ (text : List ℕ) where
 
   -- 18: "more than 6 decimals in the clause or in a literal"
   abbrev pub many_decimals : Sized → Bool
-  many_decimals (sized-by OfClause p) = ltb decimal_limit (decimal (letters text p))
-  many_decimals (sized-by OfLiteral p) = ltb decimal_limit (decimals (letters text p))
-  many_decimals (sized-by OfFactor p) = false
-  many_decimals (sized-by OfOffset p) = false
+  many_decimals (sized_by OfClause p) = ltb decimal_limit (decimal (letters text p))
+  many_decimals (sized_by OfLiteral p) = ltb decimal_limit (decimals (letters text p))
+  many_decimals (sized_by OfFactor p) = false
+  many_decimals (sized_by OfOffset p) = false
 
   -- "place the first"
   abbrev pub first_decimals : List Sized → Option Place

@@ -223,7 +223,7 @@ tokens text = tokens_from (declares 2) text 0
 -- ---- what is said of tokens, in the document's words
 -- "marks (those quoted below)": the bytes of each, and the kind of its token
 pub data Quoted : List ℕ → ℕ → Type 0 where
-  of-one-byte : (b : ℕ) → among one_byte_marks b ≡ true → Quoted (b ∷ []) b
+  of_one_byte : (b : ℕ) → among one_byte_marks b ≡ true → Quoted (b ∷ []) b
   arrow : Quoted (minus_mark ∷ more_mark ∷ []) arrow_kind
   bars : Quoted (bar ∷ bar ∷ []) bars_kind
   ampersands : Quoted (ampersand ∷ ampersand ∷ []) ampersands_kind
@@ -249,9 +249,9 @@ pub record PointBetween (w : List ℕ) : Type 0 where
   pub whole : List ℕ
   pub rest : List ℕ
   pub is : w ≡ whole ++ point ∷ rest
-  pub whole-digits : OfClass digit whole
-  pub rest-digits : OfClass digit rest
-  pub whole-some : 1 ≤ length whole
+  pub whole_digits : OfClass digit whole
+  pub rest_digits : OfClass digit rest
+  pub whole_some : 1 ≤ length whole
   pub rest_some : 1 ≤ length rest
 
 -- "After the clause digits, a point and digits .. are one token": before the clause's word none is

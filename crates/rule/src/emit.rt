@@ -1,6 +1,6 @@
 // Frames go out to a buffer of 64 frames of 8 bytes.
 ghost use Rattle.std.specs.Prelude.{◌≡◌, List, ℕ, length};
-ghost use Rattle.rule.specs.Draft.{head, lit, index-var, ref, plain};
+ghost use Rattle.rule.specs.Draft.{head, lit, index_var, ref, plain};
 ghost use Rattle.rule.specs.Machine.{out, sized};
 ghost use Rattle.rule.specs.Memory.{code_at, value_at, decimals_at, factor_of, offset_of, negated, with_frame, acts, mem};
 ghost use Rattle.rule.specs.ReadsPart.{Inside, InsideMultiple, InsideShift};
@@ -68,7 +68,7 @@ pub fn emit_kind(buf: &mut [u8; 512], m: Registers, kind: u8) -> Registers
 // The frame of i.
 pub fn emit_instance(buf: &mut [u8; 512], m: Registers) -> Registers
     ensures { (text tb : List ℕ) → mem result tb buf.new
-        ≡ acts text (out index-var) (mem m tb buf.old) }
+        ≡ acts text (out index_var) (mem m tb buf.old) }
 {
     emit(
         buf,

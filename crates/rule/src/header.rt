@@ -2,7 +2,7 @@
 ghost use Rattle.std.specs.Prelude.{◌≡◌, true, List, ◌∷◌, ℕ, suc, ◌+◌, ◌≤◌, ◌<◌, length};
 ghost use Rattle.rule.specs.Class.{semicolon};
 ghost use Rattle.rule.specs.Token.{Mode, declares, body, clause_at};
-ghost use Rattle.rule.specs.Machine.{want, name_of, names_of, clause, clause-number};
+ghost use Rattle.rule.specs.Machine.{want, name_of, names_of, clause, clause_number};
 ghost use Rattle.rule.specs.Memory.{mem};
 ghost use Rattle.rule.specs.ReadsPart.{ReadsPart};
 
@@ -91,7 +91,7 @@ pub fn declarations(
 // number ";", after the clause's word, and the frame at the head.
 fn scale_number(text: &[u8], at: usize, m: Registers, buf: &mut [u8; 512]) -> Step
     requires { at ≤ length text.now }
-    ensures { (tb : List ℕ) → ReadsPart Mode.clause (body true) (λ s. clause-number ∷ want semicolon ∷ s)
+    ensures { (tb : List ℕ) → ReadsPart Mode.clause (body true) (λ s. clause_number ∷ want semicolon ∷ s)
         text.now at at (mem m tb buf.old) result tb buf.new }
 {
     let t = token_at(text, at, false);

@@ -2,7 +2,7 @@
 ghost use Rattle.std.specs.Prelude.{◌≡◌, cond, List, ℕ, ◌+◌, ◌<◌, length};
 ghost use Rattle.rule.specs.Spelling.{beyond};
 ghost use Rattle.rule.specs.Machine.{deeper, enter, sized};
-ghost use Rattle.rule.specs.Measure.{sized-by};
+ghost use Rattle.rule.specs.Measure.{sized_by};
 ghost use Rattle.rule.specs.Memory.{first, blame, many-decimals, code_at, value_at, decimals_at, acts, mem};
 ghost use Rattle.rule.specs.ReadsPart.{Inside};
 

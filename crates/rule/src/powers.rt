@@ -4,8 +4,8 @@ ghost use Rattle.std.specs.Prelude.{◌≡◌, ◌^◌, ◌≤◌};
 // The greatest exponent.
 pub const MOST_TENS: u16 = 18;
 
-// 10 to the power e. Called where e is at most 18: by sizes.rt, and by crate verdict. No table: a constant one is built anew at
-// each use, which costs more than the few products.
+// 10 to the power e. Called where e is at most 18: by sizes.rt, and by crate verdict. No table: with the older kit a constant one
+// was built anew at each use.
 pub fn ten_to(e: u16) -> u64
     requires { e ≤ 18 }
     ensures { result ≡ 10 ^ e }

@@ -2,7 +2,7 @@
 ghost use Rattle.std.specs.Prelude.{List, ◌∷◌, ℕ, ◌+◌, ◌≤◌, length};
 ghost use Rattle.rule.specs.Token.{index_kind, body};
 ghost use Rattle.rule.specs.Class.{open_paren, close_paren, open_bracket, close_bracket, star};
-ghost use Rattle.rule.specs.Machine.{want, ref-event, ref-index, ref_shift, ref-by};
+ghost use Rattle.rule.specs.Machine.{want, ref_event, ref_index, ref_shift, ref_by};
 ghost use Rattle.rule.specs.Memory.{mem};
 ghost use Rattle.rule.specs.ReadsPart.{ReadsPart, Inside, InsideMultiple};
 
@@ -28,7 +28,7 @@ fn ref_by(
 ) -> Step
     requires { (at ≤ length text.now) × Inside (length text.now) n × Inside (length text.now) e
         × InsideMultiple (length text.now) f }
-    ensures { ReadsPart (body points) (body points) (λ s. ref-by n e f g ∷ s) text.now at (at + 1)
+    ensures { ReadsPart (body points) (body points) (λ s. ref_by n e f g ∷ s) text.now at (at + 1)
         (mem m names.now buf.old) result names.now buf.new }
 {
     let t = token_at(text, at, points);
@@ -115,7 +115,7 @@ fn ref_index(
     points: bool,
 ) -> Step
     requires { (at ≤ length text.now) × Inside (length text.now) n × Inside (length text.now) e }
-    ensures { ReadsPart (body points) (body points) (λ s. ref-index n e ∷ s) text.now at (at + 1)
+    ensures { ReadsPart (body points) (body points) (λ s. ref_index n e ∷ s) text.now at (at + 1)
         (mem m names.now buf.old) result names.now buf.new }
 {
     let t = token_at(text, at, points);
@@ -182,7 +182,7 @@ fn ref_event(
     points: bool,
 ) -> Step
     requires { (at ≤ length text.now) × Inside (length text.now) n }
-    ensures { ReadsPart (body points) (body points) (λ s. ref-event n ∷ s) text.now at (at + 1)
+    ensures { ReadsPart (body points) (body points) (λ s. ref_event n ∷ s) text.now at (at + 1)
         (mem m names.now buf.old) result names.now buf.new }
 {
     let t = token_at(text, at, points);
@@ -208,7 +208,7 @@ pub fn reference(
     points: bool,
 ) -> Step
     requires { (at ≤ length text.now) × Inside (length text.now) n }
-    ensures { ReadsPart (body points) (body points) (λ s. want open_paren ∷ ref-event n ∷ s) text.now at at
+    ensures { ReadsPart (body points) (body points) (λ s. want open_paren ∷ ref_event n ∷ s) text.now at at
         (mem m names.now buf.old) result names.now buf.new }
 {
     match expect(text, at, m, b'(', points) {

@@ -14,8 +14,8 @@ use Rattle.verdict.specs.Pass.{Pass, pass_by}
 pub else_multiply : (b : ℕ) → (b ≡ 0x11 → ⊥) → (b ≡ 0x12 → ⊥) → arithmetic_at b ≡ multiply
 else_multiply b p q = rw (ne_eqb b 0x11 p, ne_eqb b 0x12 q)
 
-pub else_at-least : (b : ℕ) → (b ≡ 0x21 → ⊥) → (b ≡ 0x22 → ⊥) → (b ≡ 0x23 → ⊥) → (b ≡ 0x24 → ⊥) → (b ≡ 0x25 → ⊥) → relation_at b ≡ at_least
-else_at-least b p q r s t = rw (ne_eqb b 0x21 p, ne_eqb b 0x22 q, ne_eqb b 0x23 r, ne_eqb b 0x24 s, ne_eqb b 0x25 t)
+pub else_at_least : (b : ℕ) → (b ≡ 0x21 → ⊥) → (b ≡ 0x22 → ⊥) → (b ≡ 0x23 → ⊥) → (b ≡ 0x24 → ⊥) → (b ≡ 0x25 → ⊥) → relation_at b ≡ at_least
+else_at_least b p q r s t = rw (ne_eqb b 0x21 p, ne_eqb b 0x22 q, ne_eqb b 0x23 r, ne_eqb b 0x24 s, ne_eqb b 0x25 t)
 
 pub else_implies : (b : ℕ) → (b ≡ 0x32 → ⊥) → (b ≡ 0x33 → ⊥) → connective_at b ≡ implies
 else_implies b p q = rw (ne_eqb b 0x32 p, ne_eqb b 0x33 q)

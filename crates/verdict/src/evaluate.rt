@@ -22,7 +22,7 @@ pub struct Top {
     pub present: bool,
 }
 
-// With another number of sums. Field by field, here and below: a whole copy with one field changed costs more.
+// With another number of sums. Field by field, here and below: with the older kit a whole copy with one field changed cost more.
 fn with_sums(top: Top, n: usize) -> Top
     ensures { (ss : List ℤ) (ds cs : List ℕ) → pass_of ss ds cs result
         ≡ with_sums (pass_of ss ds cs top) (terms_of (pos 0) ss ds n) }

@@ -5,7 +5,7 @@ use Rattle.checker.proofs.CodeBase.{startable, pass-next, pass-found}
 use Rattle.checker.proofs.base.starts_at.Goals as goal
 
 pub loop-k-init : goal.loop-k-init
-loop-k-init c = (search rules, record { long = refl; bases_to_lem = refl; first_to_lem = refl })
+loop-k-init c = (search rules, record { long = refl; its_bases = refl; its_first = refl })
 
 pub with_frame-first-requires : goal.with_frame-first-requires
 with_frame-first-requires c =

@@ -22,11 +22,11 @@ returns-then-k-count c =
     let w = c.word-at in
     rw (lt-ltb a.k.0 a.count c.if-k-count.true)
     (record {
-      mark-is = refl;
-      note-is = to_z-of_z w32 (get_or win w.result (pos 0)) (sfits_of c.result-1.given) ∙ ap (λ (i : ℕ). get_or win i (pos 0)) w.ensures;
+      mark_is = refl;
+      note_is = to_z-of_z w32 (get_or win w.result (pos 0)) (sfits_of c.result-1.given) ∙ ap (λ (i : ℕ). get_or win i (pos 0)) w.ensures;
     })
 
 pub returns-else-k-count : goal.returns-else-k-count
 returns-else-k-count c =
     let a = c.args in
-    rw (le-ltb a.k.0 a.count c.if-k-count.false) (record { mark-is = refl; note-is = refl })
+    rw (le-ltb a.k.0 a.count c.if-k-count.false) (record { mark_is = refl; note_is = refl })

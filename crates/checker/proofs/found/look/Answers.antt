@@ -1,7 +1,7 @@
 -- `checker::found::look` meets its contract. The invariant: the arrays show each reference passed. The measure is what is left of the frames.
 use Rattle.std.proofs.Common.{◌≡◌, arith, to_z-of_z, w32, to_z, of_z, rules}
 use Rattle.checker.specs.Found.{found_in_window}
-use Rattle.checker.proofs.PullFound.{few-frames, limited, looked-next, looked-last}
+use Rattle.checker.proofs.PullFound.{few_frames, limited, looked-next, looked-last}
 use Rattle.checker.proofs.found.look.Goals as goal
 
 pub loop-k-init : goal.loop-k-init
@@ -13,15 +13,15 @@ of_frame-seen-requires c =
 
 pub bounds-marks-k : goal.bounds-marks-k
 bounds-marks-k c =
-    omega (arith, c.loop-k.invariant.1.marked, few-frames c.args.frames.now c.requires.0)
+    omega (arith, c.loop-k.invariant.1.marked, few_frames c.args.frames.now c.requires.0)
 
 pub offset_bounds-notes-k : goal.offset_bounds-notes-k
 offset_bounds-notes-k c =
-    omega (arith, few-frames c.args.frames.now c.requires.0)
+    omega (arith, few_frames c.args.frames.now c.requires.0)
 
 pub bounds-notes-k : goal.bounds-notes-k
 bounds-notes-k c =
-    omega (arith, c.loop-k.invariant.1.noted, few-frames c.args.frames.now c.requires.0)
+    omega (arith, c.loop-k.invariant.1.noted, few_frames c.args.frames.now c.requires.0)
 
 pub loop-k-preserved : goal.loop-k-preserved
 loop-k-preserved c =
@@ -33,7 +33,7 @@ loop-k-preserved c =
       omega arith,
       rw q
           (looked-next a.frames.now (found_in_window a.width a.counts a.window.now a.p.0) l.marks l.notes l.k l.invariant.1
-          (omega (arith, few-frames a.frames.now c.requires.0)) x.result x.ensures seen.result.mark seen.result.note seen.ensures),
+          (omega (arith, few_frames a.frames.now c.requires.0)) x.result x.ensures seen.result.mark seen.result.note seen.ensures),
     )
 
 pub returns : goal.returns

@@ -25,7 +25,7 @@ pub returns-in-Void : goal.returns-in-Void
 returns-in-Void c =
     let a = c.args in
     by-meant a.x a.p.0 a.width a.counts a.window.now Void 2 (pos 0) c.requires.0
-    (sym c.in-Void.is ∙ c.occurrence_of-meant.ensures) (record { mark-is = refl; note-is = refl })
+    (sym c.in-Void.is ∙ c.occurrence_of-meant.ensures) (record { mark_is = refl; note_is = refl })
 
 pub returns-in-At : goal.returns-in-At
 returns-in-At c =

@@ -2,12 +2,12 @@
 use Rattle.std.proofs.Common.{ℕ, ◌*◌, ◌<◌, ◌≤◌, arith}
 use Rattle.checker.specs.Ring.{ring_place}
 use Rattle.checker.specs.InWindow.{InWindow}
-use Rattle.checker.proofs.CodeRing.{row_most, ring_place-most}
+use Rattle.checker.proofs.CodeRing.{row_most, ring_place_most}
 use Rattle.checker.proofs.words.word.Goals as goal
 
 -- Assumes nothing.
 bounds : {width event k : ℕ} → InWindow width event k → (event * width ≤ 2048) × (ring_place width k < 256)
-bounds {width} {event} {k} h = (row_most width event h.most h.event, ring_place-most width k h.some h.most)
+bounds {width} {event} {k} h = (row_most width event h.most h.event, ring_place_most width k h.some h.most)
 
 pub overflow_cast-ring_place : goal.overflow_cast-ring_place
 overflow_cast-ring_place c = omega (arith, bounds c.requires)

@@ -1,5 +1,5 @@
 -- `log_lines::walk::line_end` meets its contract. The invariant: the line that is left ends where the whole line ends. Assumes nothing.
-use Rattle.log_lines.proofs.Walking.{at_lf, at_other, at-end}
+use Rattle.log_lines.proofs.Walking.{at_lf, at_other, at_end}
 use native.Mathlib.Omega.{arith}
 use Rattle.log_lines.proofs.walk.line_end.Goals as goal
 
@@ -10,4 +10,4 @@ pub loop-i-preserved : goal.loop-i-preserved
 loop-i-preserved c = omega (arith, at_other c.args.log.now c.loop-i.i (omega arith) c.if-log-i-eq10.false)
 
 pub returns : goal.returns
-returns c = omega (arith, at-end c.args.log.now c.loop-i.i (omega arith))
+returns c = omega (arith, at_end c.args.log.now c.loop-i.i (omega arith))

@@ -25,7 +25,7 @@ ref_end-requires c =
 pub returns-in-No : goal.returns-in-No
 returns-in-No c =
     let a = c.args in
-    stop (λ s. machine.ref-index a.n a.e ∷ want close_bracket ∷ want close_paren ∷ s) _ (as_is (c.expect.ensures _ in_body a.names.now a.buf.now) c.in-No.is)
+    stop (λ s. machine.ref_index a.n a.e ∷ want close_bracket ∷ want close_paren ∷ s) _ (as_is (c.expect.ensures _ in_body a.names.now a.buf.now) c.in-No.is)
 
 pub returns-in-No-ref_index : goal.returns-in-No-ref_index
 returns-in-No-ref_index c =

@@ -15,7 +15,7 @@ ref_event-requires c =
 pub returns-in-No : goal.returns-in-No
 returns-in-No c =
     let a = c.args in
-    stop (λ s. machine.ref-event a.n ∷ s) _ (as_is (c.expect.ensures _ in_body a.names.now a.buf.now) c.in-No.is)
+    stop (λ s. machine.ref_event a.n ∷ s) _ (as_is (c.expect.ensures _ in_body a.names.now a.buf.now) c.in-No.is)
 
 pub returns-in-Go : goal.returns-in-Go
 returns-in-Go c =

@@ -13,7 +13,7 @@ use Rattle.rule.specs.Tree.{grown}
 use Rattle.rule.specs.Sizes.{pushed, topped, compared, sizes_after}
 use Rattle.rule.specs.Stack.{terms_of, EnoughSums, Measured}
 use Rattle.rule.proofs.FrameKinds.{kind_at, sum-range, relation-at, keeping_low, keeping_14, keeping_27}
-use Rattle.rule.proofs.FrameMagnitudes.{sizes-after_keeping}
+use Rattle.rule.proofs.FrameMagnitudes.{sizes_after_keeping}
 use Rattle.rule.proofs.sizes.size_step.Goals as goal
 
 -- `rule::sizes::size_step` meets its contract. Assumes nothing.
@@ -83,14 +83,14 @@ pub returns-in_default : goal.returns-in_default
 returns-in_default c =
     let a = c.args in
     let r = c.in_default.in_default-own.rest in
-    record { kept = c.requires.0.long; result_after = sym (sizes-after_keeping a.scale (kind_of a.x.kind) a.x _ (keeping_low a.x.kind c.in_default.if-kind-lt17-own.true r.0.0.0.1 r.0.0.1 r.0.1)) }
+    record { kept = c.requires.0.long; result_after = sym (sizes_after_keeping a.scale (kind_of a.x.kind) a.x _ (keeping_low a.x.kind c.in_default.if-kind-lt17-own.true r.0.0.0.1 r.0.0.1 r.0.1)) }
 
 pub returns-in_default-2 : goal.returns-in_default-2
 returns-in_default-2 c =
     let a = c.args in
-    record { kept = c.requires.0.long; result_after = sym (sizes-after_keeping a.scale (kind_of a.x.kind) a.x _ (keeping_14 a.x.kind (omega (arith, c.in_default.in_default-own.rest.1)) (omega arith))) }
+    record { kept = c.requires.0.long; result_after = sym (sizes_after_keeping a.scale (kind_of a.x.kind) a.x _ (keeping_14 a.x.kind (omega (arith, c.in_default.in_default-own.rest.1)) (omega arith))) }
 
 pub returns-in_default-3 : goal.returns-in_default-3
 returns-in_default-3 c =
     let a = c.args in
-    record { kept = c.requires.0.long; result_after = sym (sizes-after_keeping a.scale (kind_of a.x.kind) a.x _ (keeping_27 a.x.kind (omega arith) (omega arith))) }
+    record { kept = c.requires.0.long; result_after = sym (sizes_after_keeping a.scale (kind_of a.x.kind) a.x _ (keeping_27 a.x.kind (omega arith) (omega arith))) }

@@ -6,7 +6,7 @@ use mir.Syntax.{w64}
 use Rattle.rule.specs.Frames.{Relation, relation_at}
 use Rattle.verdict.specs.Value.{holds}
 use Rattle.verdict.proofs.Numbers.{equal_bits}
-use Rattle.verdict.proofs.ByKind.{else_at-least}
+use Rattle.verdict.proofs.ByKind.{else_at_least}
 use Rattle.verdict.proofs.arithmetic.compare.Goals as goal
 
 pub returns-in-33 : goal.returns-in-33
@@ -43,4 +43,4 @@ pub returns-in_default : goal.returns-in_default
 returns-in_default c =
     let x = c.args.a in
     let y = c.args.b in
-    rw (to_z-of_z w64 x c.ranges.a, to_z-of_z w64 y c.ranges.b) (ap (λ (r : Relation). holds r x y) (sym (else_at-least c.args.kind c.in_default.in_default-own.rest.0.0.0.0.1 c.in_default.in_default-own.rest.0.0.0.1 c.in_default.in_default-own.rest.0.0.1 c.in_default.in_default-own.rest.0.1 c.in_default.in_default-own.rest.1)))
+    rw (to_z-of_z w64 x c.ranges.a, to_z-of_z w64 y c.ranges.b) (ap (λ (r : Relation). holds r x y) (sym (else_at_least c.args.kind c.in_default.in_default-own.rest.0.0.0.0.1 c.in_default.in_default-own.rest.0.0.0.1 c.in_default.in_default-own.rest.0.0.1 c.in_default.in_default-own.rest.0.1 c.in_default.in_default-own.rest.1)))
