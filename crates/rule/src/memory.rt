@@ -140,7 +140,7 @@ fn over(limit: Limit, v: u32) -> bool
 fn many_decimals(text: &[u8], limit: Limit, p: Place) -> bool
     requires { Inside (length text.now) p }
     ensures { result ≡ many-decimals (code_at text.now) (value_at text.now)
-        (decimals_at text.now) (sized-by limit p) }
+        (decimals_at text.now) (sized_by limit p) }
 {
     match limit {
         Limit::OfClause => (limits::DECIMAL_LIMIT as u32) < number_at(text, p),

@@ -159,7 +159,7 @@ fn ref_brackets(
 ) -> Step
     requires { (at ≤ length text.now) × Inside (length text.now) n × Inside (length text.now) e }
     ensures { ReadsPart (body points) (body points)
-        (λ s. want open_bracket ∷ ref-index n e ∷ want close_bracket ∷ want close_paren ∷ s)
+        (λ s. want open_bracket ∷ ref_index n e ∷ want close_bracket ∷ want close_paren ∷ s)
         text.now at at (mem m names.now buf.old) result names.now buf.new }
 {
     match expect(text, at, m, b'[', points) {
