@@ -15,7 +15,6 @@ use Rattle.rule.proofs.FrameLength.{true-whole}
 use Rattle.rule.proofs.FrameHeads.{head_few, decimals-few, body-length, body-part}
 use Rattle.rule.proofs.check.Goals as goal
 
--- `rule::check` meets its contract. Assumes nothing.
 -- the check of the body's part is that of the body by the scale
 checked-part : {s : List ℕ} {h : Head} → HeadIs s h → (t : List ℕ) → t ≡ body s → after_order h.frames h.decimals t (order_of h.most t) ≡ checked_body (scale_of s) (body s)
 checked-part i t e = rw (e, i.frames, i.decimals, i.most)

@@ -11,7 +11,6 @@ use Rattle.rule.specs.declared.order.Ordered.TheVariants.{Fine, At}
 use Rattle.rule.proofs.FrameOrder.{place_le, fine-order}
 use Rattle.rule.proofs.check_body.Goals as goal
 
--- `rule::check_body` meets its contract. Assumes nothing.
 pub overflow_add-head : goal.overflow_add-head
 overflow_add-head c =
     let s = c.args.frames.now in

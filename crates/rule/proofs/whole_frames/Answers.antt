@@ -2,6 +2,5 @@
 use mathlib.Core.Path.{refl}
 use Rattle.rule.proofs.whole_frames.Goals as goal
 
--- `rule::whole_frames` meets its contract. Assumes nothing.
 pub returns : goal.returns
 returns c = refl

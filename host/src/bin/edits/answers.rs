@@ -19,7 +19,8 @@ pub fn without(text: &str, answers: &[String]) -> String {
     kept
 }
 
-/// A proof's text with answers under the names of goals that have none in it and differ from theirs in numbers alone.
+/// A proof's text with answers under the names of goals that have none in it: of one that differs from theirs in numbers alone, else
+/// of the next one behind another condition.
 pub fn renamed(text: &str, answers: &[String], goals: &[&str]) -> String {
     let mut left = goals.to_vec();
     left.retain(|goal| !text.contains(&format!("pub {goal} : ")));
@@ -28,9 +29,23 @@ pub fn renamed(text: &str, answers: &[String], goals: &[&str]) -> String {
         if let Some(at) = left.iter().position(|goal| is_alike(goal, answer)) {
             let (old, new) = difference(answer, left.remove(at));
             text = with_words(&text, &old, &new);
+        } else if let Some((branch, old)) = condition(answer) {
+            let is_branch = |goal: &&str| condition(goal).is_some_and(|(other, _)| other == branch);
+            if let Some(at) = left.iter().position(is_branch) {
+                let goal = left.remove(at);
+                text = with_words(&text, old, &goal[branch.len()..]);
+            }
         }
     }
     text
+}
+
+/// A goal's name up to the words of a condition, as `returns-then-`, and these words.
+fn condition(name: &str) -> Option<(&str, &str)> {
+    let end = ["-then-", "-else-"]
+        .iter()
+        .find_map(|part| name.find(part).map(|at| at + part.len()))?;
+    Some(name.split_at(end))
 }
 
 /// Whether two names are the same but for the numbers in them.
@@ -96,6 +111,15 @@ mod tests {
         let goals = ["add-k", "returns-then-k-eq13", "returns-else-k-eq13"];
         let expected = TEXT.replace("k-eq2", "k-eq13").replace("k-eq131", "k-eq21");
         assert_eq!(renamed(TEXT, &names(), &goals), expected);
-        assert_eq!(renamed(TEXT, &names(), &["returns-then-j-eq13"]), TEXT);
+        assert_eq!(renamed(TEXT, &names(), &["loop-preserved"]), TEXT);
+    }
+
+    #[test]
+    fn another_condition_goes_into_answers_and_steps() {
+        let goals = ["add-k", "returns-then-j-LEAST", "returns-else-j-LEAST"];
+        let expected = TEXT
+            .replace("k-eq2", "j-LEAST")
+            .replace("j-LEAST1", "k-eq21");
+        assert_eq!(renamed(TEXT, &names(), &goals), expected);
     }
 }

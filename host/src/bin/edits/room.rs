@@ -39,8 +39,8 @@ impl Room {
         assert!(is_proved, "{name} is not proved:\n{log}");
     }
 
-    /// The facts that the prover refuses of a crate with all edits of a file. A goal's name can have a number of the code in it:
-    /// where an edit changes that number, the goal's answer is given the new name. An answer that names what is no longer known
+    /// The facts that the prover refuses of a crate with all edits of a file. A goal's name can have words of a condition in it:
+    /// where an edit changes these, the goal's answer is given the new name. An answer that names what is no longer known
     /// there is taken out, so that the prover goes on to the other goals; that a search then fails at its goal is no fact.
     pub fn tried(&self, name: &str, edits: &[Edit]) -> Vec<Fact> {
         let mut was: BTreeMap<String, String> = BTreeMap::new();

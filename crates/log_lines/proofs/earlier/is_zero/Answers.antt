@@ -2,6 +2,5 @@
 use Rattle.numbers.proofs.Ints.{zero_bits}
 use Rattle.log_lines.proofs.earlier.is_zero.Goals as goal
 
--- `log_lines::earlier::is_zero` meets its contract. Assumes nothing.
 pub returns : goal.returns
 returns c = zero_bits c.args.note c.ranges.note

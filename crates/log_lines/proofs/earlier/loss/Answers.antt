@@ -5,7 +5,6 @@ use Rattle.log_lines.specs.Earlier.{lower_told}
 use Rattle.log_lines.proofs.Losses.{answer-of-bad, answer-of-event}
 use Rattle.log_lines.proofs.earlier.loss.Goals as goal
 
--- `log_lines::earlier::loss` meets its contract. Assumes nothing.
 pub returns-in-Bad : goal.returns-in-Bad
 unfolding line_told lower_told
 returns-in-Bad c = answer-of-bad c.in-Bad.is

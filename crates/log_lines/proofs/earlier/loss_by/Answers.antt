@@ -1,11 +1,10 @@
 -- `log_lines::earlier::loss_by` meets its contract: what each branch returns. Assumes nothing.
-use mathlib.Core.Path.{ap}
-use mathlib.Core.Bool.{not}
+use mathlib.Core.Path.{◌≡◌, ap}
+use mathlib.Core.Bool.{not, true}
 use Rattle.log_lines.specs.Earlier.{lower_told}
 use Rattle.log_lines.proofs.Losses.{fourth_lost, first_lost, second_lost, third_lost, nothing_lost}
 use Rattle.log_lines.proofs.earlier.loss_by.Goals as goal
 
--- `log_lines::earlier::loss_by` meets its contract: what each branch returns. Assumes nothing.
 pub returns-then-not-fourth : goal.returns-then-not-fourth
 unfolding lower_told
 returns-then-not-fourth c =
@@ -16,7 +15,8 @@ pub returns-then-not-first : goal.returns-then-not-first
 unfolding lower_told
 returns-then-not-first c =
     let a = c.args in
-    first_lost a.fourth a.first a.second a.third (ap not c.if-not-fourth.false) (ap not c.if-not-first.true)
+    let zero : a.fourth ≡ true = cc in
+    first_lost a.fourth a.first a.second a.third (ap not zero) (ap not c.if-not-first.true)
 
 pub returns-then-not-second : goal.returns-then-not-second
 unfolding lower_told

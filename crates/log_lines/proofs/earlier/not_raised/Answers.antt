@@ -2,6 +2,5 @@
 use mathlib.Core.Path.{refl}
 use Rattle.log_lines.proofs.earlier.not_raised.Goals as goal
 
--- `log_lines::earlier::not_raised` meets its contract. Assumes nothing.
 pub returns : goal.returns
 returns c = refl

@@ -6,7 +6,6 @@ use lib.ListN.{drop, length-set, length-take}
 use Rattle.log_lines.proofs.Copies.{put-note}
 use Rattle.log_lines.proofs.earlier.put_raised.Goals as goal
 
--- `log_lines::earlier::put_raised` meets its contract. Assumes nothing.
 pub bounds-line-at-2 : goal.bounds-line-at-2
 bounds-line-at-2 c = simp length-set (omega arith)
 

@@ -8,7 +8,6 @@ use Rattle.log_lines.proofs.Lines.{line-of-other, line-of-notes, line-of-bad-pai
 use borrow.Author.Rules.{sfits_of}
 use Rattle.log_lines.proofs.line.read_line.Goals as goal
 
--- `log_lines::line::read_line` meets its contract. Assumes nothing.
 pub returns-then-bytes-ne-DIGITS : goal.returns-then-bytes-ne-DIGITS
 unfolding line_told
 returns-then-bytes-ne-DIGITS c =

@@ -3,7 +3,6 @@ use borrow.Author.Tests.{lt-ltb, le-ltb}
 use Rattle.log_lines.specs.Walk.{line_at}
 use Rattle.log_lines.proofs.walk.line_at.Goals as goal
 
--- `log_lines::walk::line_at` meets its contract, by the tests. Assumes nothing.
 pub returns-then-log-at : goal.returns-then-log-at
 unfolding line_at
 returns-then-log-at c = simp (le-ltb _ _ c.if-log-at.true)

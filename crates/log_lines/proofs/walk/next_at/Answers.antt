@@ -3,7 +3,6 @@ use mathlib.Core.Path.{sym, ap, ◌∙◌}
 use Rattle.log_lines.specs.Walk.{found_next}
 use Rattle.log_lines.proofs.walk.next_at.Goals as goal
 
--- `log_lines::walk::next_at` meets its contract. Assumes nothing.
 -- a line
 pub returns-in-Line : goal.returns-in-Line
 returns-in-Line c =

@@ -6,7 +6,6 @@ use Rattle.log_lines.specs.Walk.{found_ptr, found_bytes}
 use Rattle.log_lines.proofs.Walking.{line-within}
 use Rattle.log_lines.proofs.walk.part_at.Goals as goal
 
--- `log_lines::walk::part_at` meets its contract. Assumes nothing.
 -- the log's end
 pub returns-in_default : goal.returns-in_default
 returns-in_default c =

@@ -4,7 +4,6 @@ use Rattle.rule.specs.Frames.{literal, reference, operand}
 use Rattle.rule.proofs.FrameKinds.{kind_at, bare-kind}
 use Rattle.rule.proofs.frames.fields.Goals as goal
 
--- `rule::frames::fields` meets its contract. Assumes nothing.
 pub returns-in-1 : goal.returns-in-1
 returns-in-1 c = c.of_literal.ensures ∙ rw (kind_at (operand literal) c.args.x.kind c.in-1.is)
 

@@ -2,6 +2,5 @@
 use mathlib.Core.Path.{refl}
 use Rattle.rule.proofs.frames.no_operand.Goals as goal
 
--- `rule::frames::no_operand` meets its contract. Assumes nothing.
 pub returns : goal.returns
 returns c = refl

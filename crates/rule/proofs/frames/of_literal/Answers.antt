@@ -4,7 +4,6 @@ use mir.Syntax.{w32}
 use mir.ValLaws.{to_z-of_z}
 use Rattle.rule.proofs.frames.of_literal.Goals as goal
 
--- `rule::frames::of_literal` meets its contract. Assumes nothing.
 pub returns : goal.returns
 returns c =
     let x = c.args.x in

@@ -2,6 +2,5 @@
 use Rattle.numbers.proofs.Ints.{zero_bits}
 use Rattle.rule.proofs.frames.zero.Goals as goal
 
--- `rule::frames::zero` meets its contract. Assumes nothing.
 pub returns : goal.returns
 returns c = zero_bits c.args.v c.ranges.v

@@ -12,7 +12,6 @@ use Rattle.rule.specs.declared.order.Shape.TheVariants.{Good}
 use Rattle.rule.proofs.FrameKinds.{kind_at, operand-range, arithmetic-at, relation-at, connective-at, none_00, none_04, none_15, none_27, none_35}
 use Rattle.rule.proofs.order.step.Goals as goal
 
--- `rule::order::step` meets its contract. Assumes nothing.
 conds-taken : (n c k : ℕ) → (leb n c && eqb k 0) ≡ true → n ≤ c
 conds-taken n c k t = leb-true n c (and-true (leb n c) (eqb k 0) t).0
 

@@ -11,7 +11,6 @@ use Rattle.rule.specs.Scale.{headed}
 use Rattle.rule.proofs.FrameHeads.{and_no}
 use Rattle.rule.proofs.scale.head_of.Goals as goal
 
--- `rule::scale::head_of` meets its contract. Assumes nothing.
 pub returns-then-frames-eq-SCALE_BYTE : goal.returns-then-frames-eq-SCALE_BYTE
 returns-then-frames-eq-SCALE_BYTE c =
     let s = c.args.frames.now in

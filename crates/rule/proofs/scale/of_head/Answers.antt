@@ -8,7 +8,6 @@ use mir.Syntax.{w32}
 use mir.ValLaws.{to_z-of_z}
 use Rattle.rule.proofs.scale.of_head.Goals as goal
 
--- `rule::scale::of_head` meets its contract. Assumes nothing.
 pub returns : goal.returns
 returns c =
     let x = c.args.x in

@@ -7,7 +7,6 @@ use Rattle.rule.specs.Stack.{capped}
 use Rattle.rule.proofs.FrameMagnitudes.{capped_as, alike-leb}
 use Rattle.rule.proofs.sizes.compare_top.Goals as goal
 
--- `rule::sizes::compare_top` meets its contract. Assumes nothing.
 pub bounds-counts-0 : goal.bounds-counts-0
 bounds-counts-0 c = omega (arith, c.requires.long.1)
 

@@ -8,7 +8,6 @@ use mir.ValLaws.{to_z-of_z}
 use Rattle.numbers.proofs.Ints.{nat_abs_neg, abs_neg, is-not-negative, size_fits, neg_fits}
 use Rattle.rule.proofs.sizes.own.Goals as goal
 
--- `rule::sizes::own` meets its contract. Assumes nothing.
 -- the machine's negation
 negated : (v : ℤ) → SFits w32 v → to_z w64 (of_z w64 (pos 0 -ℤ to_z w64 (of_z w64 (to_z w32 (of_z w32 v))))) ≡ neg_ℤ v
 negated v f = rw (to_z-of_z w32 v f, to_z-of_z w64 v (sfits_widen tt f), +ℤ_idl (neg_ℤ v)) (to_z-of_z w64 (neg_ℤ v) (neg_fits v f))

@@ -11,7 +11,6 @@ use Rattle.rule.proofs.FrameStack.{terms_two}
 use Rattle.rule.proofs.FrameMagnitudes.{capped_as, pushed-alike}
 use Rattle.rule.proofs.sizes.product_top.Goals as goal
 
--- `rule::sizes::product_top` meets its contract. Assumes nothing.
 pub bounds-cells-k : goal.bounds-cells-k
 bounds-cells-k c = omega (arith, c.requires.0.long.0, c.requires.0.room)
 

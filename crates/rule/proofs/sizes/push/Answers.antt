@@ -8,7 +8,6 @@ use Rattle.rule.specs.Sizes.{fits}
 use Rattle.rule.proofs.FrameStack.{terms_push}
 use Rattle.rule.proofs.sizes.push.Goals as goal
 
--- `rule::sizes::push` meets its contract. Assumes nothing.
 pub returns-then-m-le-MAGNITUDE_LIMIT : goal.returns-then-m-le-MAGNITUDE_LIMIT
 returns-then-m-le-MAGNITUDE_LIMIT c =
     let a = c.args in

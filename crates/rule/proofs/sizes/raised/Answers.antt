@@ -9,7 +9,6 @@ use Rattle.rule.specs.Stack.{capped}
 use Rattle.rule.proofs.FramePowers.{ten-over}
 use Rattle.rule.proofs.sizes.raised.Goals as goal
 
--- `rule::sizes::raised` meets its contract. Assumes nothing.
 pub returns-then-e-eq0 : goal.returns-then-e-eq0
 returns-then-e-eq0 c = rw (c.if-e-eq0.true, mul-one c.args.m, le-leb c.args.m magnitude_limit c.requires)
 

@@ -16,7 +16,6 @@ use Rattle.rule.proofs.FrameKinds.{kind_at, sum-range, relation-at, keeping_low,
 use Rattle.rule.proofs.FrameMagnitudes.{sizes_after_keeping}
 use Rattle.rule.proofs.sizes.size_step.Goals as goal
 
--- `rule::sizes::size_step` meets its contract. Assumes nothing.
 pub push-requires : goal.push-requires
 push-requires c = (c.requires.0.long, c.requires.0.room)
 

@@ -14,7 +14,6 @@ use Rattle.rule.proofs.FrameStack.{terms_two}
 use Rattle.rule.proofs.FrameMagnitudes.{capped_as, capped_le, alike-add, pushed-alike}
 use Rattle.rule.proofs.sizes.sum_top.Goals as goal
 
--- `rule::sizes::sum_top` meets its contract. Assumes nothing.
 -- the two on top are within the limit
 two-bounded : (cells counts : List ℕ) (k : ℕ) → 2 ≤ k → Measured cells counts k → (get_or cells (k - 2) 0 ≤ magnitude_limit) × (get_or cells (k - 1) 0 ≤ magnitude_limit)
 two-bounded cells counts k h m = let b = rw (terms_two 0 cells counts k h) at m.bounded in (b.1.0, b.0)

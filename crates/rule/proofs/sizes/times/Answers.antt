@@ -6,7 +6,6 @@ use borrow.Author.Tests.{le-leb, lt-leb}
 use Rattle.rule.specs.Limits.{magnitude_limit}
 use Rattle.rule.proofs.sizes.times.Goals as goal
 
--- `rule::sizes::times` meets its contract. Assumes nothing.
 pub overflow_mul-result : goal.overflow_mul-result
 overflow_mul-result c =
     let a = c.args in

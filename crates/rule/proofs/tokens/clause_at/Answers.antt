@@ -4,7 +4,6 @@ use Rattle.rule.proofs.TokenLists.{spans-of}
 use native.Mathlib.Omega.{arith}
 use Rattle.rule.proofs.tokens.clause_at.Goals as goal
 
--- `rule::tokens::clause_at` meets its contract: the word and the number are those of `clause_at`. Assumes nothing.
 pub slice_bounds-same_bytes-count : goal.slice_bounds-same_bytes-count
 slice_bounds-same_bytes-count c = (spans-of _ _ _ _ c.requires c.token_at-t.ensures).1
 

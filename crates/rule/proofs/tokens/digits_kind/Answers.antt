@@ -2,7 +2,6 @@
 use borrow.Author.Tests.{eq-eqb, ne_eqb}
 use Rattle.rule.proofs.tokens.digits_kind.Goals as goal
 
--- `rule::tokens::digits_kind` meets its contract, by the test. Assumes nothing.
 pub returns-then-width-eq0 : goal.returns-then-width-eq0
 returns-then-width-eq0 c = rw (eq-eqb _ _ c.if-width-eq0.true)
 

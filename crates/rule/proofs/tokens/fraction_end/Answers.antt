@@ -3,7 +3,6 @@ use native.Mathlib.Omega.{arith}
 use Rattle.rule.proofs.TokenFractions.{fraction_end, fraction-other, fraction-alone, fraction-here}
 use Rattle.rule.proofs.tokens.fraction_end.Goals as goal
 
--- `rule::tokens::fraction_end` meets its contract: each answer is the law of `fraction` for its case. Assumes nothing.
 pub returns-then-text-at : goal.returns-then-text-at
 returns-then-text-at c =
     (omega (arith, fraction_end c.args.text.now c.args.at c.if-text-at.true), c.requires)

@@ -4,7 +4,6 @@ use Rattle.rule.specs.Token.{longest_mark}
 use Rattle.rule.proofs.TokenMarks.{mark-alone, mark-none}
 use Rattle.rule.proofs.tokens.mark_of.Goals as goal
 
--- `rule::tokens::mark_of` meets its contract: in each arm the tests that led there say which mark it is. Assumes nothing.
 pub returns-then-n-eq62 : goal.returns-then-n-eq62
 unfolding longest_mark
 returns-then-n-eq62 c = simp (c.in-45.is, eq-eqb _ _ c.if-n-eq62.true)

@@ -3,7 +3,6 @@ use borrow.Author.Tests.{le-leb, lt-leb}
 use Rattle.rule.specs.Token.{mark_width}
 use Rattle.rule.proofs.tokens.mark_width.Goals as goal
 
--- `rule::tokens::mark_width` meets its contract, by the tests. Assumes nothing.
 pub returns-then-kind-lt-ARROW_KIND : goal.returns-then-kind-lt-ARROW_KIND
 unfolding mark_width
 returns-then-kind-lt-ARROW_KIND c = simp (lt-leb _ _ c.if-kind-lt-ARROW_KIND.true)

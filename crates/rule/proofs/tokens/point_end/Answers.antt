@@ -2,7 +2,6 @@
 use native.Mathlib.Omega.{arith}
 use Rattle.rule.proofs.tokens.point_end.Goals as goal
 
--- `rule::tokens::point_end` meets its contract, by the test. Assumes nothing.
 pub returns-then-points : goal.returns-then-points
 returns-then-points c = rw c.if-points.true c.fraction_end.ensures
 

@@ -5,7 +5,6 @@ use Rattle.rule.proofs.TokenNext.{none, word, digits, mark-here, foreign-here}
 use native.Mathlib.Omega.{arith}
 use Rattle.rule.proofs.tokens.token_at.Goals as goal
 
--- `rule::tokens::token_at` meets its contract: each answer is the law of `Here` for its class. Assumes nothing.
 pub returns-then-text-s : goal.returns-then-text-s
 returns-then-text-s c = none _ _ _ _ c.run_end-s.ensures.0 c.if-text-s.true
 
