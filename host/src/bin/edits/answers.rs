@@ -1,5 +1,7 @@
 //! Answers to goals whose names an edit changed.
 
+use std::collections::BTreeSet;
+
 /// A proof's text without some answers: each from the line with its type to the next empty line.
 pub fn without(text: &str, answers: &[String]) -> String {
     let begins = |line: &str| {
@@ -38,6 +40,17 @@ pub fn renamed(text: &str, answers: &[String], goals: &[&str]) -> String {
         }
     }
     text
+}
+
+/// A proof's text with other conditions for those that it names; one that it names already is not put for another.
+pub fn with_conditions(text: &str, names: &BTreeSet<(String, String)>) -> String {
+    let mut made = text.to_string();
+    for (old, new) in names {
+        if !text.contains(&format!("if-{new}")) {
+            made = with_words(&made, old, new);
+        }
+    }
+    made
 }
 
 /// A goal's name up to the words of a condition, as `returns-then-`, and these words.
@@ -121,5 +134,15 @@ mod tests {
             .replace("k-eq2", "j-LEAST")
             .replace("j-LEAST1", "k-eq21");
         assert_eq!(renamed(TEXT, &names(), &goals), expected);
+    }
+
+    #[test]
+    fn a_condition_that_is_named_already_is_not_put_for_another() {
+        let names = |new: &str| BTreeSet::from([("k-eq2".to_string(), new.to_string())]);
+        assert_eq!(
+            with_conditions(TEXT, &names("k-m")),
+            TEXT.replace("k-eq2", "k-m").replace("k-m1", "k-eq21")
+        );
+        assert_eq!(with_conditions(TEXT, &names("k-eq21")), TEXT);
     }
 }

@@ -1,6 +1,6 @@
 //! What the prover refused, from its log.
 
-use std::collections::BTreeMap;
+use std::collections::{BTreeMap, BTreeSet};
 use std::fmt;
 
 /// A part of a proof that the prover refused.
@@ -55,6 +55,24 @@ pub fn gone(log: &str) -> BTreeMap<String, Vec<String>> {
 /// The answers of a log that name what is no longer known there, by their files.
 pub fn unfit(log: &str) -> BTreeMap<String, Vec<String>> {
     answers(log, |_, why| why.contains("has no field"))
+}
+
+/// The conditions that the answers of a log name and that are no longer known there, each with the one that is nearest to it, by
+/// files: `record `R` has no field `if-OLD` (nearest: .if-NEW, ..)`.
+pub fn steps(log: &str) -> BTreeMap<String, BTreeSet<(String, String)>> {
+    let mut all: BTreeMap<String, BTreeSet<(String, String)>> = BTreeMap::new();
+    for (file, _, _, why) in log.lines().filter_map(error) {
+        let names = why.split_once("has no field `if-").and_then(|(_, why)| {
+            let (old, why) = why.split_once('`')?;
+            let new = why.strip_prefix(" (nearest: .if-")?;
+            Some((old, &new[..new.find([',', ')'])?]))
+        });
+        if let (true, Some((old, new))) = (file.ends_with("/Answers.antt"), names) {
+            let names = (old.to_string(), new.to_string());
+            all.entry(file.to_string()).or_default().insert(names);
+        }
+    }
+    all
 }
 
 /// The answers of a log that are refused for a reason of a kind.
@@ -138,6 +156,17 @@ mod tests {
             fact("proofs/b/k/Answers.antt", "returns", ""),
         ];
         assert_eq!(facts(LOG), expected);
+    }
+
+    #[test]
+    fn a_condition_can_have_another_name() {
+        let log = "./proofs/f/Answers.antt:2:1: error: `r`: record `c.F` has no field `if-n-last` (nearest: .if-n-low, .if-n)\n\
+            ./proofs/f/Answers.antt:3:1: error: `s`: record `c.F` has no field `loop-n` (nearest: .loop-m)\n";
+        let expected = BTreeSet::from([("n-last".to_string(), "n-low".to_string())]);
+        assert_eq!(
+            steps(log),
+            BTreeMap::from([("proofs/f/Answers.antt".to_string(), expected)])
+        );
     }
 
     #[test]

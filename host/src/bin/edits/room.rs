@@ -52,12 +52,23 @@ impl Room {
             was.entry(change.file.clone()).or_insert(text);
         }
         let mut log = self.check(name);
+        let steps = facts::steps(&log);
+        if !steps.is_empty() {
+            for (file, names) in &steps {
+                let text = self.text(name, file);
+                self.write(name, file, &answers::with_conditions(&text, names));
+                was.entry(file.clone()).or_insert(text);
+            }
+            log = self.check(name);
+        }
         let gone = facts::gone(&log);
         if !gone.is_empty() {
+            let mut texts = BTreeMap::new();
             for file in gone.keys() {
                 let text = self.text(name, file);
                 std::fs::remove_file(self.path(name, file)).expect("a file of answers");
-                was.entry(file.clone()).or_insert(text);
+                was.entry(file.clone()).or_insert(text.clone());
+                texts.insert(file, text);
             }
             let open = facts::facts(&self.check(name));
             for (file, answers) in &gone {
@@ -66,7 +77,7 @@ impl Room {
                     .filter(|fact| fact.file == *file)
                     .map(|fact| fact.name.as_str())
                     .collect();
-                self.write(name, file, &answers::renamed(&was[file], answers, &goals));
+                self.write(name, file, &answers::renamed(&texts[file], answers, &goals));
             }
             log = self.check(name);
         }
