@@ -21,11 +21,15 @@ impl fmt::Display for Fact {
 }
 
 /// What says that a declaration only waits for another one, or that a proof no longer fits the code.
-const NO_FACT: [&str; 4] = [
+const NO_FACT: [&str; 8] = [
     "was not admitted",
     "has no `",
     "has no field",
     "is not in scope",
+    "replace that `_`",
+    "was not determined",
+    "unsolved",
+    "write the clause",
 ];
 
 /// The facts of a log, each declaration once.

@@ -55,9 +55,9 @@ impl Room {
         let steps = facts::steps(&log);
         if !steps.is_empty() {
             for (file, names) in &steps {
-                let text = self.text(name, file);
-                self.write(name, file, &answers::with_conditions(&text, names));
-                was.entry(file.clone()).or_insert(text);
+                self.change(name, file, &mut was, |text| {
+                    answers::with_conditions(text, names)
+                });
             }
             log = self.check(name);
         }
@@ -84,9 +84,7 @@ impl Room {
         let unfit = facts::unfit(&log);
         if !unfit.is_empty() {
             for (file, answers) in &unfit {
-                let text = self.text(name, file);
-                self.write(name, file, &answers::without(&text, answers));
-                was.entry(file.clone()).or_insert(text);
+                self.change(name, file, &mut was, |text| answers::without(text, answers));
             }
             log = self.check(name);
         }
@@ -100,6 +98,19 @@ impl Room {
                 .is_some_and(|answers| answers.contains(&fact.name))
         });
         facts
+    }
+
+    /// Changes a file's text; the text that it had first is kept.
+    fn change(
+        &self,
+        name: &str,
+        file: &str,
+        was: &mut BTreeMap<String, String>,
+        new: impl Fn(&str) -> String,
+    ) {
+        let text = self.text(name, file);
+        self.write(name, file, &new(&text));
+        was.entry(file.to_string()).or_insert(text);
     }
 
     /// What `rt check` says of a crate. A check that comes to no verdict, as one that is killed, is made once more.
