@@ -88,7 +88,7 @@ fn missing(text: &str) -> Vec<String> {
             .filter_map(|file| std::fs::read_to_string(Path::new(TOP).join(file)).ok())
             .collect();
         for name in names {
-            // An ending of the name before it, as in `good-stays_open`, `-feed`.
+            // An ending of the name before it, as in `refused-unchanged`, `-feed`.
             let ending = name.starts_with('-');
             let word = |text: &String| {
                 if ending {
