@@ -97,10 +97,10 @@ extern "C" {
 
 /* Reading a text of depth at most 16. A deeper one is no rule. Depth is how many groups, `!` and `->` stand around a point of the
  * text; docs/RULES.md has it exactly. */
-#define DILLPLATTER_STACK_READ 49152
+#define DILLPLATTER_STACK_READ 8192
 
 /* Reading any text. One with 1,000 opening braces takes a thousand levels: a text that is too deep is still read to its end. */
-#define DILLPLATTER_STACK_READ_ANY 1500000
+#define DILLPLATTER_STACK_READ_ANY 204800
 
 /* ---- answers and refusals ---- */
 
@@ -298,7 +298,7 @@ typedef struct dillplatter_charged {
  * that holds of the whole text.
  * Writes: where read, all 512 bytes of `frames`: the rule's frames, and zero after the last. Where refused, none.
  * Memory: `text` is only read. Both are the caller's, before and after. They must not overlap.
- * Stack: count on DILLPLATTER_STACK_READ bytes for a text of depth at most 16, and on DILLPLATTER_STACK_READ_ANY, over 1 MB, for any
+ * Stack: count on DILLPLATTER_STACK_READ bytes for a text of depth at most 16, and on DILLPLATTER_STACK_READ_ANY, about 200 KB, for any
  * text. Where the stack is small, read rules elsewhere, as on another machine or when the controller is built: keep the frames, and
  * call only dillplatter_open or dillplatter_open_board, which check them again, whatever they are. */
 dillplatter_reading dillplatter_read(const uint8_t *text, size_t text_len, uint8_t *frames, size_t frames_len);

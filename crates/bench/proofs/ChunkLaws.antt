@@ -1,21 +1,20 @@
 -- The log in chunks: 35 bytes decide a line, a line may be cut anywhere, and the chunks' lines are the log's. Assumes nothing.
-use Rattle.std.proofs.Common.{◌≡◌, ℕ, zero, suc, ◌+◌, ◌-◌, ◌<◌, ◌≤◌, min, Bool, true, false, cond, eqb, ltb, List, [], ◌∷◌, ◌++◌, length, take, drop, ℤ, sym, refl, ap, ◌∙◌, append_assoc, append-nil, arith, length-append, length-drop, drop_of_length-le, length-take, length-take-le, take_all, take-take, drop-drop, ltb-false, ltb-true, lt-ltb}
+use Rattle.std.proofs.Common.{◌≡◌, ℕ, zero, suc, ◌+◌, ◌-◌, ◌<◌, ◌≤◌, min, Bool, true, false, cond, eqb, ltb, List, [], ◌∷◌, ◌++◌, length, take, drop, ℤ, sym, refl, ap, ◌∙◌, subst, append_assoc, append-nil, arith, length-append, length-drop, drop_of_length-le, length-take, length-take-le, take_all, take-take, drop-drop, ltb-false, ltb-true, lt-ltb}
+use Rattle.std.specs.Prelude.{Option, Some, None}
 use native.Mathlib.Decide.{dec_lt}
 use lib.Seq.{take-append-le}
 use Rattle.log_lines.specs.Digit.{is_digit}
 use Rattle.log_lines.specs.Line.{LineAnswer, digits_at_front, bad_place, line_of, refused}
 use Rattle.log_lines.specs.Walk.{to_lf, end_of, line_at}
-use Rattle.log_lines.specs.declared.walk.Found.TheVariants.{Line, End}
-use Rattle.log_lines.proofs.Main.{line-of-other, end_of_within}
+use Rattle.log_lines.specs.declared.walk.Span.{Span}
+use Rattle.log_lines.proofs.Main.{line-of-other, end_of_within, line-within}
 use Rattle.checker.specs.Admission.{Admission, admitted, barred, admission}
 use Rattle.checker.specs.Feed.{fed_by, line_in, fed_if, feed_def}
-use Rattle.checker.specs.Ready.{Ready}
 use Rattle.checker.specs.declared.State.{State}
 use Rattle.bench.specs.Kept.{kept_limit, held_with}
-use Rattle.bench.specs.Progress.{Progress, Chunked, fed_line, after_line, after_bytes, last_line}
-use Rattle.bench.specs.Carried.{out_bytes, roomy, before, After, chunked_of, AfterChunked}
-use Rattle.bench.specs.declared.Run.{Run}
-use Rattle.bench.proofs.RunLaws.{after-refl, after_trans, line_grows, line_before}
+use Rattle.bench.specs.Progress.{Progress, Chunked, fed_line, after_line, after_bytes}
+use Rattle.bench.specs.Carried.{roomy, before, After, AfterChunked}
+use Rattle.bench.proofs.RunLaws.{after_trans, line_grows, line_before}
 
 -- ---- 35 bytes decide a line
 digits-take : (n : ℕ) (l : List ℕ) → digits_at_front (take n l) ≡ min n (digits_at_front l)
@@ -77,7 +76,7 @@ kept-short s = omega (arith, length-take kept_limit s)
 abbrev holding : Progress → List ℕ → Chunked
 holding x h = record { progress = x; held = h }
 
-pub split-line : (x : Progress) (h r : List ℕ) → to_lf r < length r
+split-line : (x : Progress) (h r : List ℕ) → to_lf r < length r
     → after_bytes (holding x h) r ≡ after_bytes (holding (after_line x (h ++ take (to_lf r) r)) []) (drop (suc (to_lf r)) r)
 unfolding after_bytes to_lf
 split-line x h [] l = absurd (omega arith)
@@ -96,15 +95,22 @@ split-line x h (b ∷ r) l = go (eqb b 10) l (split-line x (held_with h (b ∷ [
         i (omega arith)
         ∙ ap (λ (y : Progress). after_bytes (holding y []) (drop (suc (to_lf r)) r)) (whole (take (to_lf r) r))
 
-pub split-none : (x : Progress) (h r : List ℕ) → length h ≤ kept_limit → to_lf r ≡ length r → after_bytes (holding x h) r ≡ holding x (held_with h r)
+none_next : (x : Progress) (h : List ℕ) (b : ℕ) (r : List ℕ) (t : Bool) → cond t 0 (suc (to_lf r)) ≡ suc (length r)
+    → (to_lf r ≡ length r → after_bytes (holding x (held_with h (b ∷ []))) r ≡ holding x (held_with (held_with h (b ∷ [])) r))
+    → after_bytes (cond t (holding (after_line x h) []) (holding x (held_with h (b ∷ [])))) r ≡ holding x (held_with h (b ∷ r))
+none_next x h b r true m i = absurd (omega arith)
+none_next x h b r false m i = i (omega arith) ∙ ap (holding x) (held_with_next h b r)
+
+split-none : (x : Progress) (h r : List ℕ) → length h ≤ kept_limit → to_lf r ≡ length r → after_bytes (holding x h) r ≡ holding x (held_with h r)
 unfolding after_bytes to_lf
 split-none x h [] l e = ap (holding x) (sym (ap (take kept_limit) (append-nil h) ∙ take_all kept_limit h l))
-split-none x h (b ∷ r) l e = go (eqb b 10) e (split-none x (held_with h (b ∷ [])) r (kept-short (h ++ (b ∷ []))))
-  where
-    go : (t : Bool) → cond t 0 (suc (to_lf r)) ≡ suc (length r) → (to_lf r ≡ length r → after_bytes (holding x (held_with h (b ∷ []))) r ≡ holding x (held_with (held_with h (b ∷ [])) r))
-        → after_bytes (cond t (holding (after_line x h) []) (holding x (held_with h (b ∷ [])))) r ≡ holding x (held_with h (b ∷ r))
-    go true m i = absurd (omega arith)
-    go false m i = i (omega arith) ∙ ap (holding x) (held_with_next h b r)
+split-none x h (b ∷ r) l e = none_next x h b r (eqb b 10) e (split-none x (held_with h (b ∷ [])) r (kept-short (h ++ (b ∷ []))))
+
+-- whatever is held, if something is left
+split-some : (x : Progress) (h r : List ℕ) → 0 < length r → to_lf r ≡ length r → after_bytes (holding x h) r ≡ holding x (held_with h r)
+unfolding after_bytes to_lf
+split-some x h [] l e = absurd (omega arith)
+split-some x h (b ∷ r) l e = none_next x h b r (eqb b 10) e (split-none x (held_with h (b ∷ [])) r (kept-short (h ++ (b ∷ []))))
 
 -- ---- what was written before stays in front
 abbrev before_open : List ℕ → Chunked → Chunked
@@ -134,34 +140,43 @@ bytes_grow o (b ∷ s) = go (eqb b 10) (λ p. bytes_grow p s)
     go true i = let g = line_grows o.progress o.held in let j = i (holding (after_line o.progress o.held) []) in omega arith
     go false i = i (holding o.progress (held_with o.held (b ∷ [])))
 
-pub open_refl : (o : Chunked) → AfterChunked o o
-open_refl o = record { progress = after-refl o.progress; held = refl }
-
 -- ---- the loop over a chunk's lines
--- what `line_at` finds inside a log
-pub found_at : (s : List ℕ) (at a e n : ℕ) → at < length s → line_at s at ≡ Line a e n
-    → (a ≡ at) × ((e ≡ end_of s at) × (n ≡ cond (ltb (end_of s at) (length s)) (end_of s at + 1) (end_of s at)))
+-- what `line_at` finds inside a log: where a line starts and ends, and where the next starts
+abbrev Found : List ℕ → (at b e n : ℕ) → Type 0
+Found s at b e n = (b ≡ at) × ((e ≡ end_of s at) × (n ≡ cond (ltb (end_of s at) (length s)) (end_of s at + 1) (end_of s at)))
+
+found_below : (s : List ℕ) (at : ℕ) (l : Span) → line_at s at ≡ Some l → at < length s
+found_below s at l f = omega (arith, line-within s at l f)
+
+found_at : (s : List ℕ) (at : ℕ) (l : Span) → line_at s at ≡ Some l → Found s at l.start l.end l.next
 unfolding line_at
-found_at s at a e n h f =
+found_at s at l f =
+    let h : at < length s = found_below s at l f in
     let g = rw (lt-ltb at (length s) h) at f in
     (cc, (cc, cc))
 
-pub never-end : (s : List ℕ) (at : ℕ) → at < length s → line_at s at ≡ End → ⊥
+-- a line within the log
+pub span_in : (s : List ℕ) (at : ℕ) (l : Span) {o : Option Span} → o ≡ line_at s at → o ≡ Some l
+    → (l.start ≤ l.end) × (l.end ≤ length s) × (at < l.next) × (l.next ≤ length s)
+span_in s at l p q = line-within s at l (sym p ∙ q)
+
+pub end-past : (s : List ℕ) (at : ℕ) → line_at s at ≡ None → length s ≤ at
 unfolding line_at
-never-end s at h f =
-    let g = rw (lt-ltb at (length s) h) at f in
-    let z : ◌≡◌ {A = ℕ} 0 1 = cc in
-    omega arith
+end-past s at f =
+    elim (dec_lt at (length s)) [
+      | yes h ↦
+          let g = rw (lt-ltb at (length s) h) at f in
+          let z : ◌≡◌ {A = ℕ} 0 1 = cc in
+          omega arith
+      | no h ↦ omega arith
+    ]
 
 -- a line that ends in the chunk
-pub chunk_line : (s : List ℕ) (at b e n : ℕ) → line_at s at ≡ Line b e n → at < length s → e < n
+chunk_line : (s : List ℕ) (at b e n : ℕ) → Found s at b e n → at < length s → e < n
     → (want : Chunked) (x : Progress) (h : List ℕ) (y : Progress) → AfterChunked want (after_bytes (holding x h) (drop at s))
     → After (after_line x (h ++ take (e - b) (drop b s))) y → AfterChunked want (after_bytes (holding y []) (drop n s))
-chunk_line s at b e n f l m want x h y w a = go (ltb (end_of s at) (length s)) refl found.1.1
+chunk_line s at b e n found l m want x h y w a = go (ltb (end_of s at) (length s)) refl found.1.1
   where
-    found : (b ≡ at) × ((e ≡ end_of s at) × (n ≡ cond (ltb (end_of s at) (length s)) (end_of s at + 1) (end_of s at)))
-    found = found_at s at b e n l f
-
     go : (t : Bool) → ltb (end_of s at) (length s) ≡ t → n ≡ cond t (end_of s at + 1) (end_of s at) → AfterChunked want (after_bytes (holding y []) (drop n s))
     go false d c = absurd (omega (arith, found.1.0))
     go true d c =
@@ -187,16 +202,23 @@ chunk_line s at b e n f l m want x h y w a = go (ltb (end_of s at) (length s)) r
           held = j.held;
         }
 
--- the rest of a chunk
-pub chunk_rest : (s : List ℕ) (at b e n : ℕ) → line_at s at ≡ Line b e n → at < length s → n ≤ e
-    → (want : Chunked) (x : Progress) (h : List ℕ) → length h ≤ kept_limit → AfterChunked want (after_bytes (holding x h) (drop at s))
-    → AfterChunked want (holding x (held_with h (take (e - b) (drop b s))))
-chunk_rest s at b e n f l m want x h k w = go (ltb (end_of s at) (length s)) refl found.1.1
-  where
-    found : (b ≡ at) × ((e ≡ end_of s at) × (n ≡ cond (ltb (end_of s at) (length s)) (end_of s at + 1) (end_of s at)))
-    found = found_at s at b e n l f
+pub line_ended : (s : List ℕ) (at : ℕ) (l : Span) → line_at s at ≡ Some l → l.end < l.next → (want o q : Chunked) → AfterChunked want (after_bytes o (drop at s))
+    → After (after_line o.progress (o.held ++ take (l.end - l.start) (drop l.start s))) q.progress → q.held ≡ [] → AfterChunked want (after_bytes q (drop l.next s))
+line_ended s at l f m want o q w a h =
+    let c = chunk_line s at l.start l.end l.next (found_at s at l f) (found_below s at l f) m want o.progress o.held q.progress w a in
+    subst (λ (k : List ℕ). AfterChunked want (after_bytes (holding q.progress k) (drop l.next s))) (sym h) c
 
-    go : (t : Bool) → ltb (end_of s at) (length s) ≡ t → n ≡ cond t (end_of s at + 1) (end_of s at) → AfterChunked want (holding x (held_with h (take (e - b) (drop b s))))
+pub bytes-done : (s : List ℕ) (at : ℕ) (o : Chunked) → length s ≤ at → after_bytes o (drop at s) ≡ o
+unfolding after_bytes
+bytes-done s at o h = rw (drop_of_length-le s h)
+
+-- the rest of a chunk
+chunk_rest : (s : List ℕ) (at b e n : ℕ) → Found s at b e n → at < length s → n ≤ e
+    → (want : Chunked) (x : Progress) (h : List ℕ) → AfterChunked want (after_bytes (holding x h) (drop at s))
+    → (length s ≤ n) × AfterChunked want (holding x (held_with h (take (e - b) (drop b s))))
+chunk_rest s at b e n found l m want x h w = go (ltb (end_of s at) (length s)) refl found.1.1
+  where
+    go : (t : Bool) → ltb (end_of s at) (length s) ≡ t → n ≡ cond t (end_of s at + 1) (end_of s at) → (length s ≤ n) × AfterChunked want (holding x (held_with h (take (e - b) (drop b s))))
     go true d c = absurd (omega (arith, found.1.0))
     go false d c =
         let o = ltb-false (end_of s at) (length s) d in
@@ -205,24 +227,10 @@ chunk_rest s at b e n f l m want x h k w = go (ltb (end_of s at) (length s)) ref
         let g : length r ≡ length s - at = length-drop at s in
         let u : to_lf r ≡ length r = omega arith in
         let i : take (e - b) (drop b s) ≡ r = rw found.0 (take_all (e - at) r (omega (arith, found.1.0))) in
-        rw i (rw (split-none x h r k u) at w)
+        (omega arith, rw i (rw (split-some x h r (omega arith) u) at w))
 
-pub bytes-done : (s : List ℕ) (at : ℕ) (o : Chunked) → length s ≤ at → after_bytes o (drop at s) ≡ o
-unfolding after_bytes
-bytes-done s at o h = rw (drop_of_length-le s h)
-
--- ---- the last line
-pub last-held : (x : Progress) (l : List ℕ) → 0 < length l → last_line x l ≡ after_line x l
-last-held x [] h = absurd (omega arith)
-last-held x (b ∷ bs) h = refl
-
--- ---- what the loop over a chunk keeps
-pub record Walked (frames carry0 : List ℕ) (win0 : List ℤ) (out0 s : List ℕ) (q0 : Run) (carry : List ℕ) (win : List ℤ) (out : List ℕ) (q : Run) (at : ℕ) : Type 0 where
-  pub within : at ≤ length s
-  pub ready : Ready frames q.fields win
-  pub full : q.full ≤ out_bytes
-  pub held : q.held ≤ kept_limit
-  pub carry_long : length carry ≡ kept_limit
-  pub win_long : length win ≡ length win0
-  pub out-long : length out ≡ out_bytes
-  pub same : AfterChunked (after_bytes (chunked_of frames q0 carry0 win0 out0) s) (after_bytes (chunked_of frames q carry win out) (drop at s))
+pub line_rests : (s : List ℕ) (at : ℕ) (l : Span) → line_at s at ≡ Some l → l.next ≤ l.end → (want o : Chunked) → AfterChunked want (after_bytes o (drop at s))
+    → (k : List ℕ) → k ≡ held_with o.held (take (l.end - l.start) (drop l.start s)) → AfterChunked want (after_bytes (holding o.progress k) (drop l.next s))
+line_rests s at l f m want o w k h =
+    let r = chunk_rest s at l.start l.end l.next (found_at s at l f) (found_below s at l f) m want o.progress o.held w in
+    rw (bytes-done s l.next (holding o.progress k) r.0, h) r.1

@@ -7,7 +7,7 @@ use Rattle.rule.specs.ReadTold as reading
 use Rattle.log_lines.specs.Digit.{hex_digit}
 use Rattle.log_lines.specs.Pair.{pair_of}
 use Rattle.log_lines.specs.Walk.{lines_of}
-use Rattle.log_lines.specs.declared.digit.Pair.TheVariants.{Byte}
+use Rattle.std.specs.Prelude.{Some}
 use Rattle.verdict.specs.declared.Verdict.TheVariants.{False}
 use Rattle.checker.specs.Answer.{opened, verdict}
 use Rattle.checker.specs.State.{state_frames, refs_in}
@@ -83,5 +83,5 @@ pub report-whole : (s : State) (win : List ℤ) → (pull_def s win empty_report
 report-whole = Whole.report-printed
 
 -- two printed digits are the byte, as a log line's digits are read
-pub digits-back : (b : ℕ) → b < 256 → pair_of (hex_digit (b / 16)) (hex_digit (b % 16)) ≡ Byte b
+pub digits-back : (b : ℕ) → b < 256 → pair_of (hex_digit (b / 16)) (hex_digit (b % 16)) ≡ Some b
 digits-back = Whole.hex_back

@@ -9,46 +9,35 @@ use Rattle.rule.proofs.Main.{read-bytes}
 use Rattle.verdict.specs.Found.{instance_limit}
 use Rattle.verdict.specs.Settled.{judgement}
 use Rattle.verdict.specs.declared.Verdict.{Verdict}
-use Rattle.verdict.specs.declared.Judgement.{Judgement}
-use Rattle.verdict.specs.declared.Judgement.TheVariants.{Unsettled, True, False, Unknown}
+use Rattle.std.specs.Prelude.{Option, Some, None}
 use Rattle.checker.specs.Answer.{waiting, verdict}
-use Rattle.checker.specs.State.{state_frames, rule_in, with_tally, SameRule}
+use Rattle.checker.specs.State.{rule_in, with_tally}
 use Rattle.checker.specs.Open.{OpenResult, open_def}
-use Rattle.checker.specs.Admission.{admitted, admission}
 use Rattle.checker.specs.StateTest.{state_passes}
 use Rattle.checker.specs.Demand.{Unrefused}
-use Rattle.checker.specs.Feed.{feed_def}
 use Rattle.checker.specs.Pull.{offered, pull_read, PullResult, given_here, pulled_by, pull_def}
 use Rattle.checker.specs.declared.Profile.TheVariants.{Desk}
 use Rattle.checker.specs.declared.State.{State}
 use Rattle.checker.proofs.Main.{passes_exactly}
-use Rattle.checker.proofs.Laws.{both-opened, in_good, opened-stays, fed-stays, pulled-stays, feed-rule, pull-rule}
+use Rattle.checker.proofs.Laws.{both-opened, in_good, opened-stays}
 use Rattle.bench.specs.Progress.{Progress, empty_report, pull_of, is_verdict, pulled_once, UntilWaiting, last, more, pulls, pull_limit, fed_line, after_line, after_lines}
 use Rattle.bench.specs.Output.{bench_width, before_log, begun, opened_for}
+use Rattle.bench.specs.Carried.{LetIn}
+use Rattle.bench.proofs.RunLaws.{pulled_in, fed_in}
 use Rattle.bench.proofs.Whole.{read_opened}
-
--- ---- what 12, 13 and 27 let through
-pub record LetIn (x : Progress) : Type 0 where
-  pub admits : admission x.state x.words ≡ admitted
-  pub bytes : Bytes (state_frames x.state)
 
 low : (s : State) → state_passes s ≡ true → s.next.0 ≤ instance_limit
 low s g = ((passes_exactly s).0 g).few_verdicts
-
-same-frames : (s t : State) → SameRule s t → state_frames t ≡ state_frames s
-same-frames s t r = rw (r.frames, r.len)
 
 -- ---- one pull: 'waiting', or a verdict that raises p by 1
 data Pulled (p : ℕ) (r : PullResult) : Type 0 where
   waited : r.answer ≡ waiting → Pulled p r
   given : (v : Verdict) → r.answer ≡ verdict v → r.state.next.0 ≡ p + 1 → Pulled p r
 
-pulled-by : (s : State) (win : List ℤ) (j : Judgement) → Pulled s.next.0 (pulled_by s win empty_report (offered j))
+pulled-by : (s : State) (win : List ℤ) (j : Option Verdict) → Pulled s.next.0 (pulled_by s win empty_report (offered j))
 unfolding with_tally
-pulled-by s win Unsettled = waited refl
-pulled-by s win True = given Verdict.True refl refl
-pulled-by s win False = given Verdict.False refl refl
-pulled-by s win Unknown = given Verdict.Unknown refl refl
+pulled-by s win None = waited refl
+pulled-by s win (Some v) = given v refl refl
 
 next-once : (x : Progress) → (pulled_once x).state.next.0 ≡ (pull_of x).state.next.0
 unfolding pulled_once
@@ -63,19 +52,11 @@ module _ (x : Progress) (s : LetIn x) where
 
   in_pulled : LetIn (pulled_once x)
   unfolding pulled_once
-  in_pulled =
-      record {
-        admits = pulled-stays x.state x.words s.admits s.bytes empty_report;
-        bytes = subst Bytes (sym (same-frames x.state (pull_of x).state (pull-rule x.state x.words empty_report))) s.bytes;
-      }
+  in_pulled = pulled_in x s x.counts _ refl
 
   in_fed : (line : List ℕ) → LetIn (fed_line x line)
   unfolding fed_line
-  in_fed line =
-      record {
-        admits = fed-stays x.state x.words s.admits line;
-        bytes = subst Bytes (sym (same-frames x.state (feed_def x.state x.words line).state (feed-rule x.state x.words line))) s.bytes;
-      }
+  in_fed line = fed_in x s _ x.said line refl
 
 -- ---- as many as are enough
 until : (k : ℕ) (x : Progress) → LetIn x → instance_limit < k + x.state.next.0 → UntilWaiting x (pulls k x)

@@ -8,15 +8,14 @@ use Rattle.rule.specs.CheckTold as checking
 use Rattle.rule.specs.Meaning.{meaning}
 use Rattle.rule.specs.Reading.{read_of}
 use Rattle.rule.specs.ReadTold.{ReadAnswer, read_told}
-use Rattle.rule.specs.declared.Reading.{Reading}
-use Rattle.rule.specs.declared.Reading.TheVariants.{Frames}
+use Rattle.rule.specs.declared.Refusal.{Refusal}
+use Rattle.std.specs.Prelude.{Some, Result, Ok}
 use Rattle.rule.specs.ReadTold as reading
 use Rattle.rule.proofs.Main.{read-opens, reads_exactly}
 use Rattle.rule.proofs.Laws.{passed, bytes-length}
 use Rattle.log_lines.specs.Digit.{hex_digit}
 use Rattle.log_lines.specs.Pair.{pair_of}
 use Rattle.log_lines.specs.Walk.{onto, lines_of}
-use Rattle.log_lines.specs.declared.digit.Pair.TheVariants.{Byte}
 use Rattle.log_lines.proofs.Main.{digit-back}
 use Rattle.verdict.specs.Found.{Found}
 use Rattle.verdict.specs.declared.Verdict.TheVariants.{True, False, Unknown}
@@ -104,7 +103,7 @@ pub opened-handed-on : (o : OpenResult) (fields : Fields) → o.answer ≡ opene
 opened-handed-on o fields e f = ap₂ (λ (a : Answer) (s : State). record { answer = a; state = s; words = o.words }) (sym e) f
 
 -- there is room for the frames that were read
-pub read-room : (text b : List ℕ) (r : Reading) (n : ℕ) (s : List ℕ) → read_told r ≡ (read_of text b).0 → s ≡ (read_of text b).1 → r ≡ Frames n → n * frame_bytes ≤ length s
+pub read-room : (text b : List ℕ) (r : Result ℕ Refusal) (n : ℕ) (s : List ℕ) → read_told r ≡ (read_of text b).0 → s ≡ (read_of text b).1 → r ≡ Ok n → n * frame_bytes ≤ length s
 read-room text b r n s p w q =
     let e : read_of text b ≡ (reading.frames n, s) = ap₂ (λ (x : ReadAnswer) (y : List ℕ). (x, y)) (sym p ∙ ap read_told q) (sym w) in
     let x = ((reads_exactly text b n s).0 e).1 in
@@ -151,7 +150,7 @@ module _ (s : State) (win : List ℤ) where
       go (barred number) e = absurd (let z : ◌≡◌ {A = ℕ} 0 1 = cc in omega arith)
 
 -- ---- digits
-pub hex_back : (b : ℕ) → b < 256 → pair_of (hex_digit (b / 16)) (hex_digit (b % 16)) ≡ Byte b
+pub hex_back : (b : ℕ) → b < 256 → pair_of (hex_digit (b / 16)) (hex_digit (b % 16)) ≡ Some b
 unfolding pair_of
 hex_back b h =
     let i : b / 16 < 16 = omega arith in

@@ -3,7 +3,7 @@ use Rattle.std.specs.Prelude.{ℕ, ◌+◌, ◌*◌, ◌/◌, ◌%◌, List, [],
 use Rattle.rule.specs.Tree.{word_bytes}
 use Rattle.log_lines.specs.Digit.{hex_digit}
 use Rattle.checker.specs.declared.Totals.{Totals}
-use Rattle.bench.specs.declared.Counts.{Counts}
+use Rattle.bench.specs.declared.run.Counts.{Counts}
 
 -- two digits for each byte, the high one first
 unfoldable pub hex_of : List ℕ → List ℕ

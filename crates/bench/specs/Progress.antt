@@ -10,7 +10,7 @@ use Rattle.checker.specs.Pull.{PullResult, pull_def}
 use Rattle.checker.specs.declared.State.{State}
 use Rattle.bench.specs.Print.{hex_line, report_part}
 use Rattle.bench.specs.Kept.{held_with}
-use Rattle.bench.specs.declared.Counts.{Counts}
+use Rattle.bench.specs.declared.run.Counts.{Counts}
 
 -- how far the program has come: the checker's state and window, the counts of lines, and all that it has printed
 pub record Progress : Type 0 where

@@ -1,83 +1,65 @@
-// Lines of hexadecimal capitals, put into a buffer.
-ghost use Rattle.std.specs.Prelude.{◌≡◌, ◌+◌, ◌*◌, ◌<◌, ◌≤◌, [], ◌∷◌, length};
+// Lines of hexadecimal capitals.
+ghost use Rattle.std.specs.Prelude.{◌≡◌, ◌+◌, ◌*◌, ◌<◌, ◌≤◌, [], length};
 ghost use Rattle.std.proofs.lemmas.List.Edits.{sets};
 ghost use Rattle.rule.specs.Tree.{word_bytes};
+ghost use Rattle.checker.specs.Refusals.{refusal_number, refusal_place};
 ghost use Rattle.log_lines.specs.Digit.{hex_digit};
-ghost use Rattle.bench.specs.Print.{hex_of, hex_line, totals_line, refused_line};
+ghost use Rattle.bench.specs.Print.{hex_line, totals_bytes, refused_line};
 
-use crate::Counts;
-use checker::Totals;
-use rule::Refusal;
+use crate::run::Counts;
+use checker::{Refusal, Totals};
 
-// The digit of a number below 16.
+// The digit of a number below 16. By hand: `char::from_digit` answers with an Option of a `char`, a small letter.
 fn glyph(d: u8) -> u8
     requires { d < 16 }
     ensures { result ≡ hex_digit d }
 {
-    if d < 10 { 0x30 + d } else { 0x41 + (d - 10) }
+    if d < 10 { b'0' + d } else { b'A' + (d - 10) }
 }
 
-// A byte's two digits.
-fn put_byte(out: &mut [u8], at: usize, b: u8)
-    requires { at + 2 ≤ length out.old }
-    ensures { out.new ≡ sets out.old at (hex_of (b ∷ [])) }
-{
-    out[at] = glyph(b / 16);
-    out[at + 1] = glyph(b % 16);
-}
-
-// The bytes as a line at a place; answers the place after it.
+// Puts bytes as a line into a buffer; answers the place after it.
 pub fn put_line(out: &mut [u8], at: usize, bytes: &[u8]) -> usize
     requires { at + (2 * length bytes.now + 1) ≤ length out.old }
-    ensures { (result ≡ at + (2 * length bytes.now + 1))
-        × (out.new ≡ sets out.old at (hex_line bytes.now)) }
+    ensures place { result ≡ at + (2 * length bytes.now + 1) }
+    ensures line { out.new ≡ sets out.old at (hex_line bytes.now) }
 {
-    let mut n = at;
-    let mut i = 0;
-    while i < bytes.len() {
-        put_byte(out, n, bytes[i]);
-        n += 2;
-        i += 1;
+    for (k, &b) in bytes.iter().enumerate() {
+        out[at + 2 * k] = glyph(b / 16);
+        out[at + 2 * k + 1] = glyph(b % 16);
     }
-    out[n] = 10;
-    n + 1
+    let end = at + 2 * bytes.len();
+    out[end] = b'\n';
+    end + 1
 }
 
-// The four bytes of a number.
-fn put_word(out: &mut [u8], at: usize, w: u32)
-    requires { at + 8 ≤ length out.old }
-    ensures { out.new ≡ sets out.old at (hex_of (word_bytes w [])) }
+// The four bytes of a number, put at a place.
+fn put_word(bytes: &mut [u8], at: usize, w: u32)
+    requires { at + 4 ≤ length bytes.old }
+    ensures { bytes.new ≡ sets bytes.old at (word_bytes w []) }
 {
-    put_byte(out, at, (w / 256 / 256 / 256) as u8);
-    put_byte(out, at + 2, (w / 256 / 256 % 256) as u8);
-    put_byte(out, at + 4, (w / 256 % 256) as u8);
-    put_byte(out, at + 6, (w % 256) as u8);
+    bytes[at..at + 4].copy_from_slice(&w.to_be_bytes());
 }
 
-// The last line, at a place; answers the place after it.
-pub fn put_totals(out: &mut [u8], at: usize, totals: Totals, counts: Counts) -> usize
-    requires { at + 49 ≤ length out.old }
-    ensures { (result ≡ at + 49) × (out.new ≡ sets out.old at (totals_line totals counts)) }
+// The bytes of the last line.
+pub fn totals_bytes(totals: Totals, counts: Counts) -> [u8; 24]
+    ensures { result ≡ totals_bytes totals counts }
 {
-    put_word(out, at, totals.held);
-    put_word(out, at + 8, totals.failed);
-    put_word(out, at + 16, totals.unknown);
-    put_word(out, at + 24, counts.accepted);
-    put_word(out, at + 32, counts.ignored);
-    put_word(out, at + 40, counts.refused);
-    out[at + 48] = 10;
-    at + 49
+    let mut bytes = [0; 24];
+    put_word(&mut bytes, 0, totals.held);
+    put_word(&mut bytes, 4, totals.failed);
+    put_word(&mut bytes, 8, totals.unknown);
+    put_word(&mut bytes, 12, counts.accepted);
+    put_word(&mut bytes, 16, counts.ignored);
+    put_word(&mut bytes, 20, counts.refused);
+    bytes
 }
 
-// The line of a refused rule, at the buffer's start; answers the place after it.
-pub fn put_refused(out: &mut [u8], r: Refusal) -> usize
-    requires { 9 ≤ length out.old }
-    ensures { (result ≡ 9) × (out.new ≡ sets out.old 0 (refused_line r.number r.place)) }
+// The line of a refused rule.
+pub fn refused_line(why: Refusal) -> [u8; 9]
+    ensures { result ≡ refused_line (refusal_number why) (refusal_place why) }
 {
-    put_byte(out, 0, 0xee);
-    put_byte(out, 2, r.number);
-    put_byte(out, 4, (r.place / 256 % 256) as u8);
-    put_byte(out, 6, (r.place % 256) as u8);
-    out[8] = 10;
-    9
+    let [_, _, high, low] = why.place().to_be_bytes();
+    let mut line = [0; 9];
+    put_line(&mut line, 0, &[0xee, why.number(), high, low]);
+    line
 }

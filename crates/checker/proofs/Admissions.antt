@@ -5,11 +5,18 @@ use Rattle.checker.specs.Answer.{refused}
 use Rattle.checker.specs.Open.{window_fits}
 use Rattle.checker.specs.StateTest.{state_passes}
 use Rattle.checker.specs.Sum.{sum_of, sum_fits}
-use Rattle.checker.specs.Admission.{Admission, admitted, barred, admission, barred_with}
-use Rattle.checker.specs.Feed.{not_fed, fed_if, feed_def}
-use Rattle.checker.specs.Pull.{not_pulled, pulled_if, pull_def}
+use Rattle.checker.specs.Refusals.{refusal_number, refusal_place}
+use Rattle.checker.specs.Admission.{Admission, admitted, barred, admission}
+use Rattle.checker.specs.Feed.{not_fed, feed_def}
+use Rattle.checker.specs.Pull.{not_pulled, pull_def}
+use Rattle.checker.specs.declared.refusals.Refusal.{Refusal}
 use Rattle.checker.specs.declared.State.{State}
 use Rattle.checker.proofs.Choices.{cond_case}
+
+-- the number of what is turned down
+abbrev barred_with : Admission → ℕ
+barred_with admitted = 0
+barred_with (barred number) = number
 
 module _ (s : State) (win : List ℤ) where
   -- the cases of the three tests, in their order
@@ -69,9 +76,6 @@ module _ (s : State) (win : List ℤ) where
       (λ _ _ _ q. absurd (omega (arith, q)))
       (ap barred_with e)
 
-  pub none-barred : barred_with (admission s win) ≡ 0 → admission s win ≡ admitted
-  none-barred q = let t = through q in let_in t.0 t.1.0 t.1.1
-
   pub in_good : admission s win ≡ admitted → state_passes s ≡ true
   in_good e = (through (ap barred_with e)).0
 
@@ -82,18 +86,11 @@ module _ (s : State) (win : List ℤ) where
   in_sum e = eqb-true s.sum (sum_of win) (through (ap barred_with e)).1.1
 
   -- what is barred is refused, and nothing changes
-  pub feed-barred : (line : List ℕ) (n : ℕ) → n ≡ barred_with (admission s win) → (n ≡ 0 → ⊥) → not_fed s win (refused n 0) ≡ feed_def s win line
-  unfolding feed_def
-  feed-barred line n = go (admission s win)
-    where
-      go : (a : Admission) → n ≡ barred_with a → (n ≡ 0 → ⊥) → not_fed s win (refused n 0) ≡ fed_if s win line a
-      go admitted e z = absurd (z e)
-      go (barred number) e z = rw e
+  module _ (why : Refusal) (e : barred (refusal_number why) ≡ admission s win) (none : refusal_place why ≡ 0) where
+    pub feed-barred : (line : List ℕ) → not_fed s win (refused (refusal_number why) (refusal_place why)) ≡ feed_def s win line
+    unfolding feed_def
+    feed-barred line = rw (← e, none)
 
-  pub pull-barred : (buffer : List ℕ) (n : ℕ) → n ≡ barred_with (admission s win) → (n ≡ 0 → ⊥) → not_pulled s buffer (refused n 0) ≡ pull_def s win buffer
-  unfolding pull_def
-  pull-barred buffer n = go (admission s win)
-    where
-      go : (a : Admission) → n ≡ barred_with a → (n ≡ 0 → ⊥) → not_pulled s buffer (refused n 0) ≡ pulled_if s win buffer a
-      go admitted e z = absurd (z e)
-      go (barred number) e z = rw e
+    pub pull-barred : (buffer : List ℕ) → not_pulled s buffer (refused (refusal_number why) (refusal_place why)) ≡ pull_def s win buffer
+    unfolding pull_def
+    pull-barred buffer = rw (← e, none)

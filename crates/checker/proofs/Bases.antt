@@ -10,8 +10,8 @@ use Rattle.rule.specs.Tree.{Reference, LimitsR}
 use Rattle.rule.proofs.Laws.{AllWithin}
 use Rattle.numbers.proofs.Bools.{true-false}
 use Rattle.verdict.specs.Found.{meant_by, meant, pending, Lookup, resolve}
-use Rattle.verdict.specs.declared.Meant.{Meant}
-use Rattle.verdict.specs.declared.Meant.TheVariants.{Void, At}
+use Rattle.verdict.specs.declared.Occurrence.{Occurrence}
+use Rattle.std.specs.Prelude.{Option, Some, None}
 use Rattle.verdict.proofs.Laws.{resolve-late}
 use Rattle.checker.specs.Base.{of_event, is_some, referenced, or_zero, start_at, smallest, base}
 use Rattle.checker.specs.Base.{ReferenceTo, Referenced, Maximum, SmallestStart}
@@ -49,10 +49,6 @@ event_in_lem e (x ∷ xs) r m = go (eqb x.event e) refl m (event_in_lem e xs r)
 some_member : (l : List Reference) (r : Reference) → Memᴰ r l → is_some l ≡ true
 some_member [] r m = elim m [ ]
 some_member (x ∷ xs) r m = refl
-
-pub in_referenced : (refs : List Reference) (r : Reference) → Memᴰ r refs → referenced refs r.event ≡ true
-unfolding referenced
-in_referenced refs r m = some_member (of_event r.event refs) r (in_event r.event refs r refl m)
 
 some_one : (l : List Reference) → is_some l ≡ true → (r : Reference) × Memᴰ r l
 some_one [] q = absurd (true-false (sym q))
@@ -176,9 +172,9 @@ unfolding base
 base_mono refs e p q h = smallest_mono (start_at p) (start_at q) (λ r. start_mono r p q h) (of_event e refs)
 
 -- ---- the first instance at which a reference isn't void
-not_void : (m : Meant) → (m ≢ Void) ↔ (is_not_void m ≡ true)
-not_void Void = (λ n. absurd (n refl), λ q. absurd (true-false (sym q)))
-not_void (At k) = (λ n. refl, λ q z. true-false (ap is_not_void z))
+not_void : (m : Option Occurrence) → (m ≢ None) ↔ (is_not_void m ≡ true)
+not_void None = (λ n. absurd (n refl), λ q. absurd (true-false (sym q)))
+not_void (Some k) = (λ n. refl, λ q z. true-false (ap is_not_void z))
 
 some-not-void : (refs : List Reference) (i : ℕ) → (some_not_void refs i ≡ true) ↔ SomeNotVoid refs i
 unfolding some_not_void
@@ -217,13 +213,13 @@ round_exactly n d i h =
       λ l. omega (arith, b.1 (omega (arith, l, m, c))),
     )
 
-void-sub : (a b : ℕ) → (meant_by (sub_ℕ a b) ≢ Void) ↔ (b ≤ a)
+void-sub : (a b : ℕ) → (meant_by (sub_ℕ a b) ≢ None) ↔ (b ≤ a)
 void-sub a b = (
   λ n. ⊎_elim (λ (h : a < b). absurd (n (rw (lt-ltb a b h)))) (λ (h : b ≤ a). h) (less_or a b),
   λ h. (not_void (meant_by (sub_ℕ a b))).1 (rw (le-ltb a b h)),
 )
 
-void-by : (f i : ℕ) (z : ℤ) → 1 ≤ f → (meant_by (pos (f * i) +ℤ z) ≢ Void) ↔ (first_by f z ≤ i)
+void-by : (f i : ℕ) (z : ℤ) → 1 ≤ f → (meant_by (pos (f * i) +ℤ z) ≢ None) ↔ (first_by f z ≤ i)
 void-by f i (pos k) h = (λ n. omega arith, λ l q. true-false (ap is_not_void q))
 void-by f i (negsuc k) h =
     let s = void-sub (f * i) (suc k) in

@@ -1,6 +1,7 @@
 -- What charges come to: more violations never cost less, the greatest charge, rounding, what each refusal says, and the charge after a
 -- list of calls. Assumes nothing.
 use Rattle.std.proofs.Common.{◌≡◌, ℕ, zero, suc, ◌+◌, ◌*◌, ◌<◌, ◌≤◌, Bool, true, false, cond, ◌↔◌, List, ℤ, sym, refl, ap, ◌∙◌, ⊎_elim, mul-le-mul_right, mul-le-mul, arith, lt-ltb, le-leb}
+use Rattle.std.specs.Prelude.{Result, Ok, Err}
 use Rattle.numbers.proofs.Bools.{true-false, true-and}
 use Rattle.verdict.specs.Found.{instance_limit}
 use Rattle.verdict.specs.declared.Verdict.TheVariants.{False}
@@ -16,8 +17,9 @@ use Rattle.checker.specs.declared.Profile.{Profile}
 use Rattle.checker.specs.declared.State.{State}
 use Rattle.checker.specs.declared.Totals.{Totals}
 use Rattle.checker.specs.declared.Tariff.{Tariff}
-use Rattle.checker.specs.declared.ChargeAnswer.{ChargeAnswer}
-use Rattle.checker.specs.declared.ChargeAnswer.TheVariants as charges
+use Rattle.checker.specs.declared.refusals.Refusal.{Refusal}
+use Rattle.checker.proofs.RefusalLaws.{refusal_same}
+use Rattle.checker.specs.Refusals.{refusal_number, refusal_place}
 use Rattle.checker.proofs.Choices.{never_true, less_or}
 use Rattle.checker.proofs.CodeStateTest.{good_facts}
 use Rattle.checker.proofs.Fresh.{opened-fine}
@@ -159,17 +161,11 @@ charges_exactly s t c = (
 )
 
 -- ---- what is told fixes the answer
-heard : Charge → ChargeAnswer
-heard (cents c) = charges.Cents c
-heard (turned number place) = charges.Refused (record { number = number; place = place })
-
-heard-back : (a : ChargeAnswer) → heard (charge_told a) ≡ a
-unfolding heard
-heard-back (charges.Cents c) = refl
-heard-back (charges.Refused r) = refl
-
-pub charge_told_injective : (a b : ChargeAnswer) → charge_told a ≡ charge_told b → a ≡ b
-charge_told_injective a b e = sym (heard-back a) ∙ ap heard e ∙ heard-back b
+pub charge_told_injective : (a b : Result ℕ Refusal) → charge_told a ≡ charge_told b → a ≡ b
+charge_told_injective (Ok x) (Ok y) e = cc
+charge_told_injective (Ok x) (Err b) e = cc
+charge_told_injective (Err a) (Ok y) e = cc
+charge_told_injective (Err a) (Err b) e = let n : refusal_number a ≡ refusal_number b = cc in let p : refusal_place a ≡ refusal_place b = cc in ap Err (refusal_same a b n p)
 
 -- ---- what each refusal says
 refused-by : (s : State) (t : Tariff) (x y z : Bool) (n number place : ℕ) → bands_fit t ≡ x → prices_fit t ≡ y → state_passes s ≡ z

@@ -10,9 +10,6 @@ pub cond_case : {A : Type 0} (P : A → Type 0) (t : Bool) (a b : A) → (t ≡ 
 cond_case P true a b f g = f refl
 cond_case P false a b f g = g refl
 
-pub cond-true : {A : Type 0} (t : Bool) (a b : A) → t ≡ true → cond t a b ≡ a
-cond-true t a b e = rw e
-
 pub never_true : (b : Bool) → (b ≡ true → ⊥) → b ≡ false
 never_true true h = absurd (h refl)
 never_true false h = refl

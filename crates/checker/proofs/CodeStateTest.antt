@@ -1,10 +1,14 @@
 -- What 12 lets through: the facts that a feed and a pull go by, and 12 field by field. Assumes nothing.
 use Rattle.std.proofs.Common.{◌≡◌, ℕ, ◌+◌, ◌-◌, ◌*◌, ◌<◌, ◌≤◌, Bool, true, false, ◌&&◌, eqb, leb, ◌≢◌, List, get_or, take, ℤ, sym, refl, ap, ◌∙◌, ⊎_elim, arith, eq-eqb, ne_eqb, le-leb, leb-true}
+use Rattle.std.specs.Prelude.{if◌then◌else◌, Some, None, Result, Ok, Err, is_ok}
+use Rattle.std.specs.Option.{ok_or}
+use Rattle.std.specs.Prelude.{Option, None}
 use borrow.Author.Tests.{lt-leb}
+use Rattle.rule.specs.declared.Refusal as rules
 use Rattle.numbers.proofs.Bools.{true-false, and-true, true-and}
 use Rattle.rule.specs.Limits.{event_limit, frame_limit, frame_bytes}
 use Rattle.rule.specs.Check.{checked_of}
-use Rattle.rule.specs.CheckTold.{CheckAnswer}
+use Rattle.rule.specs.CheckTold.{CheckAnswer, check_told}
 use Rattle.rule.specs.CheckTold as checking
 use Rattle.verdict.specs.Found.{instance_limit}
 use Rattle.checker.specs.Limits.{width_limit}
@@ -17,6 +21,7 @@ use Rattle.checker.specs.BasePass.{bases_of, count_fits, rule_fits, tally_fits}
 use Rattle.checker.specs.Offer.{Countable}
 use Rattle.checker.specs.Parts.{state_of}
 use Rattle.checker.specs.Ready.{Ready}
+use Rattle.checker.specs.declared.refusals.Refusal.{Refusal}
 use Rattle.checker.specs.declared.parts.Fields.{Fields}
 use Rattle.checker.specs.declared.Totals.{Totals}
 use Rattle.checker.specs.declared.State.{State}
@@ -60,6 +65,20 @@ good_facts s e =
 pub ready_facts : {frames : List ℕ} {f : Fields} {win : List ℤ} → Ready frames f win → Facts (state_of frames f)
 ready_facts {frames} {f} {win} r = good_facts (state_of frames f) (in_good (state_of frames f) win r.let_in)
 
+-- ---- what 12 answers: the bases where the state passes
+pub tested-ok : {A : Type 0} (t : Bool) (x y : A) (why : Refusal) → Ok y ≡ ok_or (if t then Some x else None) why → (t ≡ true) × (y ≡ x)
+tested-ok true x y why e = (refl, cc)
+tested-ok false x y why e = absurd cc
+
+pub tested-err : {A : Type 0} (t : Bool) (x : A) (why why' : Refusal) → Err why' ≡ ok_or (if t then Some x else None) why → (t ≡ false) × (why' ≡ why)
+tested-err true x why why' e = absurd cc
+tested-err false x why why' e = (refl, cc)
+
+-- what the check of frames takes
+pub taken-told : (r : Result (Unit {0}) rules.Refusal) → is_ok r ≡ is_accepted (check_told r)
+taken-told (Ok x) = refl
+taken-told (Err why) = refl
+
 -- ---- 12, field by field
 pub rule_facts : (frames : List ℕ) (n w number : ℕ) → rule_fits frames n w number ≡ true → (n ≤ frame_limit) × (checked_of (take (n * frame_bytes) frames) ≡ checking.accepted)
 rule_facts frames n w number e =
@@ -89,15 +108,15 @@ sum-from first p t = ⊎_elim same other (same_or (first + totals_sum t) p)
         ne_eqb (first + totals_sum t) p n
         ∙ sym (never_true (totals_pass first p t) (λ h. let f = totals_facts first p t h in n (omega (arith, f.0, f.1))))
 
-abbrev all_fit : ℕ → List ℕ → List ℕ → Bool
-all_fit w bases counts = all_to event_limit (λ e. count_fits w (get_or bases e 0) (get_or counts e 0))
+abbrev all_fit : ℕ → List (Option ℕ) → List ℕ → Bool
+all_fit w bases counts = all_to event_limit (λ e. count_fits w (get_or bases e None) (get_or counts e 0))
 
-pub tally-by : (s : List ℕ) (w : ℕ) (counts : List ℕ) (p : ℕ) (totals : Totals) (bases : List ℕ) (first : ℕ) (a b : Bool) → p ≤ instance_limit
-    → bases ≡ bases_of s p → first ≡ first_for s → a ≡ all_to event_limit (λ e. count_fits w (get_or bases e 0) (get_or counts e 0)) → b ≡ totals_pass first p totals
+pub tally-by : (s : List ℕ) (w : ℕ) (counts : List ℕ) (p : ℕ) (totals : Totals) (bases : List (Option ℕ)) (first : ℕ) (a b : Bool) → p ≤ instance_limit
+    → bases ≡ bases_of s p → first ≡ first_for s → a ≡ all_to event_limit (λ e. count_fits w (get_or bases e None) (get_or counts e 0)) → b ≡ totals_pass first p totals
     → (a && b) ≡ tally_fits s w counts p totals
 unfolding tally_fits
 tally-by s w counts p totals bases first a b h l f ea eb =
-    ap (λ (x : Bool). x && b) (ea ∙ ap (λ (x : List ℕ). all_fit w x counts) l)
+    ap (λ (x : Bool). x && b) (ea ∙ ap (λ (x : List (Option ℕ)). all_fit w x counts) l)
     ∙ ap (λ (y : Bool). all_fit w (bases_of s p) counts && y) (eb ∙ ap (λ (x : ℕ). totals_pass x p totals) f)
     ∙ sym (ap (λ (x : Bool). x && (all_fit w (bases_of s p) counts && totals_pass (first_for s) p totals)) (le-leb p instance_limit h))
 

@@ -10,14 +10,11 @@ use Rattle.log_lines.specs.Line as log
 use Rattle.numbers.proofs.Bools.{true-false}
 use Rattle.verdict.specs.Found.{meant, present, pending, Lookup, found_by, resolve, by_lists, given_in, is_present, is_pending, some_of}
 use Rattle.verdict.specs.Value.{value}
-use Rattle.verdict.specs.Settled.{settled_by, settled}
-use Rattle.verdict.specs.Settled as settling
-use Rattle.verdict.specs.declared.Meant.{Meant}
-use Rattle.verdict.specs.declared.Meant.TheVariants.{Void, At}
+use Rattle.verdict.specs.Settled.{settled_by, verdict_of, settled}
+use Rattle.verdict.specs.declared.Occurrence.{Occurrence}
+use Rattle.std.specs.Prelude.{Option, Some, None}
 use Rattle.verdict.specs.declared.Truth.{Truth}
 use Rattle.verdict.specs.declared.Verdict.{Verdict}
-use Rattle.verdict.specs.declared.Verdict.TheVariants.{True, False, Unknown}
-use Rattle.verdict.specs.declared.Judgement.TheVariants.{Unsettled}
 use Rattle.verdict.proofs.Laws.{none_so}
 use Rattle.checker.specs.Limits.{line_limit, report_least}
 use Rattle.checker.specs.Answer.{Answer, opened, accepted, ignored, waiting, verdict, refused}
@@ -47,25 +44,23 @@ code_of (verdict v) = 4
 code_of (refused number place) = 5 + number
 
 -- ---- when a pull waits
-waits-by : (t s : Bool) (v : Verdict) → pull_answer (cond t short (offered (cond s (settling.verdict v) Unsettled))) ≡ waiting → (t ≡ false) × (s ≡ false)
+waits-by : (t s : Bool) (v : Verdict) → pull_answer (cond t short (offered (cond s (Some v) None))) ≡ waiting → (t ≡ false) × (s ≡ false)
 waits-by true s v q = absurd (let z : 19 ≡ 3 = ap code_of q in omega arith)
-waits-by false true True q = absurd (let z : 4 ≡ 3 = ap code_of q in omega arith)
-waits-by false true False q = absurd (let z : 4 ≡ 3 = ap code_of q in omega arith)
-waits-by false true Unknown q = absurd (let z : 4 ≡ 3 = ap code_of q in omega arith)
+waits-by false true v q = absurd (let z : 4 ≡ 3 = ap code_of q in omega arith)
 waits-by false false v q = (refl, refl)
 
-by-waits : (t s : Bool) (v : Verdict) → t ≡ false → s ≡ false → pull_answer (cond t short (offered (cond s (settling.verdict v) Unsettled))) ≡ waiting
+by-waits : (t s : Bool) (v : Verdict) → t ≡ false → s ≡ false → pull_answer (cond t short (offered (cond s (Some v) None))) ≡ waiting
 by-waits t s v p q = rw (p, q)
 
 -- ---- a verdict is handed out only where a reference is present
-gives-by : (t s : Bool) (v v' : Verdict) → pull_answer (cond t short (offered (cond s (settling.verdict v) Unsettled))) ≡ verdict v' → s ≡ true
+gives-by : (t s : Bool) (v v' : Verdict) → pull_answer (cond t short (offered (cond s (Some v) None))) ≡ verdict v' → s ≡ true
 gives-by true s v v' q = absurd (let z : 19 ≡ 4 = ap code_of q in omega arith)
 gives-by false true v v' q = refl
 gives-by false false v v' q = absurd (let z : 3 ≡ 4 = ap code_of q in omega arith)
 
-pending-or-present : (l : Lookup) (e n : ℕ) (m : Meant) → m ≢ Void → is_present (found_by l e n m) ≡ false → is_pending (found_by l e n m) ≡ true
-pending-or-present l e n Void q h = absurd (q refl)
-pending-or-present l e n (At k) q h = go (ltb k.0 (l.count e)) h
+pending-or-present : (l : Lookup) (e n : ℕ) (m : Option Occurrence) → m ≢ None → is_present (found_by l e n m) ≡ false → is_pending (found_by l e n m) ≡ true
+pending-or-present l e n None q h = absurd (q refl)
+pending-or-present l e n (Some k) q h = go (ltb k.0 (l.count e)) h
   where
     go : (t : Bool) → is_present (cond t (present (l.note_at e n k.0)) pending) ≡ false → is_pending (cond t (present (l.note_at e n k.0)) pending) ≡ true
     go true h = absurd (true-false h)
@@ -130,7 +125,7 @@ module _ {profile : Profile} {frames : List ℕ} {w : ℕ} {win : List ℤ} (o :
       let t = ltb (length buffer) report_least in
       let g = given_in machine_end.lists machine_end.next in
       let s = settled g (tree_of frames) in
-      let v = settling.verdict_of (value g (tree_of frames)) in (
+      let v = verdict_of (value g (tree_of frames)) in (
         λ q. (let h = waits-by t s v (sym a ∙ q) in (ltb-false (length buffer) report_least h.0, h.1)),
         λ h. a ∙ by-waits t s v (le-ltb (length buffer) report_least h.0) h.1,
       )
@@ -144,7 +139,7 @@ module _ {profile : Profile} {frames : List ℕ} {w : ℕ} {win : List ℤ} (o :
       let t = value g (tree_of frames) in
       some-present (by_lists machine_end.lists) machine_end.next (references (tree_of frames)) t
       ((first_on o machine_end.next).1 (in_step o cs).sound.begun)
-      (gives-by (ltb (length buffer) report_least) (settled g (tree_of frames)) (settling.verdict_of t) v (sym (pull-answer buffer) ∙ q))
+      (gives-by (ltb (length buffer) report_least) (settled g (tree_of frames)) (verdict_of t) v (sym (pull-answer buffer) ∙ q))
 
   module _ (line : List ℕ) (e : ℕ) (a b c d : ℤ) (l : line_of line ≡ log.line e a b c d) where
     line-answer : (feed_def (end checker cs (fresh profile frames w win)).state (end checker cs (fresh profile frames w win)).words line).answer

@@ -3,11 +3,9 @@ use Rattle.std.proofs.Common.{◌≡◌, ℕ, zero, suc, ◌+◌, ◌<◌, eqb, 
 use Rattle.rule.specs.Build.{tree_of}
 use Rattle.verdict.specs.Found.{given_in}
 use Rattle.verdict.specs.Settled.{judgement}
-use Rattle.verdict.specs.Settled as settling
 use Rattle.verdict.specs.Later.{MoreLines}
 use Rattle.verdict.specs.declared.Verdict.{Verdict}
-use Rattle.verdict.specs.declared.Judgement.{Judgement}
-use Rattle.verdict.specs.declared.Judgement.TheVariants.{Unsettled}
+use Rattle.std.specs.Prelude.{Option, Some, None}
 use Rattle.verdict.proofs.Main.{lines_stay}
 use Rattle.checker.specs.Base.{first_for}
 use Rattle.checker.specs.Feed.{FeedRead, turned, skipped, taken, feed_answer}
@@ -61,18 +59,18 @@ module _ (frames : List ℕ) (w : ℕ) where
       (more-step m c) (more-end cs (machine_for frames w m c).next)
 
 -- what is said of instance i over a machine's lists
-abbrev pub said : List ℕ → Machine → ℕ → Judgement
+abbrev pub said : List ℕ → Machine → ℕ → Option Verdict
 said frames m i = judgement (given_in m.lists i) (tree_of frames)
 
 -- a verdict stays when lines are added
-pub said-stays : (frames : List ℕ) (m m' : Machine) (i : ℕ) (v : Verdict) → MoreLines m.lists m'.lists → said frames m i ≡ settling.verdict v → said frames m' i ≡ settling.verdict v
+pub said-stays : (frames : List ℕ) (m m' : Machine) (i : ℕ) (v : Verdict) → MoreLines m.lists m'.lists → said frames m i ≡ Some v → said frames m' i ≡ Some v
 said-stays frames m m' i v more q =
     lines_stay i m.lists m'.lists (tree_of frames) more (λ u. verdict-settled v (sym q ∙ u)) ∙ q
 
 module _ (frames : List ℕ) (w : ℕ) where
   -- the verdicts of a list from m on, in the sense of the machine m' that it ends in
   abbrev Handed : Machine → Machine → List Verdict → Type 0
-  Handed m m' vs = (map settling.verdict vs ≡ instances_from m.next (length vs) (said frames m')) × (m'.next ≡ m.next + length vs)
+  Handed m m' vs = (map Some vs ≡ instances_from m.next (length vs) (said frames m')) × (m'.next ≡ m.next + length vs)
 
   handed-fed : (m m' : Machine) (f : FeedRead) (vs : List Verdict) → Handed (after_feed m f) m' vs → Handed m m' (handed (feed_answer f) vs)
   unfolding joined
@@ -105,37 +103,25 @@ module _ {profile : Profile} {frames : List ℕ} {w : ℕ} {win : List ℤ} (o :
   verdicts_same = ap verdicts (lists.answers o cs)
 
   -- instance by instance from the first on, over the machine's lists after the last call
-  pub final : map settling.verdict (verdicts (outs checker cs (fresh profile frames w win)))
+  pub final : map Some (verdicts (outs checker cs (fresh profile frames w win)))
       ≡ instances_from (first_for frames) (length (verdicts (outs checker cs (fresh profile frames w win)))) (said frames (end (machine_for frames w) cs (at_first frames)))
   final = rw verdicts_same (all-handed frames w cs (at_first frames)).0
 
 -- ---- one verdict
-verdict_in : Judgement → Verdict
-verdict_in Unsettled = Verdict.Unknown
-verdict_in Judgement.True = Verdict.True
-verdict_in Judgement.False = Verdict.False
-verdict_in Judgement.Unknown = Verdict.Unknown
+pub verdict-one : (v v' : Verdict) → Some v ≡ Some v' → v ≡ v'
+verdict-one v v' q = cc
 
-verdict_in_lem : (v : Verdict) → verdict_in (settling.verdict v) ≡ v
-unfolding verdict_in
-verdict_in_lem Verdict.True = refl
-verdict_in_lem Verdict.False = refl
-verdict_in_lem Verdict.Unknown = refl
-
-pub verdict-one : (v v' : Verdict) → settling.verdict v ≡ settling.verdict v' → v ≡ v'
-verdict-one v v' q = sym (verdict_in_lem v) ∙ ap verdict_in q ∙ verdict_in_lem v'
-
-get_d_map : (l : List Verdict) (i : ℕ) → i < length l → get_or (map settling.verdict l) i Unsettled ≡ settling.verdict (get_or l i Verdict.Unknown)
+get_d_map : (l : List Verdict) (i : ℕ) → i < length l → get_or (map Some l) i None ≡ Some (get_or l i Verdict.Unknown)
 get_d_map [] i h = absurd (omega arith)
 get_d_map (x ∷ xs) zero h = refl
 get_d_map (x ∷ xs) (suc i) h = get_d_map xs i (le_of_suc-le-suc h)
 
-get_d_instances_from : (f : ℕ → Judgement) (p n i : ℕ) → i < n → get_or (instances_from p n f) i Unsettled ≡ f (p + i)
+get_d_instances_from : (f : ℕ → Option Verdict) (p n i : ℕ) → i < n → get_or (instances_from p n f) i None ≡ f (p + i)
 unfolding instances_from
 get_d_instances_from f p zero i h = absurd (omega arith)
 get_d_instances_from f p (suc n) zero h = rw add-zero
 get_d_instances_from f p (suc n) (suc i) h = get_d_instances_from f (p + 1) n i (le_of_suc-le-suc h) ∙ ap f (omega arith)
 
 -- the verdict at a place of a list that is a span
-pub instances_from_at : (vs : List Verdict) (p : ℕ) (f : ℕ → Judgement) (i : ℕ) → map settling.verdict vs ≡ instances_from p (length vs) f → i < length vs → settling.verdict (get_or vs i Verdict.Unknown) ≡ f (p + i)
-instances_from_at vs p f i q h = sym (get_d_map vs i h) ∙ ap (λ (l : List Judgement). get_or l i Unsettled) q ∙ get_d_instances_from f p (length vs) i h
+pub instances_from_at : (vs : List Verdict) (p : ℕ) (f : ℕ → Option Verdict) (i : ℕ) → map Some vs ≡ instances_from p (length vs) f → i < length vs → Some (get_or vs i Verdict.Unknown) ≡ f (p + i)
+instances_from_at vs p f i q h = sym (get_d_map vs i h) ∙ ap (λ (l : List (Option Verdict)). get_or l i None) q ∙ get_d_instances_from f p (length vs) i h

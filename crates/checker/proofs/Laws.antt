@@ -7,6 +7,3 @@ pub use Rattle.checker.proofs.Admissions.{let_in, in_good}
 pub use Rattle.checker.proofs.Stays.{opened-stays, fed-stays, pulled-stays, feed-rule, pull-rule}
 -- bytes of a state's frames
 pub use Rattle.checker.proofs.CodeBase.{bytes_take}
--- what a feed and a pull by parts give, with the state put together
-pub use Rattle.checker.proofs.CodeFeed.{fed-whole}
-pub use Rattle.checker.proofs.PullOffer.{pulled-whole}

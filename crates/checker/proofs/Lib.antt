@@ -24,6 +24,7 @@ mod Never
 mod Exactly
 mod Openings
 mod Unchanged
+mod RefusalLaws
 mod Told
 -- Points of document 02: windows that differ in one word, views, logs of the earlier edition, the rework tariff.
 mod OneWord
@@ -40,10 +41,8 @@ mod SumExamples
 mod ViewExamples
 mod TariffExamples
 -- What the proofs of functions cite: opening, bases, the window, 12, feeding.
-mod CodeCopy
 mod CodeBase
 mod CodeRing
-mod WordBits
 mod CodeStateTest
 mod CodeOpen
 mod CodeFeed

@@ -17,7 +17,7 @@ use Rattle.log_lines.proofs.Main.{zeros-refused, empty-refused}
 use Rattle.verdict.specs.Found.{instance_limit, given_in, is_present, some_of}
 use Rattle.verdict.specs.Value.{value}
 use Rattle.verdict.specs.Settled.{settled, verdict_of, judgement}
-use Rattle.verdict.specs.Settled as settling
+use Rattle.std.specs.Prelude.{Option, Some, Result}
 use Rattle.verdict.specs.Later.{MoreLines}
 use Rattle.verdict.specs.declared.Verdict.{Verdict}
 use Rattle.verdict.specs.declared.Verdict.TheVariants.{False, Unknown}
@@ -44,11 +44,9 @@ use Rattle.checker.specs.Tariff.{price_limit, bands_of, price_sum, cents_of, cen
 use Rattle.checker.specs.declared.Profile.{Profile}
 use Rattle.checker.specs.declared.Profile.TheVariants.{Board}
 use Rattle.checker.specs.declared.State.{State}
-use Rattle.checker.specs.declared.OpenAnswer.{OpenAnswer}
-use Rattle.checker.specs.declared.FeedAnswer.{FeedAnswer}
-use Rattle.checker.specs.declared.PullAnswer.{PullAnswer}
+use Rattle.checker.specs.declared.Taken.{Taken}
+use Rattle.checker.specs.declared.refusals.Refusal.{Refusal}
 use Rattle.checker.specs.declared.Tariff.{Tariff}
-use Rattle.checker.specs.declared.ChargeAnswer.{ChargeAnswer}
 use Rattle.checker.proofs.Fresh
 use Rattle.checker.proofs.Lists
 use Rattle.checker.proofs.Final
@@ -83,7 +81,7 @@ module _ {profile : Profile} {frames : List ℕ} {w : ℕ} {win : List ℤ} (o :
 
   -- the verdicts handed out are those of settled instances, from the first on, by the definition over the machine's lists after
   -- the last call
-  pub third-final : map settling.verdict (handed_out profile frames w win cs)
+  pub third-final : map Some (handed_out profile frames w win cs)
       ≡ instances_from (first_for frames) (length (handed_out profile frames w win cs)) (λ (i : ℕ). judgement (given_in (machine_after frames w cs).lists i) (tree_of frames))
   third-final = Final.final o cs
 
@@ -256,7 +254,7 @@ pub charge_refused : (s : State) (t : Tariff) (number place : ℕ) → (charge_d
 charge_refused = Charges.charge_refused
 
 -- what is told of the answer fixes it
-pub charge_told_injective : (a b : ChargeAnswer) → charge_told a ≡ charge_told b → a ≡ b
+pub charge_told_injective : (a b : Result ℕ Refusal) → charge_told a ≡ charge_told b → a ≡ b
 charge_told_injective = Charges.charge_told_injective
 
 -- "More violations never cost less": by every tariff, those that 28 and 29 let through among them
@@ -369,13 +367,13 @@ pub base_exactly : (refs : List Reference) (e p b : ℕ) → Referenced refs e �
 base_exactly = Bases.base_exactly
 
 -- ---- what is told of an answer fixes it, so that a contract allows one answer only: of opening, feeding and pulling
-pub open_told_injective : (a b : OpenAnswer) → open_told a ≡ open_told b → a ≡ b
+pub open_told_injective : (a b : Result (Unit {0}) Refusal) → open_told a ≡ open_told b → a ≡ b
 open_told_injective = Told.open_told_injective
 
-pub feed_told_injective : (a b : FeedAnswer) → feed_told a ≡ feed_told b → a ≡ b
+pub feed_told_injective : (a b : Result Taken Refusal) → feed_told a ≡ feed_told b → a ≡ b
 feed_told_injective = Told.feed_told_injective
 
-pub pull_told_injective : (a b : PullAnswer) → pull_told a ≡ pull_told b → a ≡ b
+pub pull_told_injective : (a b : Result (Option Verdict) Refusal) → pull_told a ≡ pull_told b → a ≡ b
 pull_told_injective = Told.pull_told_injective
 
 -- ---- every call, whatever its arguments: what is refused, ignored or waiting leaves state and lent words as they were

@@ -1,10 +1,11 @@
 -- Laws of the rework tariff: what 28 and 29 let through, and prices summed band by band. Assumes nothing.
-use Rattle.std.proofs.Common.{◌≡◌, ℕ, zero, suc, ◌+◌, ◌-◌, ◌*◌, ◌/◌, ◌<◌, ◌≤◌, Bool, true, false, ◌&&◌, ltb, leb, List, [], ◌∷◌, sym, refl, ap, ◌∙◌, ⊎_elim, add-zero, add-suc, suc-mul, arith, ltb-true, le-leb, leb-true}
+use Rattle.std.proofs.Common.{◌≡◌, ℕ, zero, suc, ◌+◌, ◌-◌, ◌*◌, ◌<◌, ◌≤◌, Bool, true, false, ◌&&◌, ltb, leb, List, [], ◌∷◌, length, take, drop, sym, refl, ap, ◌∙◌, ⊎_elim, drop-cons, add-zero, add-suc, suc-mul, arith, ltb-true, le-leb, leb-true}
+use Rattle.std.specs.List.{list_all}
 use borrow.Author.Tests.{lt-leb}
 use Rattle.numbers.proofs.Bools.{and-true}
 use Rattle.checker.specs.Tariff.{band_limit, last_limit, price_limit, surcharge_limit}
 use Rattle.checker.specs.Tariff.{Band, band_at, bands_from, bands_of, rise_from, bands_fit, in_range, prices_fit}
-use Rattle.checker.specs.Tariff.{price_of, price_sum, half_up}
+use Rattle.checker.specs.Tariff.{price_of, price_sum}
 use Rattle.checker.specs.declared.Tariff.{Tariff}
 use Rattle.checker.proofs.Choices.{less_or}
 
@@ -58,6 +59,15 @@ range-step t j x h e = ap in_range (left-next t j h) ∙ ap (λ (y : Bool). y &&
 pub range_none : (t : Tariff) (j : ℕ) → t.bands ≤ j → in_range (bands_left t j) ≡ true
 unfolding in_range
 range_none t j h = ap in_range (left-none t j h)
+
+-- over the prices as a list
+pub range-all : (t : Tariff) (j n : ℕ) → j + n ≤ length t.prices
+    → in_range (bands_from t j n) ≡ list_all (λ (price : ℕ). leb price price_limit) (take n (drop j t.prices))
+unfolding in_range bands_from
+range-all t j zero h = refl
+range-all t j (suc n) h =
+    let l : j < length t.prices = omega arith in
+    rw (drop-cons t.prices j 0, range-all t (suc j) n (omega arith))
 
 -- ---- prices
 price_in : (b : Band) (bs : List Band) (beyond k : ℕ) → k ≤ b.last → price_of (b ∷ bs) beyond k ≡ b.price
@@ -199,6 +209,12 @@ sum_to bs beyond price d n l h =
     let q : d + (n - d) ≡ n = omega arith in
     sym (sum-flat bs beyond price d (n - d) (λ k a b. h k a (omega arith))) ∙ ap (price_sum bs beyond) q
 
+-- ---- the j-th band, by its last number and its price
+pub record BandIs (t : Tariff) (j last price : ℕ) : Type 0 where
+  pub within : j < t.bands
+  pub last_is : last ≡ (band_at t j).last
+  pub price_is : price ≡ (band_at t j).price
+
 -- ---- before the j-th band: the prices of the violations up to the last number before it are summed
 pub record Priced (t : Tariff) (n j sum priced : ℕ) : Type 0 where
   pub within : j ≤ t.bands
@@ -212,21 +228,20 @@ priced_first t n = record { within = omega arith; last = refl; most = omega arit
 
 module _ (t : Tariff) (f : Fits t) (n j sum priced amount : ℕ) (p : Priced t n j sum priced) where
   -- violation n is in the j-th band
-  pub priced_here : j < t.bands → n ≤ (band_at t j).last → amount ≡ (n - priced) * (band_at t j).price → sum + amount ≡ price_sum (bands_of t) t.beyond n
-  priced_here h l a =
-      let s = sum_to (bands_of t) t.beyond (band_at t j).price priced n p.most
-      (λ k g u. price_band t f.rise j h k (rw (← p.last) g) (omega arith)) in
+  pub priced_here : (last price : ℕ) → BandIs t j last price → n ≤ last → amount ≡ (n - priced) * price → sum + amount ≡ price_sum (bands_of t) t.beyond n
+  priced_here last price b l a =
+      let s = sum_to (bands_of t) t.beyond price priced n p.most
+      (λ k g u. price_band t f.rise j b.within k (rw (← p.last) g) (omega (arith, b.last_is)) ∙ sym b.price_is) in
       rw (p.summed, a) s
 
   -- it is after the j-th band
-  pub priced_next : j < t.bands → (band_at t j).last < n → amount ≡ ((band_at t j).last - priced) * (band_at t j).price
-      → Priced t n (suc j) (sum + amount) (band_at t j).last
+  pub priced_next : (last price : ℕ) → BandIs t j last price → last < n → amount ≡ (last - priced) * price → Priced t n (suc j) (sum + amount) last
   unfolding last_before
-  priced_next h l a =
-      let r = rise-at t f.rise j h in
-      let s = sum_to (bands_of t) t.beyond (band_at t j).price priced (band_at t j).last (omega (arith, r.0, p.last))
-      (λ k g u. price_band t f.rise j h k (rw (← p.last) g) u) in
-      record { within = omega arith; last = refl; most = omega arith; summed = rw (p.summed, a) s }
+  priced_next last price b l a =
+      let r = rise-at t f.rise j b.within in
+      let s = sum_to (bands_of t) t.beyond price priced last (omega (arith, r.0, p.last, b.last_is))
+      (λ k g u. price_band t f.rise j b.within k (rw (← p.last) g) (omega (arith, b.last_is)) ∙ sym b.price_is) in
+      record { within = b.within; last = b.last_is; most = omega arith; summed = rw (p.summed, a) s }
 
   -- it is beyond the last band
   pub priced_beyond : t.bands ≤ j → amount ≡ (n - priced) * t.beyond → sum + amount ≡ price_sum (bands_of t) t.beyond n
@@ -239,7 +254,3 @@ module _ (t : Tariff) (f : Fits t) (n j sum priced amount : ℕ) (p : Priced t n
 -- the prices of violations that a state may count
 pub sum-within : (t : Tariff) → Fits t → (n : ℕ) → n ≤ last_limit → price_sum (bands_of t) t.beyond n ≤ last_limit * price_limit
 sum-within t f n h = omega (arith, sum_bound (bands_of t) t.beyond n f.range f.beyond)
-
--- ---- the surcharge
-pub half_up_lem : (x : ℕ) → (x + 50) / 100 ≡ half_up x 100
-half_up_lem x = omega arith

@@ -1,5 +1,6 @@
 -- Desk and board: what the number in a state says of W and of the frames. Assumes nothing.
-use Rattle.std.proofs.Common.{◌≡◌, ℕ, ◌≤◌, Bool, true, false, ◌&&◌, ◌||◌, eqb, leb, sym, refl, ap, arith, ne_eqb, eqb-true, le-leb, leb-true}
+use Rattle.std.proofs.Common.{◌≡◌, ◌∙◌, ℕ, ◌≤◌, Bool, true, false, ◌&&◌, ◌||◌, eqb, leb, refl, ap, arith, ne_eqb, eqb-true, le-leb, leb-true}
+use Rattle.std.specs.Prelude.{Result, Ok, Err, IfOk, IfErr, MatchResult}
 use Rattle.numbers.proofs.Bools.{and-true, true-and}
 use Rattle.rule.specs.Limits.{frame_limit}
 use Rattle.checker.specs.Limits.{width_limit}
@@ -22,16 +23,26 @@ pub number-passes : (profile : Profile) (w n : ℕ) → within_most profile w n 
 number-passes Desk w n e = ap (λ (t : Bool). t || (eqb 0 1 && within_most Board w n)) e
 number-passes Board w n e = e
 
--- the two cases by which the code goes
-pub passes_desk : (w n : ℕ) → within_most Desk w n ≡ profile_passes 0 w n
-passes_desk w n = go (within_most Desk w n)
+-- a profile's number passes where the profile admits W and the frames, another never
+pub passes-of : (profile : Profile) (number w n : ℕ) → number ≡ profile_number profile → within_most profile w n ≡ profile_passes number w n
+passes-of Desk number w n e = rw e (go (within_most Desk w n))
   where
     go : (t : Bool) → t ≡ (t || (eqb 0 1 && within_most Board w n))
     go true = refl
     go false = refl
+passes-of Board number w n e = rw e
 
-pub passes-other : (number w n : ℕ) → (number ≡ 0 → ⊥) → (eqb number 1 && within_most Board w n) ≡ profile_passes number w n
-passes-other number w n h = ap (λ (t : Bool). (t && within_most Desk w n) || (eqb number 1 && within_most Board w n)) (sym (ne_eqb number 0 h))
+pub passes-none : (number w n : ℕ) → ((profile : Profile) → number ≡ profile_number profile → ⊥) → false ≡ profile_passes number w n
+passes-none number w n h =
+    let d = ne_eqb number 0 (h Desk) in
+    let b = ne_eqb number 1 (h Board) in
+    rw (d, b)
+
+pub admitted : {E : Type 0} (r : Result Profile E) (number w n : ℕ) (t : Bool)
+    → IfOk r (λ profile. number ≡ profile_number profile) × IfErr r (λ _. (profile : Profile) → number ≡ profile_number profile → ⊥)
+    → MatchResult r (λ profile. t ≡ within_most profile w n) (λ _. t ≡ false) → t ≡ profile_passes number w n
+admitted (Ok profile) number w n t e m = m ∙ passes-of profile number w n e.0
+admitted (Err why) number w n t e m = m ∙ passes-none number w n e.1
 
 -- a number that passes is a profile's, with W and frames within its limits
 pub record Known (number w n : ℕ) : Type 0 where

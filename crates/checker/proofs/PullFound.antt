@@ -10,7 +10,7 @@ use Rattle.rule.specs.CheckTold as checking
 use Rattle.rule.proofs.Laws.{passed, reference-at}
 use Rattle.verdict.specs.Found.{Found, present, pending, void}
 use Rattle.verdict.specs.Marks.{Tells, TellAll}
-use Rattle.checker.specs.Sights.{Shows, ShownTo, ShowsAll, Limited}
+use Rattle.checker.specs.Sights.{Shows, ShownTo, Limited}
 
 shows_tells : (x : Found) (m : ℕ) (z : ℤ) → Shows x m z → Tells x m z
 shows_tells (present y) m z w = (w.mark_is, w.note_is)
@@ -56,8 +56,3 @@ looked-next s found marks notes k w h x e m z new =
       shown = shown-next s found marks notes k m z w.shown (omega (arith, w.marked)) (omega (arith, w.noted))
           (subst (λ (y : Frame). (y.kind ≡ reference_byte → Shows (found (reference_of y)) m z)) e new);
     }
-
-pub looked-last : (s : List ℕ) (found : Reference → Found) (marks : List ℕ) (notes : List ℤ) (k : ℕ) → LookedTo s found marks notes k → k ≡ frame_count s
-    → ShowsAll s found marks notes
-looked-last s found marks notes k w e =
-    record { marked = w.marked; noted = w.noted; shown = subst (λ (n : ℕ). ShownTo s found marks notes n) e w.shown }

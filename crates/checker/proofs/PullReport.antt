@@ -1,10 +1,12 @@
 -- The report's bytes: what the loop keeps, and what they mean. Assumes nothing.
-use Rattle.std.proofs.Common.{◌≡◌, ℕ, zero, suc, ◌+◌, ◌-◌, ◌*◌, ◌<◌, ◌≤◌, Bool, true, false, cond, eqb, List, [], ◌∷◌, ◌++◌, map, length, get_or, take, drop, ℤ, pos, sym, refl, ap, ◌∙◌, append_assoc, append-nil, add-one, arith, length-append, length-drop, take-append-drop, length-take-le, drop-drop, take_at, eq-eqb, eqb-true}
+use Rattle.std.proofs.Common.{◌≡◌, ℕ, zero, suc, ◌+◌, ◌-◌, ◌*◌, ◌/◌, ◌%◌, ◌^◌, ◌<◌, ◌≤◌, w32, Bool, true, false, cond, eqb, List, [], ◌∷◌, ◌++◌, map, length, get_or, take, drop, ℤ, pos, sym, refl, ap, ◌∙◌, append_assoc, append-nil, add-one, arith, length-append, length-drop, length-take-le, drop-drop, take_at, eq-eqb, eqb-true}
 use native.Mathlib.Decide.{dec_lt}
 use lib.ListN.{length-map}
-use lib.Seq.{sets, sets-eq, length-sets, take-append_seam, drop-append-add}
+use lib.Seq.{sets, sets-eq, take-append_seam, drop-append-add}
 use Rattle.rule.specs.Frames.{frame_at, frame_count, Bytes}
-use Rattle.rule.specs.Tree.{Reference, RuleTree, IsRule, references}
+use Rattle.std.specs.Int.{to_be_bytes}
+use borrow.Rule.Slice.PartMut.{put_mid}
+use Rattle.rule.specs.Tree.{Reference, RuleTree, IsRule, references, word_bytes}
 use Rattle.rule.specs.Build.{tree_of}
 use Rattle.rule.specs.References.{reference_byte, reference_of, references_to, one_more, reference_count}
 use Rattle.rule.specs.Check.{checked_of}
@@ -33,6 +35,16 @@ put_next out vs r0 r at e q h =
 
 pub put_first : (vs r0 : List ℕ) → length vs ≤ length r0 → sets r0 0 vs ≡ written vs r0
 put_first vs r0 h = next-at [] vs r0 (omega arith)
+
+-- ---- four bytes put at once
+pub part-sets : (a : ℕ) (xs ys : List ℕ) → a + length ys ≤ length xs → put_mid a (length ys) xs ys ≡ sets xs a ys
+part-sets a xs ys h = rw (sets-eq ys xs a h, drop-drop, append_assoc)
+
+pub word-bytes : (n : ℕ) → n < 2 ^ 32 → to_be_bytes w32 n ≡ word_bytes n []
+word-bytes n h =
+    let first : n / 16777216 % 256 ≡ n / 256 / 256 / 256 = omega arith in
+    let second : n / 65536 % 256 ≡ n / 256 / 256 % 256 = omega arith in
+    rw (first, second)
 
 -- ---- how many
 module _ (s : List ℕ) where
@@ -137,11 +149,6 @@ module _ (found : Reference → Found) where
       ∙ ap (λ (t : RuleTree). report_bytes p (map found (references t))) (sym (tree-of r))
 
 -- ---- the loop's start and end
-pub report-start : (l : List ℕ) → 6 ≤ length l → l ≡ written (take 6 l) l
-report-start l h =
-    let e : length (take 6 l) ≡ 6 = length-take-le 6 l h in
-    rw e (sym (take-append-drop 6 l))
-
 pub written_over : (out first r0 : List ℕ) → length first ≤ length out → written out (written first r0) ≡ written out r0
 written_over out first r0 h =
     let m : ℕ = length out - length first in
@@ -155,12 +162,6 @@ pub record Kept (s marks : List ℕ) (notes : List ℤ) (r0 r : List ℕ) (at k 
   pub room : 166 ≤ length r0
   pub bytes : r ≡ written (report_to s marks notes (take 6 r0) k) r0
   pub place : at ≡ length (report_to s marks notes (take 6 r0) k)
-
-pub kept-first : (s marks : List ℕ) (notes : List ℤ) (r r0 out : List ℕ) → r0 ≡ sets r 0 out → 166 ≤ length r → Kept s marks notes r0 r0 6 0
-kept-first s marks notes r r0 out e h =
-    let l : length r0 ≡ length r = ap length e ∙ length-sets r 0 out in
-    let m : 6 ≤ length r0 = omega arith in
-    record { room = omega arith; bytes = report-start r0 m; place = sym (length-take-le 6 r0 m) }
 
 module _ (s marks : List ℕ) (notes : List ℤ) (few : reference_count s ≤ 32) (r0 r : List ℕ) (at k : ℕ) (w : Kept s marks notes r0 r at k) where
   kept-six : length (take 6 r0) ≡ 6

@@ -4,8 +4,8 @@ use Rattle.rule.specs.Tree.{Reference, references}
 use Rattle.rule.specs.Build.{tree_of}
 use Rattle.verdict.specs.Found.{meant, Found, present, pending, void, Lookup, found_by, by_lists, found_in}
 use Rattle.verdict.specs.Later.{Gains, MoreLines}
-use Rattle.verdict.specs.declared.Meant.{Meant}
-use Rattle.verdict.specs.declared.Meant.TheVariants.{Void, At}
+use Rattle.verdict.specs.declared.Occurrence.{Occurrence}
+use Rattle.std.specs.Prelude.{Option, Some, None}
 use Rattle.verdict.specs.declared.Verdict.{Verdict}
 use Rattle.verdict.specs.declared.Verdict.TheVariants.{False, Unknown}
 use Rattle.verdict.proofs.Main.{lines_gain}
@@ -137,10 +137,10 @@ free_by x y z true (inr p) (inl q) = rw (p, q) (pending_present z)
 free_by x y z false (inl p) (inr q) = rw (p, q) (equal pending)
 free_by x y z false (inr p) (inl q) = rw (p, q) (equal pending)
 
-free_at : (l l' l'' : Lookup) (e n : ℕ) (m : Meant) → Gains (found_by l e n m) (found_by l'' e n m) → Gains (found_by l' e n m) (found_by l'' e n m)
+free_at : (l l' l'' : Lookup) (e n : ℕ) (m : Option Occurrence) → Gains (found_by l e n m) (found_by l'' e n m) → Gains (found_by l' e n m) (found_by l'' e n m)
     → FreeBetween (found_by l e n m) (found_by l' e n m)
-free_at l l' l'' e n Void p q = equal void
-free_at l l' l'' e n (At k) p q = free_by _ _ (l''.note_at e n k.0) (ltb k.0 (l''.count e)) p q
+free_at l l' l'' e n None p q = equal void
+free_at l l' l'' e n (Some k) p q = free_by _ _ (l''.note_at e n k.0) (ltb k.0 (l''.count e)) p q
 
 free_between : (a b c : ℕ → List (List ℤ)) → MoreLines a c → MoreLines b c
     → (i : ℕ) (r : Reference) → FreeBetween (found_in a i r) (found_in b i r)

@@ -10,15 +10,13 @@ use Rattle.rule.specs.Check.{checked_of}
 use Rattle.rule.specs.CheckTold as checking
 use Rattle.log_lines.specs.Line.{LineAnswer, line_of}
 use Rattle.log_lines.specs.Line as log
-use Rattle.numbers.proofs.Bools.{true-false, and-true, true-and}
+use Rattle.numbers.proofs.Bools.{and-true, true-and}
 use Rattle.verdict.specs.Found.{instance_limit, meant, Found, pending, by_lists, found_in, Given, given_in, is_present, is_pending, some_of}
 use Rattle.verdict.specs.Value.{value}
-use Rattle.verdict.specs.Settled.{settled_by, judgement}
+use Rattle.verdict.specs.Settled.{settled_by, verdict_of, judgement}
 use Rattle.verdict.specs.Later.{with_found}
-use Rattle.verdict.specs.Settled as settling
 use Rattle.verdict.specs.declared.Verdict.{Verdict}
-use Rattle.verdict.specs.declared.Judgement.{Judgement}
-use Rattle.verdict.specs.declared.Judgement.TheVariants.{Unsettled, True, False, Unknown}
+use Rattle.std.specs.Prelude.{Option, Some, None}
 use Rattle.verdict.proofs.Main.{own-references}
 use Rattle.verdict.proofs.Laws.{SameOn, found-same}
 use Rattle.checker.specs.Limits.{window_words, line_limit, report_least}
@@ -160,33 +158,23 @@ one-pending [] found l h = absurd (l refl)
 one-pending (x ∷ xs) found l h = rw (h x (Memᴰ.head refl))
 
 pub all-pending : (rule : RuleTree) (g : Given) → (references rule ≡ [] → ⊥) → ((r : Reference) → Memᴰ r (references rule) → g.found r ≡ pending)
-    → judgement g rule ≡ Unsettled
+    → judgement g rule ≡ None
 all-pending rule g l h =
-    ap₂ (λ (a b : Bool). cond (settled_by a b (value g rule)) (settling.verdict (settling.verdict_of (value g rule))) Unsettled)
+    ap₂ (λ (a b : Bool). cond (settled_by a b (value g rule)) (Some (verdict_of (value g rule))) None)
     (one-pending (references rule) g.found l h) (no_present (references rule) g.found h)
 
-abbrev is_unsettled : Judgement → Bool
-is_unsettled Unsettled = true
-is_unsettled True = false
-is_unsettled False = false
-is_unsettled Unknown = false
-
-pub verdict-settled : (v : Verdict) → settling.verdict v ≡ Unsettled → ⊥
-verdict-settled Verdict.True q = true-false (sym (ap is_unsettled q))
-verdict-settled Verdict.False q = true-false (sym (ap is_unsettled q))
-verdict-settled Verdict.Unknown q = true-false (sym (ap is_unsettled q))
+pub verdict-settled : (v : Verdict) → Some v ≡ None → ⊥
+verdict-settled v q = cc
 
 -- what is known of a verdict that is given
 abbrev pub Gave : RuleTree → Given → PullRead → Type 0
 Gave rule g short = Unit {0}
 Gave rule g waits = Unit {0}
-Gave rule g (gave v) = judgement g rule ≡ settling.verdict v
+Gave rule g (gave v) = judgement g rule ≡ Some v
 
-gave-by : (rule : RuleTree) (g : Given) (j : Judgement) → judgement g rule ≡ j → Gave rule g (offered j)
-gave-by rule g Unsettled q = tt
-gave-by rule g True q = q
-gave-by rule g False q = q
-gave-by rule g Unknown q = q
+gave-by : (rule : RuleTree) (g : Given) (j : Option Verdict) → judgement g rule ≡ j → Gave rule g (offered j)
+gave-by rule g None q = tt
+gave-by rule g (Some v) q = q
 
 pub gave-judged : (rule : RuleTree) (g : Given) (n : ℕ) → Gave rule g (pull_read rule g n)
 unfolding pull_read
@@ -201,7 +189,7 @@ module _ (frames : List ℕ) (w : ℕ) (ok : Fine frames w) where
   wide = leb-true 1 w (and-true (leb 1 w) _ ok.width).0
 
   -- an instance with a verdict is not the last
-  gave-low : (m : Machine) (v : Verdict) → Sound (references (tree_of frames)) w (tally_of m) → judgement (given_in m.lists m.next) (tree_of frames) ≡ settling.verdict v → m.next < instance_limit
+  gave-low : (m : Machine) (v : Verdict) → Sound (references (tree_of frames)) w (tally_of m) → judgement (given_in m.lists m.next) (tree_of frames) ≡ Some v → m.next < instance_limit
   gave-low m v x q =
       ⊎_elim
       (λ l. l)
@@ -296,7 +284,7 @@ module _ (frames : List ℕ) (w : ℕ) (ok : Fine frames w) where
 
     read-own : (t : RuleTree) (g : Given) (found : Reference → Found) (n : ℕ) → SameOn (references t) g.found found → pull_read t g n ≡ pull_read t (with_found g found) n
     unfolding pull_read
-    read-own t g found n s = ap (λ (j : Judgement). cond (ltb n report_least) short (offered j)) (own-references g found t s)
+    read-own t g found n s = ap (λ (j : Option Verdict). cond (ltb n report_least) short (offered j)) (own-references g found t s)
 
     result_own : (t : RuleTree) (g : Given) (found : Reference → Found) (buffer : List ℕ) → SameOn (references t) g.found found → result_at t g buffer ≡ result_at t (with_found g found) buffer
     result_own t g found buffer s =

@@ -11,7 +11,7 @@ use Rattle.rule.proofs.Main.{frames_exactly, tree-of}
 use Rattle.log_lines.specs.Line.{line_of}
 use Rattle.verdict.specs.Found.{instance_limit, pending}
 use Rattle.verdict.specs.Settled.{judgement}
-use Rattle.verdict.specs.Settled as settling
+use Rattle.std.specs.Prelude.{Some}
 use Rattle.verdict.specs.declared.Verdict.{Verdict}
 use Rattle.checker.specs.Limits.{window_words}
 use Rattle.checker.specs.Profile.{profile_number}
@@ -85,7 +85,7 @@ module _ (s : State) (g : state_passes s ≡ true) where
         p.named (subst (λ (x : RuleTree). references x ≡ []) t e)
 
     -- an instance with a verdict is not the last
-    low_in : (win : List ℤ) (v : Verdict) → judgement (given_here s win) (rule_in s) ≡ settling.verdict v → s.next.0 < instance_limit
+    low_in : (win : List ℤ) (v : Verdict) → judgement (given_here s win) (rule_in s) ≡ Some v → s.next.0 < instance_limit
     low_in win v q =
         ⊎_elim
         (λ l. l)

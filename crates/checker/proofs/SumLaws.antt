@@ -1,5 +1,5 @@
 -- Laws of the sum of the window's words. Assumes nothing.
-use Rattle.std.proofs.Common.{◌≡◌, ℕ, zero, suc, ◌+◌, ◌%◌, ◌^◌, ◌<◌, ◌≢◌, List, [], ◌∷◌, length, get_or, take, set, replicate, ℤ, pos, sym, refl, ap, ◌∙◌, ⊎_elim, le_of_suc-le-suc, add-one, arith, length-set, take_all, get_or-set_other, get_or-set_same, ext_get_or, to_z-of_z, w32, SFits, to_z}
+use Rattle.std.proofs.Common.{◌≡◌, ℕ, zero, suc, ◌+◌, ◌%◌, ◌^◌, ◌<◌, ◌≢◌, List, [], ◌∷◌, length, get_or, take, set, replicate, ℤ, pos, sym, refl, ap, ◌∙◌, ⊎_elim, le_of_suc-le-suc, add-one, arith, length-set, get_or-set_other, get_or-set_same, ext_get_or, to_z-of_z, w32, SFits, to_z}
 use mir.Facts.{Fits-of_z}
 use Rattle.checker.specs.Sum.{bits_of, added_up, sum_of}
 use Rattle.checker.specs.OneWord.{Words, OneWordApart}
@@ -41,10 +41,6 @@ pub sum_more : (win : List ℤ) (k sum : ℕ) → k < length win → sum ≡ sum
     → (sum + bits_of (get_or win k (pos 0))) % 2 ^ 32 ≡ sum_of (take (k + 1) win)
 unfolding sum_of
 sum_more win k sum h e = rw (add-one k) (omega (arith, added_take win k h))
-
--- of all words
-pub sum-all : (win : List ℤ) (k sum : ℕ) → length win ≡ k → sum ≡ sum_of (take k win) → sum ≡ sum_of win
-sum-all win k sum h e = e ∙ ap sum_of (take_all k win (omega (arith, h)))
 
 -- one word exchanged: what the old word, added, wraps to the sum, with the new word instead
 pub sum-put : (win : List ℤ) (k less : ℕ) (z : ℤ) → k < length win → (less + bits_of (get_or win k (pos 0))) % 2 ^ 32 ≡ sum_of win

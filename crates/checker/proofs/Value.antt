@@ -3,11 +3,10 @@ use Rattle.std.proofs.Common.{◌≡◌, ℕ, ◌+◌, ◌<◌, Bool, true, fals
 use Rattle.rule.specs.Build.{tree_of}
 use Rattle.verdict.specs.Found.{given_in}
 use Rattle.verdict.specs.Settled.{settled, verdict_of}
-use Rattle.verdict.specs.Settled as settling
 use Rattle.verdict.specs.Value.{value}
 use Rattle.verdict.specs.declared.Verdict.{Verdict}
 use Rattle.verdict.specs.declared.Verdict.TheVariants.{Unknown}
-use Rattle.verdict.specs.declared.Judgement.TheVariants.{Unsettled}
+use Rattle.std.specs.Prelude.{Some, None}
 use Rattle.checker.specs.Base.{first_for}
 use Rattle.checker.specs.Calls.{Call}
 use Rattle.checker.specs.Demand.{Unrefused, machine_after, handed_out}
@@ -16,7 +15,7 @@ use Rattle.checker.proofs.Simulation.{verdict-settled}
 use Rattle.checker.proofs.Final.{said, final, verdict-one, instances_from_at}
 
 -- a verdict that is said is the value's
-from-said : (b : Bool) (v t : Verdict) → settling.verdict v ≡ cond b (settling.verdict t) Unsettled → v ≡ t
+from-said : (b : Bool) (v t : Verdict) → Some v ≡ cond b (Some t) None → v ≡ t
 from-said true v t q = verdict-one v t q
 from-said false v t q = absurd (verdict-settled v q)
 

@@ -5,8 +5,7 @@ use Rattle.rule.specs.Build.{tree_of}
 use Rattle.verdict.specs.Found.{Found, found_in, Given, given_in}
 use Rattle.verdict.specs.Settled.{judgement}
 use Rattle.verdict.specs.declared.Verdict.{Verdict}
-use Rattle.verdict.specs.declared.Judgement.{Judgement}
-use Rattle.verdict.specs.declared.Judgement.TheVariants.{Unsettled, True, False, Unknown}
+use Rattle.std.specs.Prelude.{Option, Some, None}
 use Rattle.checker.specs.Limits.{report_least}
 use Rattle.checker.specs.Answer.{Answer, opened, accepted, ignored, waiting, verdict, refused}
 use Rattle.checker.specs.Base.{first_for}
@@ -48,11 +47,9 @@ Enough n short = Unit {0}
 Enough n waits = Unit {0}
 Enough n (gave v) = report_least ≤ n
 
-enough-offered : (n : ℕ) → report_least ≤ n → (j : Judgement) → Enough n (offered j)
-enough-offered n h Unsettled = tt
-enough-offered n h True = h
-enough-offered n h False = h
-enough-offered n h Unknown = h
+enough-offered : (n : ℕ) → report_least ≤ n → (j : Option Verdict) → Enough n (offered j)
+enough-offered n h None = tt
+enough-offered n h (Some v) = h
 
 enough : (rule : RuleTree) (g : Given) (n : ℕ) → Enough n (pull_read rule g n)
 unfolding pull_read

@@ -7,8 +7,8 @@ use Rattle.rule.specs.Limits.{offset_limit}
 use Rattle.rule.specs.Tree.{Reference, references}
 use Rattle.rule.specs.Build.{tree_of}
 use Rattle.verdict.specs.Found.{meant}
-use Rattle.verdict.specs.declared.Meant.{Meant}
-use Rattle.verdict.specs.declared.Meant.TheVariants.{Void, At}
+use Rattle.verdict.specs.declared.Occurrence.{Occurrence}
+use Rattle.std.specs.Prelude.{Option, Some, None}
 
 -- "its references": those that name the event
 unfoldable pub of_event : ℕ → List Reference → List Reference
@@ -25,9 +25,9 @@ unfoldable pub referenced : List Reference → ℕ → Bool
 referenced refs e = is_some (of_event e refs)
 
 -- the occurrence that is meant, 0 where it is void, for "max(0, factor × p + offset)"
-abbrev pub or_zero : Meant → ℕ
-or_zero Void = 0
-or_zero (At k) = k.0
+abbrev pub or_zero : Option Occurrence → ℕ
+or_zero None = 0
+or_zero (Some k) = k.0
 
 -- "max(0, factor × p + offset)"
 abbrev pub start_at : ℕ → Reference → ℕ
@@ -76,9 +76,9 @@ pub record SmallestStart (refs : List Reference) (e p b : ℕ) : Type 0 where
 
 -- ---- where verdicts begin
 -- not "void"
-abbrev pub is_not_void : Meant → Bool
-is_not_void Void = false
-is_not_void (At k) = true
+abbrev pub is_not_void : Option Occurrence → Bool
+is_not_void None = false
+is_not_void (Some k) = true
 
 -- not "An instance whose references are all void": i has "a reference that isn't void"
 unfoldable pub some_not_void : List Reference → ℕ → Bool
@@ -104,7 +104,7 @@ pub record SomeNotVoid (refs : List Reference) (i : ℕ) : Type 0 where
   pub reference : Reference
   -- the rule has it
   pub one : Memᴰ reference refs
-  pub not_void : meant i reference ≢ Void
+  pub not_void : meant i reference ≢ None
 
 -- "the first i with a reference that isn't void": n
 pub record FirstInstance (refs : List Reference) (n : ℕ) : Type 0 where

@@ -1,7 +1,8 @@
 -- The bases of all events and the first instance, in one pass over the references. No public contract cites it. Assumes nothing:
 -- definitions.
 use Rattle.std.specs.Prelude.{◌≡◌, ℕ, suc, ◌+◌, ◌-◌, ◌*◌, ◌/◌, ◌≤◌, min, Bool, cond, ◌&&◌, List}
-use Rattle.std.specs.Prelude.{take, replicate, ℤ, pos, negsuc, ◌==◌, nat_le, slice_index, slice_set}
+use Rattle.std.specs.Prelude.{take, replicate, ℤ, pos, negsuc, ◌==◌, nat_le, Option, Some, None}
+use Rattle.std.specs.Prelude.{slice_index, slice_index_or, slice_set}
 use Rattle.rule.specs.Limits.{event_limit, offset_limit, frame_bytes}
 use Rattle.rule.specs.Tree.{Reference, LimitsR}
 use Rattle.rule.specs.Frames.{frame_count}
@@ -17,24 +18,25 @@ use Rattle.checker.specs.Open.{width_fits}
 use Rattle.checker.specs.StateTest.{is_accepted, all_to, totals_pass}
 use Rattle.checker.specs.declared.Totals.{Totals}
 
--- in the place of a base, of "an unreferenced event"; no base is as large
-abbrev pub no_base : ℕ
-no_base = 4294967295
+-- "the smallest of" some numbers, if there was one, and one more
+abbrev pub lowest : Option ℕ → ℕ → ℕ
+lowest None n = n
+lowest (Some m) n = min m n
 
 -- "the smallest of max(0, factor × p + offset)": with one reference more
-abbrev pub lowered : ℕ → Reference → List ℕ → List ℕ
-lowered p r bases = slice_set bases r.event (min (slice_index bases r.event) (start_at p r))
+abbrev pub lowered : ℕ → Reference → List (Option ℕ) → List (Option ℕ)
+lowered p r bases = slice_set bases r.event (Some (lowest (slice_index_or bases r.event None) (start_at p r)))
 
 -- with one frame more, "over its references"
-abbrev pub bases_with : ℕ → Frame → List ℕ → List ℕ
+abbrev pub bases_with : ℕ → Frame → List (Option ℕ) → List (Option ℕ)
 bases_with p x bases = cond (x.kind == reference_byte) (lowered p (reference_of x) bases) bases
 
--- "The base of an event", of each event, after the first k frames
-abbrev pub bases_to : List ℕ → ℕ → ℕ → List ℕ
-bases_to s p k = references_to (lowered p) s (replicate event_limit no_base) k
+-- "The base of an event", of each event, after the first k frames; of "an unreferenced event" there is none
+abbrev pub bases_to : List ℕ → ℕ → ℕ → List (Option ℕ)
+bases_to s p k = references_to (lowered p) s (replicate event_limit None) k
 
 -- "The base of an event", of each event, after all frames
-unfoldable pub bases_of : List ℕ → ℕ → List ℕ
+unfoldable pub bases_of : List ℕ → ℕ → List (Option ℕ)
 bases_of s p = bases_to s p (frame_count s)
 
 -- n / d rounded up
@@ -73,8 +75,9 @@ pub record Passable (s : List ℕ) (p : ℕ) : Type 0 where
   pub instance_in : p ≤ instance_limit
 
 -- a count by the event's base: "a count over 1,000,000 .. a nonzero count of an unreferenced event, or a count above base plus W"
-abbrev pub count_fits : ℕ → ℕ → ℕ → Bool
-count_fits w low c = nat_le c line_limit && cond (low == no_base) (c == 0) (nat_le c (low + w))
+abbrev pub count_fits : ℕ → Option ℕ → ℕ → Bool
+count_fits w None c = nat_le c line_limit && c == 0
+count_fits w (Some low) c = nat_le c line_limit && nat_le c (low + w)
 
 -- 12 of a state's fields: not "a state whose frames or W opening would refuse", nor "a board state above them"
 abbrev pub rule_fits : List ℕ → ℕ → ℕ → ℕ → Bool
@@ -85,5 +88,5 @@ rule_fits frames n w number =
 unfoldable pub tally_fits : List ℕ → ℕ → List ℕ → ℕ → Totals → Bool
 tally_fits s w counts p totals =
     nat_le p instance_limit
-    && (all_to event_limit (λ e. count_fits w (slice_index (bases_of s p) e) (slice_index counts e))
+    && (all_to event_limit (λ e. count_fits w (slice_index_or (bases_of s p) e None) (slice_index counts e))
     && totals_pass (first_for s) p totals)

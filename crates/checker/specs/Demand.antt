@@ -7,7 +7,7 @@ use Rattle.rule.specs.Tree.{Reference, references}
 use Rattle.rule.specs.Build.{tree_of}
 use Rattle.verdict.specs.Found.{Found, present, pending, found_in, given_in}
 use Rattle.verdict.specs.Settled.{judgement}
-use Rattle.verdict.specs.Settled as settling
+use Rattle.std.specs.Prelude.{Some}
 use Rattle.verdict.specs.Later.{Gains}
 use Rattle.verdict.specs.declared.Verdict.{Verdict}
 use Rattle.verdict.specs.declared.Verdict.TheVariants.{True, False, Unknown}
@@ -97,7 +97,7 @@ pub record ThirdDemand (profile : Profile) (frames : List ℕ) (w : ℕ) (win : 
   -- "and the counts, p and totals in the state are the machine's"
   pub state : tally_in (checker_after profile frames w win cs).state ≡ tally_of (machine_after frames w cs)
   -- "The definition over all lines accepted in the list is the one over the machine's lists after the last call"
-  pub final : map settling.verdict (handed_out profile frames w win cs)
+  pub final : map Some (handed_out profile frames w win cs)
       ≡ instances_from (first_for frames) (length (handed_out profile frames w win cs))
       (λ (i : ℕ). judgement (given_in (machine_after frames w cs).lists i) (tree_of frames))
   -- document 02, point 2: "The totals sum to p less that start"

@@ -12,7 +12,8 @@ use Rattle.checker.specs.State.{Tally, count_of, tally_in, refs_in, with_line, w
 use Rattle.checker.specs.Ring.{kept}
 use Rattle.checker.specs.Sum.{sum_of}
 use Rattle.checker.specs.Admission.{Admission, admitted, barred, admission}
-use Rattle.checker.specs.declared.Fed.{Fed}
+use Rattle.checker.specs.declared.Returned.{Returned}
+use Rattle.checker.specs.declared.Taken.{Taken}
 use Rattle.checker.specs.declared.State.{State}
 
 -- ---- the decision, which the plain machine and the checker share
@@ -86,5 +87,5 @@ unfoldable pub feed_def : State → List ℤ → List ℕ → FeedResult
 feed_def s win line = fed_if s win line (admission s win)
 
 -- what the code's answer and state and the window after the call are, as such a result
-abbrev pub feed_outcome : Fed → List ℤ → FeedResult
+abbrev pub feed_outcome : Returned Taken → List ℤ → FeedResult
 feed_outcome r win = record { answer = feed_told r.answer; state = r.state; words = win }

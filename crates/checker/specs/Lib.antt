@@ -2,6 +2,7 @@
 -- the plain machine, the words of the third demand, windows that differ in one word, the view of a report, logs of the earlier
 -- edition, and the rework tariff.
 pub mod Limits
+pub mod Refusals
 pub mod Answer
 pub mod Profile
 pub mod Base
@@ -28,6 +29,7 @@ pub mod Parts
 pub mod Decided
 pub mod InWindow
 pub mod BasePass
+pub mod BaseLow
 pub mod Sights
 pub mod Offer
 pub mod Ready

@@ -10,7 +10,7 @@ use Rattle.checker.specs.Limits.{width_limit, window_words}
 use Rattle.checker.specs.Answer.{Answer, opened, refused, open_told}
 use Rattle.checker.specs.Profile.{within_most}
 use Rattle.checker.specs.State.{zero_state, fresh_state}
-use Rattle.checker.specs.declared.Opened.{Opened}
+use Rattle.checker.specs.declared.Returned.{Returned}
 use Rattle.checker.specs.declared.Profile.{Profile}
 use Rattle.checker.specs.declared.State.{State}
 
@@ -53,5 +53,5 @@ unfoldable pub open_def : Profile → List ℕ → ℕ → List ℤ → OpenResu
 open_def profile frames w win = after_frames profile frames w win (checked_of frames)
 
 -- what the code's answer and state and the window after the call are, as such a result
-abbrev pub open_outcome : Opened → List ℤ → OpenResult
+abbrev pub open_outcome : Returned (Unit {0}) → List ℤ → OpenResult
 open_outcome r win = record { answer = open_told r.answer; state = r.state; words = win }

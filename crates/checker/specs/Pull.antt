@@ -5,15 +5,14 @@ use Rattle.rule.specs.Tree.{Reference, RuleTree}
 use Rattle.verdict.specs.Found.{Found, Given}
 use Rattle.verdict.specs.Settled.{judgement}
 use Rattle.verdict.specs.declared.Verdict.{Verdict}
-use Rattle.verdict.specs.declared.Judgement.{Judgement}
-use Rattle.verdict.specs.declared.Judgement.TheVariants.{Unsettled, True, False, Unknown}
+use Rattle.std.specs.Prelude.{Option, Some, None}
 use Rattle.checker.specs.Limits.{report_least}
 use Rattle.checker.specs.Answer.{Answer, waiting, verdict, refused, pull_told}
 use Rattle.checker.specs.State.{tally_in, rule_in, refs_in, with_verdict, with_tally}
 use Rattle.checker.specs.Found.{given_in_window}
 use Rattle.checker.specs.Report.{report_after}
 use Rattle.checker.specs.Admission.{Admission, admitted, barred, admission}
-use Rattle.checker.specs.declared.Pulled.{Pulled}
+use Rattle.checker.specs.declared.Returned.{Returned}
 use Rattle.checker.specs.declared.State.{State}
 
 -- ---- the decision, which the plain machine and the checker share
@@ -23,11 +22,9 @@ pub data PullRead : Type 0 where
   gave : Verdict → PullRead
 
 -- "If instance p is settled by the lists, the answer is its verdict .. Else the answer is 'waiting'"
-abbrev pub offered : Judgement → PullRead
-offered Unsettled = waits
-offered True = gave Verdict.True
-offered False = gave Verdict.False
-offered Unknown = gave Verdict.Unknown
+abbrev pub offered : Option Verdict → PullRead
+offered None = waits
+offered (Some v) = gave v
 
 -- "a buffer that 14 names is refused with 14": n is the buffer's length; by what is given of the instance
 unfoldable pub pull_read : RuleTree → Given → ℕ → PullRead
@@ -93,5 +90,5 @@ unfoldable pub pull_def : State → List ℤ → List ℕ → PullResult
 pull_def s win buffer = pulled_if s win buffer (admission s win)
 
 -- what the code's answer and state and the buffer after the call are, as such a result
-abbrev pub pull_outcome : Pulled → List ℕ → PullResult
+abbrev pub pull_outcome : Returned (Option Verdict) → List ℕ → PullResult
 pull_outcome r report = record { answer = pull_told r.answer; state = r.state; report = report }

@@ -11,15 +11,23 @@ use Rattle.rule.specs.References.{reference_byte, reference_of}
 use Rattle.rule.specs.Check.{checked_of}
 use Rattle.rule.specs.declared.Frame.{Frame}
 use Rattle.rule.specs.CheckTold as checking
-use Rattle.verdict.specs.Found.{instance_limit, Found}
+use Rattle.verdict.specs.Found.{Found, present, pending, void}
 use Rattle.verdict.specs.Value.{note_of}
-use Rattle.checker.specs.Limits.{width_limit, window_words, report_least}
+use Rattle.checker.specs.Limits.{report_least}
 use Rattle.checker.specs.Report.{mark_of, false_byte}
+use Rattle.checker.specs.declared.found.Seen.{Seen}
+use Rattle.checker.specs.declared.found.Seen.TheVariants.{Present, Pending, Void}
 
 -- "a mark (00 present, 01 pending, 02 void) and the value (4 bytes, 0 unless present)"
 pub record Shows (x : Found) (mark : ℕ) (note : ℤ) : Type 0 where
   pub mark_is : mark ≡ mark_of x
   pub note_is : note ≡ note_of x
+
+-- what the code says of a reference, as "present, pending, void"
+abbrev pub found_of : Seen → Found
+found_of (Present z) = present z
+found_of Pending = pending
+found_of Void = void
 
 -- "per reference in frame order": at each among the first k frames
 abbrev pub ShownTo : List ℕ → (Reference → Found) → List ℕ → List ℤ → ℕ → Type 0
@@ -34,13 +42,6 @@ pub record ShowsAll (s : List ℕ) (found : Reference → Found) (marks : List �
   pub shown : ShownTo s found marks notes (frame_count s)
 
 -- ---- what is required
--- of W, the window's length and the instance: "W (1 to 256)", "The window is 32 × W signed 32-bit words", not "p over 1,009,999"
-pub record Lookable (p w n : ℕ) : Type 0 where
-  pub instance_in : p ≤ instance_limit
-  pub some : 1 ≤ w
-  pub most : w ≤ width_limit
-  pub words : n ≡ window_words w
-
 -- of a frame that is a reference: "The factor of i is 1 to 9 (1 if absent), the offset −9,999 to 9,999"
 abbrev pub Limited : Frame → Type 0
 Limited x = x.kind ≡ reference_byte → LimitsR (reference_of x)

@@ -2,11 +2,12 @@
 -- and a violation is a false verdict. Assumes nothing: definitions.
 use Rattle.std.specs.Prelude.{◌≡◌, ℕ, zero, suc, ◌+◌, ◌*◌, ◌/◌, ◌<◌, ◌≤◌, Bool, true, false, cond}
 use Rattle.std.specs.Prelude.{◌&&◌, List, [], ◌∷◌, nat_le, nat_lt, slice_index}
+use Rattle.std.specs.Prelude.{Result, Ok, Err}
+use Rattle.checker.specs.Refusals.{refusal_number, refusal_place}
 use Rattle.checker.specs.StateTest.{state_passes}
 use Rattle.checker.specs.declared.State.{State}
 use Rattle.checker.specs.declared.Tariff.{Tariff}
-use Rattle.checker.specs.declared.ChargeAnswer.{ChargeAnswer}
-use Rattle.checker.specs.declared.ChargeAnswer.TheVariants as charges
+use Rattle.checker.specs.declared.refusals.Refusal.{Refusal}
 
 -- ---- limits
 -- "in bands: up to four"
@@ -94,9 +95,9 @@ pub data Charge : Type 0 where
   turned : (number place : ℕ) → Charge
 
 -- document 02's number and values for each case of what `charge` answers
-abbrev pub charge_told : ChargeAnswer → Charge
-charge_told (charges.Cents c) = cents c
-charge_told (charges.Refused r) = turned r.number r.place
+abbrev pub charge_told : Result ℕ Refusal → Charge
+charge_told (Ok c) = cents c
+charge_told (Err why) = turned (refusal_number why) (refusal_place why)
 
 -- "The count is the false total in the checker's state, which 12 tests afterwards. Checks: 28 .. 29 .. in this order, first"
 unfoldable pub charge_def : State → Tariff → Charge

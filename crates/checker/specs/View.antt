@@ -1,15 +1,19 @@
 -- What machine hands see of reports. From document 02, point 3. View and machine hands are the document's terms.
 -- Assumes nothing: definitions.
 use Rattle.std.specs.Prelude.{ℕ, ◌+◌, Bool, true, false, cond, List, [], ◌∷◌, length, take, ℤ, nat_lt}
+use Rattle.std.specs.Prelude.{Result, Ok, Err}
+use Rattle.std.specs.Borrow.{Bor}
 use Rattle.rule.specs.Tree.{word_bytes}
 use Rattle.verdict.specs.declared.Verdict.{Verdict}
 use Rattle.verdict.specs.declared.Verdict.TheVariants.{True, False, Unknown}
 use Rattle.checker.specs.Limits.{report_least}
 use Rattle.checker.specs.Answer.{Answer, opened, accepted, ignored, waiting, verdict, refused}
+use Rattle.checker.specs.Refusals.{refusal_number}
 use Rattle.checker.specs.Base.{first_for}
 use Rattle.checker.specs.Report.{false_byte}
 use Rattle.checker.specs.Calls.{Call, Out, fed, pulled, outs, checker}
 use Rattle.checker.specs.Demand.{fresh, handed_out}
+use Rattle.checker.specs.declared.refusals.Refusal.{Refusal}
 use Rattle.checker.specs.declared.Profile.{Profile}
 
 -- ---- the call
@@ -28,6 +32,11 @@ view_def buffer =
     cond (nat_lt (length buffer) report_least)
     (record { number = 14; bytes = [] })
     (record { number = 0; bytes = take view_length buffer })
+
+-- which of them the code's answer tells: the bytes of the part that it gives, or a refusal with "an empty view"
+abbrev pub view_told : Result (Bor (List ℕ)) Refusal → ViewResult
+view_told (Ok view) = record { number = 0; bytes = view.now }
+view_told (Err why) = record { number = refusal_number why; bytes = [] }
 
 -- ---- views in a list of calls
 -- document 01: "A false verdict fills a report in a lent buffer; other verdicts leave it"

@@ -12,6 +12,7 @@ mod opening; // opening.rt: 9, 10, 7, 8, 11, 26; a fresh checker
 mod pricing; // pricing.rt: what violations cost by a tariff
 mod profiles; // profiles.rt: the limits of desk and board
 mod pulling; // pulling.rt: 12, 13, 27, 14, the next verdict or waiting
+mod refusals; // refusals.rt: why a call is turned down
 mod report; // report.rt: the report of a false verdict
 mod parts; // parts.rt: a state taken apart, put together and changed
 mod sum; // sum.rt: the sum of the window's words
@@ -19,18 +20,18 @@ mod viewing; // viewing.rt: 14, the view of a report
 mod words; // words.rt: the window's words
 
 pub use charging::charge;
-pub use feeding::{FedFields, feed, feed_admitted, feed_parts};
+pub use feeding::{feed, feed_admitted, feed_parts};
 pub use limits::REPORT_LEAST;
 pub use opening::{open, open_board, open_desk};
 pub use parts::{Fields, fields_of, with_fields};
-pub use pulling::{PulledFields, pull, pull_admitted, pull_parts};
-use rule::Refusal;
-use verdict::Instance;
+pub use pulling::{pull, pull_admitted, pull_parts};
+pub use refusals::Refusal;
+use verdict::{Instance, Verdict};
 pub use viewing::view;
 
 // A total for each of the verdicts true, false and unknown.
 #[repr(C)]
-#[derive(Clone, Copy)]
+#[derive(Clone, Copy, Default)]
 pub struct Totals {
     pub held: u32,
     pub failed: u32,
@@ -39,7 +40,7 @@ pub struct Totals {
 
 // The state, the document's term for what a checker carries from call to call. Its rule is the first `len` frames, of 8 bytes
 // each; the bytes after them are carried and not looked at. `width` is the document's W, `next` its p; `profile` is 0 for the desk,
-// 1 for the board; `sum` is the sum of the window's words, modulo 2^32.
+// 1 for the board, a number since the struct is C's; `sum` is the sum of the window's words, modulo 2^32.
 #[repr(C)]
 #[derive(Clone, Copy)]
 pub struct State {
@@ -60,51 +61,30 @@ pub enum Profile {
     Board,
 }
 
-// What opening answers: opened, or refused with a number and a place.
+// What an opening, a feed or a pull hands back: its answer, and the state that is handed on. A refused opening's state is zero
+// throughout.
 #[derive(Clone, Copy)]
-pub enum OpenAnswer {
-    Opened,
-    Refused(Refusal),
-}
-
-// What opening gives: its answer and a state; a refused opening's is zero throughout.
-#[derive(Clone, Copy)]
-pub struct Opened {
-    pub answer: OpenAnswer,
+pub struct Returned<T> {
+    pub answer: Result<T, Refusal>,
     pub state: State,
 }
 
-// What feeding answers: the line is accepted, ignored, or refused with a number and a place.
-#[derive(Clone, Copy)]
-pub enum FeedAnswer {
+// What opening gives.
+pub type Opened = Returned<()>;
+
+// How a line that is not refused is taken: 'ignored' where its event isn't referenced. An enum, no bool: the two answers by their
+// names.
+#[derive(Clone, Copy, PartialEq, Eq, Debug)]
+pub enum Taken {
     Accepted,
     Ignored,
-    Refused(Refusal),
 }
 
-// What feeding gives: its answer and the state that is handed on.
-#[derive(Clone, Copy)]
-pub struct Fed {
-    pub answer: FeedAnswer,
-    pub state: State,
-}
+// What feeding gives.
+pub type Fed = Returned<Taken>;
 
-// What pulling answers: the verdict of instance p, waiting, or refused with a number.
-#[derive(Clone, Copy)]
-pub enum PullAnswer {
-    True,
-    False,
-    Unknown,
-    Waiting,
-    Refused(Refusal),
-}
-
-// What pulling gives: its answer and the state that is handed on.
-#[derive(Clone, Copy)]
-pub struct Pulled {
-    pub answer: PullAnswer,
-    pub state: State,
-}
+// What pulling gives: the verdict of instance p, or None for 'waiting'.
+pub type Pulled = Returned<Option<Verdict>>;
 
 // A rework tariff: how many bands there are, at most four, the last number and the price of each, the price of all violations
 // beyond them, in cents, and the surcharge in percent. Entries of bands that there are not are not looked at.
@@ -116,11 +96,4 @@ pub struct Tariff {
     pub prices: [u32; 4],
     pub beyond: u32,
     pub surcharge: u32,
-}
-
-// What charging answers: cents, or refused with a number.
-#[derive(Clone, Copy)]
-pub enum ChargeAnswer {
-    Cents(u64),
-    Refused(Refusal),
 }

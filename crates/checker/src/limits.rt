@@ -23,6 +23,3 @@ pub const BOARD_WIDTH_LIMIT: u32 = 32;
 
 // A rule on the board has at most 16 frames.
 pub const BOARD_FRAME_LIMIT: usize = 16;
-
-// At most 8 events, as places of the counts.
-pub const COUNT_PLACES: usize = rule::limits::EVENT_LIMIT as usize;

@@ -1,16 +1,19 @@
-// A state taken apart, put together and changed; only here its fields are listed. The frames are lent, the other fields go by
-// value.
-ghost use Rattle.std.specs.Prelude.{◌≡◌, ℕ, ◌<◌, List, slice_index};
+// A state taken apart, put together and changed; only here its fields are listed: the state is a struct of C's interface. The
+// frames are lent, the other fields go by value; an array goes by a local, as the check has no proof for one stored straight.
+ghost use Rattle.std.specs.Prelude.{◌≡◌, ℕ, ◌<◌, ◌≤◌, List, slice_index};
 ghost use Rattle.rule.specs.Limits.{event_limit};
+ghost use Rattle.verdict.specs.Found.{instance_limit};
 ghost use Rattle.checker.specs.Limits.{line_limit};
-ghost use Rattle.checker.specs.State.{counted, tally_from, with_line, with_verdict, state_with, tally_in, with_tally, with_sum};
+ghost use Rattle.checker.specs.State.{totals_sum, counted, tally_from, with_line, with_verdict};
+ghost use Rattle.checker.specs.State.{state_with, tally_in, with_tally, with_sum};
 ghost use Rattle.checker.specs.Parts.{state_of};
 ghost use Rattle.checker.specs.Offer.{Countable};
 
 use crate::{State, Totals};
 use verdict::{Instance, Verdict};
 
-// The fields of a state beside its frames.
+// The fields of a state beside its frames. They stand in `State` one by one, and not as a struct there: the theorems, and the
+// header for C, speak of `state.sum` and the like.
 #[derive(Clone, Copy)]
 pub struct Fields {
     pub len: u32,
@@ -27,15 +30,13 @@ pub fn fields_of(s: State) -> Fields
     ensures { state_of s.frames result ≡ s }
 {
     let counts = s.counts;
-    let next = s.next;
-    let totals = s.totals;
     Fields {
         len: s.len,
         width: s.width,
         profile: s.profile,
         counts,
-        next,
-        totals,
+        next: s.next,
+        totals: s.totals,
         sum: s.sum,
     }
 }
@@ -45,16 +46,14 @@ pub fn with_fields(frames: [u8; 512], f: Fields) -> State
     ensures { result ≡ state_of frames f }
 {
     let counts = f.counts;
-    let next = f.next;
-    let totals = f.totals;
     State {
         frames,
         len: f.len,
         width: f.width,
         profile: f.profile,
         counts,
-        next,
-        totals,
+        next: f.next,
+        totals: f.totals,
         sum: f.sum,
     }
 }
@@ -63,74 +62,52 @@ pub fn with_fields(frames: [u8; 512], f: Fields) -> State
 pub fn at_first(frames: [u8; 512], len: u32, width: u32, profile: u32, next: Instance) -> State
     ensures { result ≡ state_with frames len width profile (tally_from next.0) 0 }
 {
-    let counts = [0u32; 8];
-    let totals = Totals {
-        held: 0,
-        failed: 0,
-        unknown: 0,
-    };
     State {
         frames,
         len,
         width,
         profile,
-        counts,
+        counts: [0; 8],
         next,
-        totals,
+        totals: Totals::default(),
         sum: 0,
     }
 }
 
-// One line more of an event, and the sum of the window then.
-pub fn with_line(f: Fields, event: u8, sum: u32) -> Fields
-    requires { (event < event_limit) × (slice_index f.counts event < line_limit) }
-    ensures { (fs : List ℕ) → state_of fs result
-        ≡ with_sum (with_tally (state_of fs f) (with_line (tally_in (state_of fs f)) event)) sum }
-{
-    let e = event as usize;
-    let c = f.counts[e];
-    let mut after = f;
-    after.counts[e] = c + 1;
-    after.sum = sum;
-    after
-}
-
-// A verdict's total goes up by 1.
-fn count_verdict(t: Totals, p: Instance, v: Verdict) -> Totals
-    requires { Countable t p.0 }
-    ensures { result ≡ counted t v }
-{
-    match v {
-        Verdict::True => Totals {
-            held: t.held + 1,
-            failed: t.failed,
-            unknown: t.unknown,
-        },
-        Verdict::False => Totals {
-            held: t.held,
-            failed: t.failed + 1,
-            unknown: t.unknown,
-        },
-        Verdict::Unknown => Totals {
-            held: t.held,
-            failed: t.failed,
-            unknown: t.unknown + 1,
-        },
+impl Totals {
+    // A verdict's total goes up by 1.
+    fn count(&mut self, v: Verdict)
+        requires { totals_sum self.old ≤ instance_limit }
+        ensures { self.new ≡ counted self.old v }
+    {
+        match v {
+            Verdict::True => self.held += 1,
+            Verdict::False => self.failed += 1,
+            Verdict::Unknown => self.unknown += 1,
+        }
     }
 }
 
-// p and that verdict's total go up by 1.
-pub fn with_verdict(f: Fields, v: Verdict) -> Fields
-    requires { Countable f.totals f.next.0 }
-    ensures { (fs : List ℕ) → state_of fs result
-        ≡ with_tally (state_of fs f) (with_verdict (tally_in (state_of fs f)) v) }
-{
-    let p = f.next;
-    let t = f.totals;
-    let totals = count_verdict(t, p, v);
-    let next = Instance(p.0 + 1);
-    let mut after = f;
-    after.next = next;
-    after.totals = totals;
-    after
+impl Fields {
+    // One line more of an event, and the sum of the window then.
+    #[tactic(auto, unfolding(crate::specs::State::with_tally, crate::specs::State::with_sum))]
+    pub(crate) fn count_line(&mut self, event: u8, sum: u32)
+        requires { (event < event_limit) × (slice_index self.old.counts event < line_limit) }
+        ensures { (fs : List ℕ) → state_of fs self.new
+            ≡ with_sum (with_tally (state_of fs self.old) (with_line (tally_in (state_of fs self.old)) event)) sum }
+    {
+        self.counts[usize::from(event)] += 1;
+        self.sum = sum;
+    }
+
+    // p and that verdict's total go up by 1.
+    #[tactic(auto, unfolding(crate::specs::State::with_tally))]
+    pub(crate) fn count_verdict(&mut self, v: Verdict)
+        requires { Countable self.old.totals self.old.next.0 }
+        ensures { (fs : List ℕ) → state_of fs self.new
+            ≡ with_tally (state_of fs self.old) (with_verdict (tally_in (state_of fs self.old)) v) }
+    {
+        self.totals.count(v);
+        self.next = Instance(self.next.0 + 1);
+    }
 }

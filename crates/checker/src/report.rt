@@ -1,13 +1,11 @@
 // The report of a false verdict. Report is the document's term.
-ghost use Rattle.std.specs.Prelude.{◌≡◌, ◌+◌, ◌≤◌, cond, [], length, if◌then◌else◌, ◌==◌, nat_eq};
+ghost use Rattle.std.specs.Prelude.{◌≡◌, ◌+◌, ◌≤◌, cond, length, if◌then◌else◌, ◌==◌, nat_eq};
 ghost use Rattle.std.proofs.lemmas.List.Edits.{sets};
 ghost use Rattle.rule.specs.Frames.{frame_count};
-ghost use Rattle.rule.specs.Tree.{word_bytes};
 ghost use Rattle.rule.specs.References.{reference_byte, reference_count};
 ghost use Rattle.checker.specs.Report.{written};
 ghost use Rattle.checker.specs.Sights.{Fillable, header_of, entry_of, report_to};
 
-use crate::words;
 use rule::{FRAME_BYTES, kinds};
 use verdict::Instance;
 
@@ -20,23 +18,12 @@ const HEADER: usize = 6;
 // The bytes of a reference.
 const ENTRY: usize = 5;
 
-// Four bytes, the first the most significant.
-fn put_word(report: &mut [u8], at: usize, w: u32)
-    requires { at + 4 ≤ length report.old }
-    ensures { report.new ≡ sets report.old at (word_bytes w []) }
-{
-    report[at] = (w / 256 / 256 / 256) as u8;
-    report[at + 1] = (w / 256 / 256 % 256) as u8;
-    report[at + 2] = (w / 256 % 256) as u8;
-    report[at + 3] = (w % 256) as u8;
-}
-
 // p, 00 for false, and how many references there are.
 fn put_header(report: &mut [u8], p: Instance, count: u8)
     requires { 6 ≤ length report.old }
     ensures { report.new ≡ sets report.old 0 (header_of p.0 count) }
 {
-    put_word(report, 0, p.0);
+    report[..4].copy_from_slice(&p.0.to_be_bytes());
     report[4] = FALSE;
     report[5] = count;
 }
@@ -47,7 +34,7 @@ fn put_entry(report: &mut [u8], at: usize, mark: u8, note: i32)
     ensures { report.new ≡ sets report.old at (entry_of mark note) }
 {
     report[at] = mark;
-    put_word(report, at + 1, words::bits(note));
+    report[at + 1..at + ENTRY].copy_from_slice(&note.to_be_bytes());
 }
 
 // One frame more: a reference's entry, and where the next goes.
@@ -71,13 +58,10 @@ pub fn fill(report: &mut [u8], frames: &[u8], p: Instance, marks: &[u8], notes: 
         (report_to frames.now marks.now notes.now
         (header_of p.0 (reference_count frames.now)) (frame_count frames.now)) report.old }
 {
-    let n = frames.len() / FRAME_BYTES;
     let count = rule::reference_count(frames);
     put_header(report, p, count as u8);
     let mut at = HEADER;
-    let mut k = 0;
-    while k < n {
+    for k in 0..frames.len() / FRAME_BYTES {
         at = put_frame(report, at, frames[k * FRAME_BYTES], marks[k], notes[k]);
-        k += 1;
     }
 }

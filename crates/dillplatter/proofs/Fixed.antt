@@ -3,22 +3,22 @@ use mathlib.Core.Path.{◌≡◌, refl, sym, ap, ap₂, ◌∙◌}
 use mathlib.Core.Bool.{Bool, true, false, cond}
 use Prim.Native.Nat.{ℕ, zero, suc}
 use lib.Dec.{eqb}
+use Rattle.std.proofs.Common.{List, Result, Ok, Err, arith}
 use Rattle.rule.specs.ReadTold.{ReadAnswer, read_told}
 use Rattle.rule.specs.ReadTold as reading
-use Rattle.rule.specs.declared.Reading.{Reading}
+use Rattle.rule.specs.declared.Refusal.{Refusal}
 use Rattle.rule.proofs.Main.{read_told_injective}
 use Rattle.log_lines.specs.Earlier.{raise_told, lower_told}
-use Rattle.log_lines.specs.declared.earlier.RaiseAnswer.{RaiseAnswer}
-use Rattle.log_lines.specs.declared.earlier.RaiseAnswer.TheVariants as raises
-use Rattle.log_lines.specs.declared.earlier.LowerAnswer.{LowerAnswer}
-use Rattle.log_lines.specs.declared.earlier.LowerAnswer.TheVariants as lowers
+use Rattle.log_lines.specs.declared.earlier.BadOldLine.{BadOldLine}
+use Rattle.log_lines.specs.declared.earlier.NotLowered.{NotLowered}
+use Rattle.log_lines.specs.declared.earlier.NotLowered.TheVariants as lowers
 use Rattle.verdict.specs.declared.Verdict.TheVariants.{True, False, Unknown}
 use Rattle.checker.specs.Answer.{opened, accepted, ignored, waiting, verdict, refused}
 use Rattle.checker.specs.StateTest.{state_passes}
 use Rattle.checker.specs.Tariff.{bands_fit, prices_fit, cents_of, Charge, cents, turned, charge_def}
 use Rattle.checker.specs.declared.State.{State}
 use Rattle.checker.specs.declared.Tariff.{Tariff}
-use Rattle.dillplatter.specs.Told.{AnyAnswer, read, checked, of_reading, answer_number, number_of, place_of, frames_of, conversion_number, conversion_place}
+use Rattle.dillplatter.specs.Told.{AnyAnswer, read, checked, of_reading, answer_number, number_of, place_of, frames_of, unlined, conversion_number, conversion_place}
 use Rattle.dillplatter.specs.Told.{charge_number, charge_place, charge_cents}
 
 -- the answer with given numbers
@@ -70,36 +70,53 @@ unfolding heard
 heard-back (reading.frames n) = refl
 heard-back (reading.refused n p) = refl
 
-pub reading_fixed : (r s : Reading) → of_reading (read_told r) ≡ of_reading (read_told s) → r ≡ s
+pub reading_fixed : (r s : Result ℕ Refusal) → of_reading (read_told r) ≡ of_reading (read_told s) → r ≡ s
 reading_fixed r s e = read_told_injective r s (sym (heard-back (read_told r)) ∙ (ap heard e ∙ heard-back (read_told s)))
 
 -- ---- conversions: the answer with a given number and place
-got_raise : (number place : ℕ) → RaiseAnswer
-got_raise zero p = raises.Raised
-got_raise (suc n) p = raises.Bad p
+got_raise : (number place : ℕ) → Result (Unit {0}) BadOldLine
+got_raise zero p = Ok tt
+got_raise (suc n) p = Err (record { place = p })
 
-raise_back : (a : RaiseAnswer) → got_raise (conversion_number (raise_told a)) (conversion_place (raise_told a)) ≡ a
+raise_back : (a : Result (List ℕ) BadOldLine) → got_raise (conversion_number (raise_told a).answer) (conversion_place (raise_told a).answer) ≡ unlined a
 unfolding raise_told got_raise
-raise_back raises.Raised = refl
-raise_back (raises.Bad p) = refl
+raise_back (Ok s) = refl
+raise_back (Err bad) = refl
 
-pub raise_fixed : (a b : RaiseAnswer) → conversion_number (raise_told a) ≡ conversion_number (raise_told b)
-    → conversion_place (raise_told a) ≡ conversion_place (raise_told b) → a ≡ b
+pub raise_fixed : (a b : Result (List ℕ) BadOldLine) → conversion_number (raise_told a).answer ≡ conversion_number (raise_told b).answer
+    → conversion_place (raise_told a).answer ≡ conversion_place (raise_told b).answer → unlined a ≡ unlined b
 raise_fixed a b h i = sym (raise_back a) ∙ ap₂ got_raise h i ∙ raise_back b
 
-got_lower : (number place : ℕ) → LowerAnswer
-got_lower n p = cond (eqb n 0) lowers.Lowered (cond (eqb n 15) (lowers.Bad p) (cond (eqb n 24) lowers.Fourth (lowers.Wide p)))
+got_lower : (number place : ℕ) → Result (Unit {0}) NotLowered
+got_lower n p = cond (eqb n 0) (Ok tt) (cond (eqb n 15) (Err (lowers.Bad (record { place = p }))) (cond (eqb n 24) (Err lowers.Fourth) (Err (lowers.Wide p))))
 
-lower-back : (a : LowerAnswer) → got_lower (conversion_number (lower_told a)) (conversion_place (lower_told a)) ≡ a
+lower-back : (a : Result (List ℕ) NotLowered) → got_lower (conversion_number (lower_told a).answer) (conversion_place (lower_told a).answer) ≡ unlined a
 unfolding lower_told got_lower
-lower-back lowers.Lowered = refl
-lower-back (lowers.Bad p) = refl
-lower-back lowers.Fourth = refl
-lower-back (lowers.Wide p) = refl
+lower-back (Ok s) = refl
+lower-back (Err (lowers.Bad bad)) = refl
+lower-back (Err lowers.Fourth) = refl
+lower-back (Err (lowers.Wide p)) = refl
 
-pub lower_fixed : (a b : LowerAnswer) → conversion_number (lower_told a) ≡ conversion_number (lower_told b)
-    → conversion_place (lower_told a) ≡ conversion_place (lower_told b) → a ≡ b
+pub lower_fixed : (a b : Result (List ℕ) NotLowered) → conversion_number (lower_told a).answer ≡ conversion_number (lower_told b).answer
+    → conversion_place (lower_told a).answer ≡ conversion_place (lower_told b).answer → unlined a ≡ unlined b
 lower_fixed a b h i = sym (lower-back a) ∙ ap₂ got_lower h i ∙ lower-back b
+
+-- with the line, all of it
+lined : {E : Type 0} (a b : Result (List ℕ) E) (line : Result (List ℕ) E → List ℕ) → ((s : List ℕ) → line (Ok s) ≡ s) → unlined a ≡ unlined b → line a ≡ line b → a ≡ b
+lined (Ok s) (Ok t) line k u l = ap Ok (sym (k s) ∙ l ∙ k t)
+lined (Ok s) (Err f) line k u l = absurd (let z : ◌≡◌ {A = ℕ} 0 1 = cc in omega arith)
+lined (Err e) (Ok t) line k u l = absurd (let z : ◌≡◌ {A = ℕ} 0 1 = cc in omega arith)
+lined (Err e) (Err f) line k u l = let q : e ≡ f = cc in ap Err q
+
+pub raise_whole : (a b : Result (List ℕ) BadOldLine) → conversion_number (raise_told a).answer ≡ conversion_number (raise_told b).answer
+    → conversion_place (raise_told a).answer ≡ conversion_place (raise_told b).answer → (raise_told a).line ≡ (raise_told b).line → a ≡ b
+unfolding raise_told
+raise_whole a b h i l = lined a b (λ r. (raise_told r).line) (λ s. refl) (raise_fixed a b h i) l
+
+pub lower_whole : (a b : Result (List ℕ) NotLowered) → conversion_number (lower_told a).answer ≡ conversion_number (lower_told b).answer
+    → conversion_place (lower_told a).answer ≡ conversion_place (lower_told b).answer → (lower_told a).line ≡ (lower_told b).line → a ≡ b
+unfolding lower_told
+lower_whole a b h i l = lined a b (λ r. (lower_told r).line) (λ s. refl) (lower_fixed a b h i) l
 
 -- ---- charges: the answer with given numbers; no refusal's number is 0
 got_charge : (number place cents : ℕ) → Charge

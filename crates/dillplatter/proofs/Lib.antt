@@ -1,5 +1,4 @@
--- A call's result in numbers, and that the numbers fix the answer.
-pub mod Calls
+-- That the numbers fix the answer.
 pub mod Fixed
 -- The headline statements.
 pub mod Main

@@ -1,14 +1,14 @@
 -- What is proved of the library's answers, beside the contracts of its calls. Assumes nothing.
-use mathlib.Core.Path.{◌≡◌}
+use Rattle.std.proofs.Common.{◌≡◌, ℕ, List, Result}
 use Rattle.rule.specs.ReadTold.{read_told}
-use Rattle.rule.specs.declared.Reading.{Reading}
+use Rattle.rule.specs.declared.Refusal.{Refusal}
 use Rattle.log_lines.specs.Earlier.{raise_told, lower_told}
-use Rattle.log_lines.specs.declared.earlier.RaiseAnswer.{RaiseAnswer}
-use Rattle.log_lines.specs.declared.earlier.LowerAnswer.{LowerAnswer}
+use Rattle.log_lines.specs.declared.earlier.BadOldLine.{BadOldLine}
+use Rattle.log_lines.specs.declared.earlier.NotLowered.{NotLowered}
 use Rattle.checker.specs.Tariff.{charge_def}
 use Rattle.checker.specs.declared.State.{State}
 use Rattle.checker.specs.declared.Tariff.{Tariff}
-use Rattle.dillplatter.specs.Told.{AnyAnswer, of_reading, answer_number, number_of, place_of, frames_of, conversion_number, conversion_place}
+use Rattle.dillplatter.specs.Told.{AnyAnswer, of_reading, answer_number, number_of, place_of, frames_of, unlined, conversion_number, conversion_place}
 use Rattle.dillplatter.specs.Told.{charge_number, charge_place, charge_cents}
 use Rattle.dillplatter.proofs.Fixed as fixed
 
@@ -17,17 +17,25 @@ pub told_fixed : (s t : AnyAnswer) → answer_number s ≡ answer_number t → n
 told_fixed = fixed.told_fixed
 
 -- What is told of a reading fixes the reading.
-pub reading_fixed : (r s : Reading) → of_reading (read_told r) ≡ of_reading (read_told s) → r ≡ s
+pub reading_fixed : (r s : Result ℕ Refusal) → of_reading (read_told r) ≡ of_reading (read_told s) → r ≡ s
 reading_fixed = fixed.reading_fixed
 
--- The number and the place fix the answer to a conversion, up and down.
-pub raise_fixed : (a b : RaiseAnswer) → conversion_number (raise_told a) ≡ conversion_number (raise_told b)
-    → conversion_place (raise_told a) ≡ conversion_place (raise_told b) → a ≡ b
+-- The number and the place fix the answer to a conversion, up and down; with the line, all that it gives.
+pub raise_fixed : (a b : Result (List ℕ) BadOldLine) → conversion_number (raise_told a).answer ≡ conversion_number (raise_told b).answer
+    → conversion_place (raise_told a).answer ≡ conversion_place (raise_told b).answer → unlined a ≡ unlined b
 raise_fixed = fixed.raise_fixed
 
-pub lower_fixed : (a b : LowerAnswer) → conversion_number (lower_told a) ≡ conversion_number (lower_told b)
-    → conversion_place (lower_told a) ≡ conversion_place (lower_told b) → a ≡ b
+pub raise_whole : (a b : Result (List ℕ) BadOldLine) → conversion_number (raise_told a).answer ≡ conversion_number (raise_told b).answer
+    → conversion_place (raise_told a).answer ≡ conversion_place (raise_told b).answer → (raise_told a).line ≡ (raise_told b).line → a ≡ b
+raise_whole = fixed.raise_whole
+
+pub lower_fixed : (a b : Result (List ℕ) NotLowered) → conversion_number (lower_told a).answer ≡ conversion_number (lower_told b).answer
+    → conversion_place (lower_told a).answer ≡ conversion_place (lower_told b).answer → unlined a ≡ unlined b
 lower_fixed = fixed.lower_fixed
+
+pub lower_whole : (a b : Result (List ℕ) NotLowered) → conversion_number (lower_told a).answer ≡ conversion_number (lower_told b).answer
+    → conversion_place (lower_told a).answer ≡ conversion_place (lower_told b).answer → (lower_told a).line ≡ (lower_told b).line → a ≡ b
+lower_whole = fixed.lower_whole
 
 -- The number, the place and the cents fix the answer to a charge.
 pub charge_fixed : (s s' : State) (t t' : Tariff) → charge_number (charge_def s t) ≡ charge_number (charge_def s' t')

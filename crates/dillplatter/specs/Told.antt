@@ -1,6 +1,6 @@
 -- The numbers that the library's calls answer with. From document 01, "What is turned down" and "Feeding, pulling and the window";
 -- the numbers of the answers are this library's own. Assumes nothing: definitions.
-use Rattle.std.specs.Prelude.{List, ℕ, ℤ}
+use Rattle.std.specs.Prelude.{List, ℕ, ℤ, Result, Ok, Err}
 use Rattle.rule.specs.ReadTold.{ReadAnswer}
 use Rattle.rule.specs.ReadTold as reading
 use Rattle.log_lines.specs.Earlier as log
@@ -12,6 +12,7 @@ use Rattle.checker.specs.Pull.{PullResult}
 use Rattle.checker.specs.Tariff.{Charge, cents, turned}
 use Rattle.checker.specs.declared.State.{State}
 use Rattle.dillplatter.specs.declared.CallResult.{CallResult}
+use Rattle.dillplatter.specs.declared.told.AnswerNumbers.{AnswerNumbers}
 
 -- an answer of any call: a text was read into so many frames, or an answer of the checker
 pub data AnyAnswer : Type 0 where
@@ -54,6 +55,10 @@ place_of (checked accepted) = 0
 place_of (checked ignored) = 0
 place_of (checked waiting) = 0
 place_of (checked (verdict v)) = 0
+
+-- an answer of the checker in numbers
+abbrev pub numbers_of : Answer → AnswerNumbers
+numbers_of a = record { answer = answer_number (checked a); number = number_of (checked a); place = place_of (checked a) }
 
 -- "answers the number of frames", 0 where a text was not read
 abbrev pub frames_of : AnyAnswer → ℕ
@@ -98,6 +103,11 @@ abbrev pub pull_numbers : PullResult → CallNumbers (List ℕ)
 pull_numbers d = in_numbers d.answer d.state d.report
 
 -- ---- the other calls
+-- what a conversion answers, without the line
+abbrev pub unlined : {E : Type 0} → Result (List ℕ) E → Result (Unit {0}) E
+unlined (Ok s) = Ok tt
+unlined (Err why) = Err why
+
 -- of a conversion, which is done or refused: the refusal's number, 0 where it is done
 abbrev pub conversion_number : log.ConversionAnswer → ℕ
 conversion_number log.done = 0

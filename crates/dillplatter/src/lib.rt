@@ -18,9 +18,10 @@ ghost use Rattle.dillplatter.specs.Told.{feed_numbers, pull_numbers};
 ghost use Rattle.dillplatter.specs.Told.{conversion_number, conversion_place, charge_number, charge_place, charge_cents};
 
 use checker::{State, Tariff};
-use told::{ChargeResult, ReadResult};
+use told::{AnswerNumbers, ChargeResult, LoweredLine, RaisedLine, ReadResult};
 
-// The state that a call hands back, its answer, and the number and place of a refusal, 0 where nothing is refused.
+// The state that a call hands back, its answer, and the number and place of a refusal, 0 where nothing is refused (C's, so no
+// Result). Each call fills one in itself: a function for it was tried, and copies the state once more (examples/copies.c counts).
 #[repr(C)]
 #[derive(Clone, Copy)]
 pub struct CallResult {
@@ -39,8 +40,7 @@ pub extern "C" fn dillplatter_read(text: &[u8], frames: &mut [u8]) -> ReadResult
         × ((result.frames ≡ frames_of (of_reading (read_of text.now frames.old).0))
         × (frames.new ≡ (read_of text.now frames.old).1)))) }
 {
-    let a = rule::read(text, frames);
-    told::reading(a)
+    rule::read(text, frames).into()
 }
 
 // Opens a checker for the desk, for every slice of frames, every W and every window.
@@ -50,11 +50,9 @@ pub extern "C" fn dillplatter_open(frames: &[u8], width: u32, window: &mut [i32]
         ≡ open_numbers (open_def Desk frames.now width window.old) }
 {
     let opened = checker::open_desk(frames, width, window);
-    let state = opened.state;
-    let a = opened.answer;
-    let opening = told::opening(a);
+    let opening = AnswerNumbers::from(opened.answer);
     CallResult {
-        state,
+        state: opened.state,
         answer: opening.answer,
         number: opening.number,
         place: opening.place,
@@ -72,11 +70,9 @@ pub extern "C" fn dillplatter_open_board(
         ≡ open_numbers (open_def Board frames.now width window.old) }
 {
     let opened = checker::open_board(frames, width, window);
-    let state = opened.state;
-    let a = opened.answer;
-    let board_opening = told::opening(a);
+    let board_opening = AnswerNumbers::from(opened.answer);
     CallResult {
-        state,
+        state: opened.state,
         answer: board_opening.answer,
         number: board_opening.number,
         place: board_opening.place,
@@ -90,11 +86,9 @@ pub extern "C" fn dillplatter_feed(state: State, window: &mut [i32], line: &[u8]
         ≡ feed_numbers (feed_def state window.old line.now) }
 {
     let frames = state.frames;
-    let fields = checker::fields_of(state);
-    let fed = checker::feed_parts(&frames, fields, window, line);
-    let a = fed.answer;
-    let feeding = told::feeding(a);
-    let counted = fed.fields;
+    let mut counted = checker::fields_of(state);
+    let fed = checker::feed_parts(&frames, &mut counted, window, line);
+    let feeding = AnswerNumbers::from(fed);
     CallResult {
         state: checker::with_fields(frames, counted),
         answer: feeding.answer,
@@ -110,11 +104,9 @@ pub extern "C" fn dillplatter_pull(state: State, window: &[i32], report: &mut [u
         ≡ pull_numbers (pull_def state window.now report.old) }
 {
     let frames = state.frames;
-    let fields = checker::fields_of(state);
-    let pulled = checker::pull_parts(&frames, fields, window, report);
-    let a = pulled.answer;
-    let pulling = told::pulling(a);
-    let moved = pulled.fields;
+    let mut moved = checker::fields_of(state);
+    let pulled = checker::pull_parts(&frames, &mut moved, window, report);
+    let pulling = AnswerNumbers::from(pulled);
     CallResult {
         state: checker::with_fields(frames, moved),
         answer: pulling.answer,
@@ -132,27 +124,16 @@ pub extern "C" fn dillplatter_view<'a>(part: &mut &'a [u8]) -> u32
         × (result ≡ (view_def part.old.now).number)) }
 {
     let report = *part;
-    let mut number = 0;
-    *part = checker::view(report, &mut number);
-    number
-}
-
-// What bringing an old line up gives: the number and place of a refusal, 0 where nothing is refused, and the line.
-#[repr(C)]
-#[derive(Clone, Copy)]
-pub struct RaisedLine {
-    pub number: u32,
-    pub place: u32,
-    pub line: [u8; 34],
-}
-
-// What bringing a line down gives, in the same way.
-#[repr(C)]
-#[derive(Clone, Copy)]
-pub struct LoweredLine {
-    pub number: u32,
-    pub place: u32,
-    pub line: [u8; 14],
+    match checker::view(report) {
+        Ok(view) => {
+            *part = view;
+            0
+        }
+        Err(why) => {
+            *part = &report[..0];
+            u32::from(why.number())
+        }
+    }
 }
 
 // Brings an old line up, for every slice.
@@ -162,15 +143,7 @@ pub extern "C" fn dillplatter_raise(old: &[u8]) -> RaisedLine
         × ((result.place ≡ conversion_place (raised_def old.now).answer)
         × (result.line ≡ (raised_def old.now).line)) }
 {
-    let raised = log_lines::raised(old);
-    let line = raised.line;
-    let a = raised.answer;
-    let raising = told::raising(a);
-    RaisedLine {
-        number: raising.number,
-        place: raising.place,
-        line,
-    }
+    log_lines::raised(old).into()
 }
 
 // Brings a line down, for every slice.
@@ -180,15 +153,7 @@ pub extern "C" fn dillplatter_lower(line: &[u8]) -> LoweredLine
         × ((result.place ≡ conversion_place (lowered_def line.now).answer)
         × (result.line ≡ (lowered_def line.now).line)) }
 {
-    let lowered = log_lines::lowered(line);
-    let old = lowered.line;
-    let a = lowered.answer;
-    let lowering = told::lowering(a);
-    LoweredLine {
-        number: lowering.number,
-        place: lowering.place,
-        line: old,
-    }
+    log_lines::lowered(line).into()
 }
 
 // Charges the violations that a state counts, for every state and every tariff.
@@ -198,6 +163,5 @@ pub extern "C" fn dillplatter_charge(state: State, tariff: Tariff) -> ChargeResu
         × ((result.place ≡ charge_place (charge_def state tariff))
         × (result.cents ≡ charge_cents (charge_def state tariff))) }
 {
-    let a = checker::charge(state, tariff);
-    told::charging(a)
+    checker::charge(state, tariff).into()
 }

@@ -3,15 +3,17 @@ ghost use Rattle.std.specs.Prelude.{◌≡◌};
 ghost use Rattle.rule.specs.ReadTold.{read_told};
 ghost use Rattle.log_lines.specs.Earlier.{raise_told, lower_told};
 ghost use Rattle.checker.specs.Answer.{open_told, feed_told, pull_told, refused};
-ghost use Rattle.dillplatter.specs.Told.{checked, of_reading, answer_number, number_of, place_of, frames_of};
+ghost use Rattle.checker.specs.Refusals.{refusal_number, refusal_place};
 ghost use Rattle.checker.specs.Tariff.{charge_told};
+ghost use Rattle.dillplatter.specs.Told.{numbers_of, of_reading, answer_number, number_of, place_of, frames_of};
 ghost use Rattle.dillplatter.specs.Told.{conversion_number, conversion_place, charge_number, charge_place, charge_cents};
 
-use checker::{ChargeAnswer, FeedAnswer, OpenAnswer, PullAnswer};
-use log_lines::{LowerAnswer, RaiseAnswer};
-use rule::{Reading, Refusal};
+use checker::{Refusal, Taken};
+use log_lines::{BadOldLine, NotLowered};
+use verdict::Verdict;
 
-// The numbers of the answers, as include/dillplatter.h has them.
+// The numbers of the answers, as include/dillplatter.h has them: C's, so no enum. The structs below have C's numbers too, 0 where
+// nothing is refused, and so no Option or Result.
 const REFUSED: u32 = 0;
 
 const READ: u32 = 1;
@@ -30,7 +32,7 @@ const FALSE: u32 = 7;
 
 const UNKNOWN: u32 = 8;
 
-// An answer in numbers; number and place are 0 where nothing is refused.
+// An answer in numbers; number and place are 0 where nothing is refused, since `CallResult`, which is C's, takes the three.
 #[derive(Clone, Copy)]
 pub struct AnswerNumbers {
     pub answer: u32,
@@ -40,7 +42,7 @@ pub struct AnswerNumbers {
 
 // An answer that is no refusal.
 fn plain(answer: u32) -> AnswerNumbers
-    ensures { (result.answer ≡ answer) × ((result.number ≡ 0) × (result.place ≡ 0)) }
+    ensures { result ≡ record { answer = answer; number = 0; place = 0 } }
 {
     AnswerNumbers {
         answer,
@@ -49,51 +51,55 @@ fn plain(answer: u32) -> AnswerNumbers
     }
 }
 
-fn refusal(r: Refusal) -> AnswerNumbers
-    ensures { (result.answer ≡ answer_number (checked (refused r.number r.place)))
-        × ((result.number ≡ r.number) × (result.place ≡ r.place)) }
-{
-    AnswerNumbers {
-        answer: REFUSED,
-        number: r.number as u32,
-        place: r.place,
+impl From<Refusal> for AnswerNumbers {
+    ghost from_gives = { λ why n. n ≡ numbers_of (refused (refusal_number why) (refusal_place why)) };
+
+    fn from(why: Refusal) -> AnswerNumbers {
+        AnswerNumbers {
+            answer: REFUSED,
+            number: u32::from(why.number()),
+            place: why.place(),
+        }
     }
 }
 
 // An answer to opening.
-pub fn opening(a: OpenAnswer) -> AnswerNumbers
-    ensures { (result.answer ≡ answer_number (checked (open_told a)))
-        × ((result.number ≡ number_of (checked (open_told a))) × (result.place ≡ place_of (checked (open_told a)))) }
-{
-    match a {
-        OpenAnswer::Opened => plain(OPENED),
-        OpenAnswer::Refused(r) => refusal(r),
+impl From<Result<(), Refusal>> for AnswerNumbers {
+    ghost from_gives = { λ a n. n ≡ numbers_of (open_told a) };
+
+    fn from(a: Result<(), Refusal>) -> AnswerNumbers {
+        match a {
+            Ok(()) => plain(OPENED),
+            Err(why) => why.into(),
+        }
     }
 }
 
 // An answer to feeding.
-pub fn feeding(a: FeedAnswer) -> AnswerNumbers
-    ensures { (result.answer ≡ answer_number (checked (feed_told a)))
-        × ((result.number ≡ number_of (checked (feed_told a))) × (result.place ≡ place_of (checked (feed_told a)))) }
-{
-    match a {
-        FeedAnswer::Accepted => plain(ACCEPTED),
-        FeedAnswer::Ignored => plain(IGNORED),
-        FeedAnswer::Refused(r) => refusal(r),
+impl From<Result<Taken, Refusal>> for AnswerNumbers {
+    ghost from_gives = { λ a n. n ≡ numbers_of (feed_told a) };
+
+    fn from(a: Result<Taken, Refusal>) -> AnswerNumbers {
+        match a {
+            Ok(Taken::Accepted) => plain(ACCEPTED),
+            Ok(Taken::Ignored) => plain(IGNORED),
+            Err(why) => why.into(),
+        }
     }
 }
 
 // An answer to pulling.
-pub fn pulling(a: PullAnswer) -> AnswerNumbers
-    ensures { (result.answer ≡ answer_number (checked (pull_told a)))
-        × ((result.number ≡ number_of (checked (pull_told a))) × (result.place ≡ place_of (checked (pull_told a)))) }
-{
-    match a {
-        PullAnswer::True => plain(TRUE),
-        PullAnswer::False => plain(FALSE),
-        PullAnswer::Unknown => plain(UNKNOWN),
-        PullAnswer::Waiting => plain(WAITING),
-        PullAnswer::Refused(r) => refusal(r),
+impl From<Result<Option<Verdict>, Refusal>> for AnswerNumbers {
+    ghost from_gives = { λ a n. n ≡ numbers_of (pull_told a) };
+
+    fn from(a: Result<Option<Verdict>, Refusal>) -> AnswerNumbers {
+        match a {
+            Ok(Some(Verdict::True)) => plain(TRUE),
+            Ok(Some(Verdict::False)) => plain(FALSE),
+            Ok(Some(Verdict::Unknown)) => plain(UNKNOWN),
+            Ok(None) => plain(WAITING),
+            Err(why) => why.into(),
+        }
     }
 }
 
@@ -107,63 +113,87 @@ pub struct ReadResult {
     pub frames: u32,
 }
 
-// An answer to reading.
-pub fn reading(a: Reading) -> ReadResult
-    ensures { (result.answer ≡ answer_number (of_reading (read_told a)))
-        × ((result.number ≡ number_of (of_reading (read_told a))) × ((result.place ≡ place_of (of_reading (read_told a)))
-        × (result.frames ≡ frames_of (of_reading (read_told a))))) }
-{
-    match a {
-        Reading::Frames(n) => ReadResult {
-            answer: READ,
-            number: 0,
-            place: 0,
-            frames: n,
-        },
-        Reading::Refused(r) => ReadResult {
-            answer: REFUSED,
-            number: r.number as u32,
-            place: r.place,
-            frames: 0,
-        },
+impl From<Result<u32, rule::Refusal>> for ReadResult {
+    ghost from_gives = { λ a r. (r.answer ≡ answer_number (of_reading (read_told a)))
+        × ((r.number ≡ number_of (of_reading (read_told a))) × ((r.place ≡ place_of (of_reading (read_told a)))
+        × (r.frames ≡ frames_of (of_reading (read_told a))))) };
+
+    fn from(a: Result<u32, rule::Refusal>) -> ReadResult {
+        match a {
+            Ok(frames) => ReadResult {
+                answer: READ,
+                number: 0,
+                place: 0,
+                frames,
+            },
+            Err(why) => ReadResult {
+                answer: REFUSED,
+                number: u32::from(why.number()),
+                place: why.place(),
+                frames: 0,
+            },
+        }
     }
 }
 
-// A conversion's refusal in numbers, both 0 where it is done.
+// What bringing an old line up gives: the number and place of a refusal, 0 where nothing is refused, and the line, zero bytes where
+// it is refused. C's structs have no const parameter, so a line of 34 bytes and one of 14 have one each.
+#[repr(C)]
 #[derive(Clone, Copy)]
-pub struct Conversion {
+pub struct RaisedLine {
     pub number: u32,
     pub place: u32,
+    pub line: [u8; 34],
 }
 
-// An answer to bringing an old line up.
-pub fn raising(a: RaiseAnswer) -> Conversion
-    ensures { (result.number ≡ conversion_number (raise_told a)) × (result.place ≡ conversion_place (raise_told a)) }
-{
-    match a {
-        RaiseAnswer::Raised => Conversion {
-            number: 0,
-            place: 0,
-        },
-        RaiseAnswer::Bad(place) => Conversion { number: 23, place },
+impl From<Result<[u8; 34], BadOldLine>> for RaisedLine {
+    ghost from_gives = { λ a r. (r.number ≡ conversion_number (raise_told a).answer)
+        × ((r.place ≡ conversion_place (raise_told a).answer) × (r.line ≡ (raise_told a).line)) };
+
+    #[tactic(auto, unfolding(log_lines::specs::Earlier::raise_told))]
+    fn from(a: Result<[u8; 34], BadOldLine>) -> RaisedLine {
+        match a {
+            Ok(line) => RaisedLine {
+                number: 0,
+                place: 0,
+                line,
+            },
+            Err(bad) => RaisedLine {
+                number: u32::from(bad.number()),
+                place: bad.place,
+                line: [0; 34],
+            },
+        }
     }
 }
 
-// An answer to bringing a line down.
-pub fn lowering(a: LowerAnswer) -> Conversion
-    ensures { (result.number ≡ conversion_number (lower_told a)) × (result.place ≡ conversion_place (lower_told a)) }
-{
-    match a {
-        LowerAnswer::Lowered => Conversion {
-            number: 0,
-            place: 0,
-        },
-        LowerAnswer::Bad(place) => Conversion { number: 15, place },
-        LowerAnswer::Fourth => Conversion {
-            number: 24,
-            place: 0,
-        },
-        LowerAnswer::Wide(place) => Conversion { number: 25, place },
+// What bringing a line down gives, in the same way.
+#[repr(C)]
+#[derive(Clone, Copy)]
+pub struct LoweredLine {
+    pub number: u32,
+    pub place: u32,
+    pub line: [u8; 14],
+}
+
+impl From<Result<[u8; 14], NotLowered>> for LoweredLine {
+    ghost from_gives = { λ a r. (r.number ≡ conversion_number (lower_told a).answer)
+        × ((r.place ≡ conversion_place (lower_told a).answer) × (r.line ≡ (lower_told a).line)) };
+
+    #[tactic(auto, unfolding(log_lines::specs::Earlier::lower_told))]
+    fn from(a: Result<[u8; 14], NotLowered>) -> LoweredLine {
+        match a {
+            Ok(line) => LoweredLine {
+                number: 0,
+                place: 0,
+                line,
+            },
+            Err(lost) => LoweredLine {
+                number: u32::from(lost.number()),
+                place: lost.place(),
+                line: [0; 14],
+            },
+        }
     }
 }
 
@@ -176,21 +206,22 @@ pub struct ChargeResult {
     pub cents: u64,
 }
 
-// An answer to charging.
-pub fn charging(a: ChargeAnswer) -> ChargeResult
-    ensures { (result.number ≡ charge_number (charge_told a))
-        × ((result.place ≡ charge_place (charge_told a)) × (result.cents ≡ charge_cents (charge_told a))) }
-{
-    match a {
-        ChargeAnswer::Cents(cents) => ChargeResult {
-            number: 0,
-            place: 0,
-            cents,
-        },
-        ChargeAnswer::Refused(r) => ChargeResult {
-            number: r.number as u32,
-            place: r.place,
-            cents: 0,
-        },
+impl From<Result<u64, Refusal>> for ChargeResult {
+    ghost from_gives = { λ a r. (r.number ≡ charge_number (charge_told a))
+        × ((r.place ≡ charge_place (charge_told a)) × (r.cents ≡ charge_cents (charge_told a))) };
+
+    fn from(a: Result<u64, Refusal>) -> ChargeResult {
+        match a {
+            Ok(cents) => ChargeResult {
+                number: 0,
+                place: 0,
+                cents,
+            },
+            Err(why) => ChargeResult {
+                number: u32::from(why.number()),
+                place: why.place(),
+                cents: 0,
+            },
+        }
     }
 }

@@ -8,7 +8,7 @@ use borrow.Author.Tests.{leb-true}
 use lib.Dec.{leb}
 use lib.ListN.{get_or, length-map}
 use Rattle.numbers.specs.Range.{between}
-use Rattle.numbers.proofs.Bools.{and-true}
+use Rattle.std.proofs.lemmas.Bool.{and_parts}
 use Rattle.log_lines.specs.Digit.{digit_value, capital}
 use Rattle.log_lines.specs.Line.{digits_at_front, bad_place, line_of}
 use Rattle.log_lines.proofs.Values.{value-of-capital, value-of-small}
@@ -21,7 +21,7 @@ capital-keeps-value b = go (between 0x61 0x66 b) refl
     go : (x : Bool) → between 0x61 0x66 b ≡ x → digit_value (cond x (b - 0x20) b) ≡ digit_value b
     go false e = refl
     go true e =
-        let t = and-true (leb 0x61 b) (leb b 0x66) e in
+        let t = and_parts (leb 0x61 b) (leb b 0x66) e in
         let lo = leb-true 0x61 b t.0 in
         let hi = leb-true b 0x66 t.1 in
         let as-small = value-of-small b (b - 0x61 + 10) lo hi refl in

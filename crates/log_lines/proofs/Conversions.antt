@@ -1,4 +1,5 @@
 -- Up and down: what is written is read again, what was read is written as it was, in capitals. Assumes nothing.
+use Rattle.std.specs.Prelude.{Result, Ok, Err}
 use mathlib.Core.Path.{◌≡◌, refl, sym, ap, ◌∙◌}
 use mathlib.Core.Bool.{true}
 use mathlib.Core.List.{List, [], map}
@@ -13,17 +14,19 @@ use mir.Syntax.{w16, w32}
 use mir.Val.{SFits, to_z, of_z}
 use mir.Facts.{to_z-of_z, Fits-of_z, sfits_widen}
 use Rattle.numbers.specs.Word.{big_endian}
-use Rattle.numbers.proofs.Bools.{T_true, and-true, true-and}
+use Rattle.std.proofs.lemmas.Bool.{and_parts, and_from}
+use Rattle.numbers.proofs.Bools.{T_true}
 use Rattle.numbers.proofs.Ints.{nat_abs_zero}
 use Rattle.log_lines.specs.Digit.{digit_value, capital}
 use Rattle.log_lines.specs.Line.{digits_at_front, byte_at, note_at, bad_place_of, bad_place, line, refused, line_of, AreDigits, AllDigits, BadPlace}
-use Rattle.log_lines.specs.Earlier.{old_digits, line_digits, old_note_from, old_note_at, old_line_of, digits_of, old_note, new_note, old_line, new_line}
-use Rattle.log_lines.specs.Earlier.{ConversionAnswer, done, turned, Converted, converted, raise_told, lower_told, raised_by, raised_def}
+use Rattle.log_lines.specs.Line.{line_digits}
+use Rattle.log_lines.specs.Earlier.{old_digits, old_note_from, old_note_at, old_line_of, digits_of, old_note, new_note, old_line, new_line}
+use Rattle.log_lines.specs.Earlier.{ConversionAnswer, done, turned, Converted, converted, raise_told, lower_number, lower_place, lower_told, raised_by, raised_def}
 use Rattle.log_lines.specs.Earlier.{holds16, In16, loss_of, unless_lost, lowered_by, lowered_def}
-use Rattle.log_lines.specs.declared.earlier.RaiseAnswer.{RaiseAnswer}
-use Rattle.log_lines.specs.declared.earlier.RaiseAnswer.TheVariants as raises
-use Rattle.log_lines.specs.declared.earlier.LowerAnswer.{LowerAnswer}
-use Rattle.log_lines.specs.declared.earlier.LowerAnswer.TheVariants as lowers
+use Rattle.log_lines.specs.declared.line.BadLine.{BadLine}
+use Rattle.log_lines.specs.declared.earlier.BadOldLine.{BadOldLine}
+use Rattle.log_lines.specs.declared.earlier.NotLowered.{NotLowered}
+use Rattle.log_lines.specs.declared.earlier.NotLowered.TheVariants as lowers
 use Rattle.log_lines.proofs.Losses.{answer_unless}
 use Rattle.log_lines.proofs.Lines.{line-of-digits}
 use Rattle.log_lines.proofs.Exactly.{are-digits, either, place, one_place}
@@ -95,20 +98,17 @@ clash h = absurd (let y : ◌≡◌ {A = ℕ} 0 1 = cc in omega arith)
 pub numbers : {n m p q : ℕ} → turned n p ≡ turned m q → (n ≡ m) × (p ≡ q)
 numbers h = (cc, cc)
 
-other-number : {A : Type 0} {n m p q : ℕ} → turned n p ≡ turned m q → (n ≡ m → ⊥) → A
-other-number h f = absurd (f (numbers h).0)
-
 -- ---- what 16 bits hold, as a test and as a fact
 pub within_16 : {z : ℤ} → holds16 z ≡ true → In16 z
 within_16 {z} e =
-    let t = and-true (le_z (negsuc 32767) z) (le_z z (pos 32767)) e in
+    let t = and_parts (le_z (negsuc 32767) z) (le_z z (pos 32767)) e in
     (le_z_yes (rw t.0 tt), le_z_yes (rw t.1 tt))
 
 pub held_16 : {z : ℤ} → In16 z → holds16 z ≡ true
 held_16 {z} h =
     let low = T_true (le_z (negsuc 32767) z) h.0.le in
     let high = T_true (le_z z (pos 32767)) h.1.le in
-    true-and (le_z (negsuc 32767) z) (le_z z (pos 32767)) low high
+    and_from (le_z (negsuc 32767) z) (le_z z (pos 32767)) low high
 
 -- 34 zero bytes are no digits
 pub zeros-read : line_of (replicate line_digits 0) ≡ refused 15 0
@@ -230,28 +230,36 @@ module _ (s : List ℕ) where
   )
 
 -- ---- what is told of an answer fixes it
-pub raise_told_injective : (a b : RaiseAnswer) → raise_told a ≡ raise_told b → a ≡ b
-unfolding raise_told
-raise_told_injective raises.Raised raises.Raised h = refl
-raise_told_injective raises.Raised (raises.Bad q) h = clash h
-raise_told_injective (raises.Bad p) raises.Raised h = clash (sym h)
-raise_told_injective (raises.Bad p) (raises.Bad q) h = cc
+abbrev bad : ℕ → BadLine
+bad p = record { place = p }
 
-pub lower_told_injective : (a b : LowerAnswer) → lower_told a ≡ lower_told b → a ≡ b
+abbrev bad-old : ℕ → BadOldLine
+bad-old p = record { place = p }
+
+pub raise_told_injective : (a b : Result (List ℕ) BadOldLine) → raise_told a ≡ raise_told b → a ≡ b
+unfolding raise_told
+raise_told_injective (Ok s) (Ok t) h = ap Ok (ap (λ (r : Converted). r.line) h)
+raise_told_injective (Ok s) (Err q) h = clash (ap (λ (r : Converted). r.answer) h)
+raise_told_injective (Err p) (Ok t) h = clash (sym (ap (λ (r : Converted). r.answer) h))
+raise_told_injective (Err p) (Err q) h =
+    let e = numbers (ap (λ (r : Converted). r.answer) h) in ap (λ (n : ℕ). Err (bad-old n)) e.1
+
+-- why a line is not brought down, by its number and place
+same-why : (x y : NotLowered) → lower_number x ≡ lower_number y → lower_place x ≡ lower_place y → x ≡ y
+same-why (lowers.Bad p) (lowers.Bad q) h i = ap (λ (n : ℕ). lowers.Bad (bad n)) i
+same-why (lowers.Bad p) lowers.Fourth h i = absurd (omega arith)
+same-why (lowers.Bad p) (lowers.Wide q) h i = absurd (omega arith)
+same-why lowers.Fourth (lowers.Bad q) h i = absurd (omega arith)
+same-why lowers.Fourth lowers.Fourth h i = refl
+same-why lowers.Fourth (lowers.Wide q) h i = absurd (omega arith)
+same-why (lowers.Wide p) (lowers.Bad q) h i = absurd (omega arith)
+same-why (lowers.Wide p) lowers.Fourth h i = absurd (omega arith)
+same-why (lowers.Wide p) (lowers.Wide q) h i = cc
+
+pub lower_told_injective : (a b : Result (List ℕ) NotLowered) → lower_told a ≡ lower_told b → a ≡ b
 unfolding lower_told
-lower_told_injective lowers.Lowered lowers.Lowered h = refl
-lower_told_injective lowers.Lowered (lowers.Bad q) h = clash h
-lower_told_injective lowers.Lowered lowers.Fourth h = clash h
-lower_told_injective lowers.Lowered (lowers.Wide q) h = clash h
-lower_told_injective (lowers.Bad p) lowers.Lowered h = clash (sym h)
-lower_told_injective (lowers.Bad p) (lowers.Bad q) h = cc
-lower_told_injective (lowers.Bad p) lowers.Fourth h = other-number h (omega arith)
-lower_told_injective (lowers.Bad p) (lowers.Wide q) h = other-number h (omega arith)
-lower_told_injective lowers.Fourth lowers.Lowered h = clash (sym h)
-lower_told_injective lowers.Fourth (lowers.Bad q) h = other-number h (omega arith)
-lower_told_injective lowers.Fourth lowers.Fourth h = refl
-lower_told_injective lowers.Fourth (lowers.Wide q) h = other-number h (omega arith)
-lower_told_injective (lowers.Wide p) lowers.Lowered h = clash (sym h)
-lower_told_injective (lowers.Wide p) (lowers.Bad q) h = other-number h (omega arith)
-lower_told_injective (lowers.Wide p) lowers.Fourth h = other-number h (omega arith)
-lower_told_injective (lowers.Wide p) (lowers.Wide q) h = cc
+lower_told_injective (Ok s) (Ok t) h = ap Ok (ap (λ (r : Converted). r.line) h)
+lower_told_injective (Ok s) (Err q) h = clash (ap (λ (r : Converted). r.answer) h)
+lower_told_injective (Err p) (Ok t) h = clash (sym (ap (λ (r : Converted). r.answer) h))
+lower_told_injective (Err p) (Err q) h =
+    let e = numbers (ap (λ (r : Converted). r.answer) h) in ap Err (same-why p q e.0 e.1)

@@ -1,4 +1,6 @@
 -- The bytes that the converter puts together are those of its definition. Assumes nothing.
+use Rattle.std.specs.Prelude.{Ok, Err}
+use Rattle.std.specs.List.{list_all}
 use mathlib.Core.Path.{◌≡◌, refl, sym, ap, ◌∙◌}
 use mathlib.Core.Bool.{Bool, true, false}
 use mathlib.Core.List.{List, [], map}
@@ -9,21 +11,21 @@ use lib.Dec.{eqb}
 use lib.IntN.{pos, nat_abs}
 use lib.ListN.{length, take, drop, replicate}
 use lib.Seq.{sets}
-use Rattle.log_lines.specs.Digit.{capital}
-use Rattle.log_lines.specs.Line.{byte_at, note_at, bad_place_of, bad_place, LineAnswer, line, refused, line_of, AreDigits, AllDigits}
+use Rattle.log_lines.specs.Digit.{is_digit, capital}
+use Rattle.log_lines.specs.Line.{line_digits, byte_at, note_at, bad_place_of, bad_place, line, refused, line_told, line_of, AreDigits, AllDigits}
 use Rattle.log_lines.specs.Earlier.{old_digits, old_note_from, old_note_at, old_line_of, digits_of, new_note, old_line, new_line}
 use Rattle.log_lines.specs.Earlier.{ConversionAnswer, done, turned, Converted, converted, not_converted, raised_by, raised_def}
-use Rattle.log_lines.specs.Earlier.{line_digits, raise_told, lower_told}
-use Rattle.log_lines.specs.declared.earlier.LowerResult.{LowerResult}
-use Rattle.log_lines.specs.declared.earlier.LowerAnswer.{LowerAnswer}
-use Rattle.log_lines.specs.declared.earlier.LowerAnswer.TheVariants as lowers
-use Rattle.log_lines.specs.declared.earlier.RaiseResult.{RaiseResult}
-use Rattle.log_lines.specs.declared.earlier.RaiseAnswer.TheVariants as raises
 use Rattle.log_lines.specs.Earlier.{holds16, loss_by, loss_of, unless_lost, lowered_by, lowered_def}
-use Rattle.log_lines.proofs.Digits.{front-least}
+use Rattle.log_lines.specs.Earlier.{raise_told, loss_told, lower_told}
+use Rattle.log_lines.specs.declared.line.BadLine.{BadLine}
+use Rattle.log_lines.specs.declared.line.Line.{Line}
+use Rattle.log_lines.specs.declared.earlier.BadOldLine.{BadOldLine}
+use Rattle.log_lines.specs.declared.earlier.NotLowered.{NotLowered}
+use Rattle.log_lines.specs.declared.earlier.NotLowered.TheVariants.{Bad}
+use Rattle.log_lines.proofs.Digits.{front-least, all-front, each_all}
 use Rattle.log_lines.proofs.Lines.{line-of-digits, line-of-other}
-use Rattle.log_lines.proofs.Exactly.{are-digits, either, yes-digits, no_digits}
-use Rattle.log_lines.proofs.Losses.{answer_unless, refused-zeros}
+use Rattle.log_lines.proofs.Exactly.{are-digits, either, yes-digits, no_digits, line_exactly}
+use Rattle.log_lines.proofs.Losses.{answer_unless}
 use Rattle.log_lines.proofs.Spelled.{pair_onto, pair-part, four-part}
 use Rattle.log_lines.proofs.NoteLaws.{event-spelled, lowered-note-spelled}
 
@@ -47,14 +49,21 @@ module _ (s : List ℕ) where
   unfolding raised_def
   raised-of-other h = ap raised_by (old-of-other h)
 
--- a result that is refused
-pub raised-refused : (s : List ℕ) {r : RaiseResult} {p : ℕ} → r ≡ record { answer = raises.Bad p; line = replicate line_digits 0 }
-    → p ≡ bad_place_of old_digits s → (AreDigits old_digits s → ⊥)
-    → (raise_told r.answer ≡ (raised_def s).answer) × (r.line ≡ (raised_def s).line)
+-- what is told of an old line that is refused
+pub raised-refused : (s : List ℕ) (b : BadOldLine) → b.place ≡ bad_place_of old_digits s
+    → (length s ≡ old_digits → list_all is_digit s ≡ true → ⊥) → raise_told (Err b) ≡ raised_def s
 unfolding raise_told
-raised-refused s {r} {p} e q h =
-    let d = raised-of-other s h in
-    (rw (e, d, q) refl, rw (e, d) refl)
+raised-refused s b e h =
+    rw e (sym (raised-of-other s (λ d. h d.0 (each_all s (λ k q. d.1 k (omega (arith, q, d.0)))))))
+
+-- 14 bytes, all digits
+pub all-are-digits : (s : List ℕ) → length s ≡ old_digits → list_all is_digit s ≡ true → AreDigits old_digits s
+all-are-digits s e a = are-digits old_digits s e (omega (arith, e, all-front s a))
+
+-- of one that is not
+pub raised-whole : (s bytes : List ℕ) → AreDigits old_digits s → bytes ≡ (raised_def s).line → raise_told (Ok bytes) ≡ raised_def s
+unfolding raise_told
+raised-whole s bytes h e = rw (e, raised-of-digits s h) refl
 
 -- the event's digits, then each note at its place, into 34 times the digit 0
 pub raised-bytes : (s l1 l2 l3 l4 : List ℕ) → AreDigits old_digits s
@@ -154,26 +163,38 @@ lowered-bytes s l1 l2 l3 l4 h e a b c d =
     let three = four-part s 22 (omega arith) in
     rw (w.gives, lowered-spelled s w, d, c, b, a, pair, one, two, three) refl
 
--- what the loss of a line that was read tells
-pub lowered_told : (s : List ℕ) {x : ConversionAnswer} {t : LineAnswer} → x ≡ (lowered_by t).answer → t ≡ line_of s → x ≡ (lowered_def s).answer
-unfolding lowered_def
-lowered_told s e f = e ∙ ap (λ (t : LineAnswer). (lowered_by t).answer) f
+-- what is told of a line that could not be read
+pub lowered-unread : (s : List ℕ) (b : BadLine) → line_told (Err b) ≡ line_of s → lower_told (Err (Bad b)) ≡ lowered_def s
+unfolding line_told lower_told lowered_def
+lowered-unread s b e = ap lowered_by e
 
-pub done-by : (s : List ℕ) {a : LowerAnswer} → a ≡ lowers.Lowered → lower_told a ≡ (lowered_def s).answer → (lowered_def s).answer ≡ done
+-- of one of which something is lost
+pub lowered-lost : (s : List ℕ) (l : Line) (why : NotLowered) → line_told (Ok l) ≡ line_of s
+    → loss_told (Err why) ≡ loss_of l.notes.0 l.notes.1 l.notes.2 l.notes.3 → lower_told (Err why) ≡ lowered_def s
+unfolding line_told loss_told lower_told lowered_def
+lowered-lost s l why e f =
+    ap (λ (x : ConversionAnswer). unless_lost x (old_line l.event l.notes.0 l.notes.1 l.notes.2)) f ∙ ap lowered_by e
+
+-- of one of which nothing is lost: its bytes are all that there is
+pub lowered-done : (s : List ℕ) (l : Line) → line_told (Ok l) ≡ line_of s
+    → loss_told (Ok tt) ≡ loss_of l.notes.0 l.notes.1 l.notes.2 l.notes.3 → (lowered_def s).answer ≡ done
+unfolding line_told loss_told lowered_def
+lowered-done s l e f =
+    ap (λ (r : Converted). r.answer)
+    (sym (ap lowered_by e) ∙ ap (λ (x : ConversionAnswer). unless_lost x (old_line l.event l.notes.0 l.notes.1 l.notes.2)) (sym f))
+
+pub lowered-whole : (s bytes : List ℕ) (l : Line) → line_told (Ok l) ≡ line_of s
+    → loss_told (Ok tt) ≡ loss_of l.notes.0 l.notes.1 l.notes.2 l.notes.3 → bytes ≡ (lowered_def s).line
+    → lower_told (Ok bytes) ≡ lowered_def s
 unfolding lower_told
-done-by s e t = sym t ∙ ap lower_told e
+lowered-whole s bytes l e f g = rw g (rw (lowerable s (lowered-done s l e f)).gives refl)
 
--- no bytes where something is
-no_bytes : (s : List ℕ) (a : LowerAnswer) → (a ≡ lowers.Lowered → ⊥) → lower_told a ≡ (lowered_def s).answer
-    → replicate old_digits 0 ≡ (lowered_def s).line
-unfolding lower_told lowered_def
-no_bytes s lowers.Lowered n e = absurd (n refl)
-no_bytes s (lowers.Bad p) n e = sym (refused-zeros (line_of s) 15 p (sym e))
-no_bytes s lowers.Fourth n e = sym (refused-zeros (line_of s) 24 0 (sym e))
-no_bytes s (lowers.Wide p) n e = sym (refused-zeros (line_of s) 25 p (sym e))
+-- a line that was read is one of 34 digits
+pub read-long : (s : List ℕ) (l : Line) → line_told (Ok l) ≡ line_of s → length s ≡ line_digits
+unfolding line_told
+read-long s l e = let h = (line_exactly s l.event l.notes.0 l.notes.1 l.notes.2 l.notes.3).0 (sym e) in h.0.0
 
--- a result that is refused
-pub lowered-refused : (s : List ℕ) {a : LowerAnswer} {r : LowerResult} → (a ≡ lowers.Lowered → ⊥)
-    → r ≡ record { answer = a; line = replicate old_digits 0 } → lower_told a ≡ (lowered_def s).answer
-    → (lower_told r.answer ≡ (lowered_def s).answer) × (r.line ≡ (lowered_def s).line)
-lowered-refused s {a} {r} n e t = (rw e t, rw e (no_bytes s a n t))
+-- a line brought up, and one brought down
+pub ruleset up_steps = (all-are-digits, raised-bytes, raised-refused, raised-whole)
+
+pub ruleset down_steps = (lowered-bytes, lowered-unread, lowered-lost, lowered-done, lowered-whole, read-long)

@@ -1,12 +1,16 @@
 -- Laws of `digits_at_front`, and of where the digits from a place on end. Assumes nothing.
+use Rattle.std.specs.Prelude.{min, take, take_while}
+use Rattle.std.specs.List.{list_all, prefix_len}
+use Rattle.std.proofs.lemmas.List.Folds.{length-prefix_len}
 use mathlib.Core.Path.{◌≡◌, refl, sym, ap, ◌∙◌}
-use mathlib.Core.Bool.{Bool, true, false, true≢false}
+use mathlib.Core.Bool.{Bool, true, false, true≢false, cond}
 use mathlib.Core.List.{List, [], ◌∷◌}
 use Prim.Native.Nat.{ℕ, zero, suc, ◌+◌, ◌-◌, ◌≤◌, ◌<◌}
 use native.Mathlib.Nat.{zero-add, le_of_suc-le-suc, not-suc-le-zero}
 use native.Mathlib.Numerals.{add-one}
 use native.Mathlib.Omega.{arith}
 use borrow.Author.Tests.{leb-true, leb-false}
+use Rattle.std.proofs.lemmas.Bool.{and_parts}
 use lib.Dec.{leb}
 use lib.ListN.{length, get_or, drop}
 use lib.Seq.{drop-drop}
@@ -64,6 +68,16 @@ digit-step b bs zero true e ih h = e
 digit-step b bs (suc k) true e ih h = ih k (le_of_suc-le-suc (rw e at h))
 digit-step b bs k false e ih h = absurd (not-suc-le-zero (rw e at h))
 
+-- all digits: the front is the whole
+pub all-front : (s : List ℕ) → list_all is_digit s ≡ true → digits_at_front s ≡ length s
+unfolding digits_at_front
+all-front [] e = refl
+all-front (b ∷ bs) e = let t = and_parts (is_digit b) (list_all is_digit bs) e in rw t.0 (omega (arith, all-front bs t.1))
+
+pub each_all : (s : List ℕ) → ((k : ℕ) → k < length s → is_digit (get_or s k 0) ≡ true) → list_all is_digit s ≡ true
+each_all [] h = refl
+each_all (b ∷ bs) h = rw (h zero (omega arith)) (each_all bs (λ k q. h (suc k) (omega (arith, q))))
+
 -- each byte of the front is a digit
 pub front-digit : (s : List ℕ) (k : ℕ) → k < digits_at_front s → is_digit (get_or s k 0) ≡ true
 unfolding digits_at_front
@@ -119,3 +133,29 @@ least s n false e h = absurd (true≢false (sym (h (digits_at_front s) (leb-fals
 -- n bytes that are digits: n digits at the front
 pub front-least : (s : List ℕ) (n : ℕ) → ((k : ℕ) → k < n → is_digit (get_or s k 0) ≡ true) → n ≤ digits_at_front s
 front-least s n h = least s n (leb n (digits_at_front s)) refl h
+
+-- the digits at the front of the first n bytes
+pub front_taken : (n : ℕ) (s : List ℕ) → digits_at_front (take n s) ≡ min (digits_at_front s) n
+unfolding digits_at_front
+front_taken zero s = omega arith
+front_taken (suc n) [] = omega arith
+front_taken (suc n) (b ∷ bs) = go (is_digit b) (front_taken n bs)
+  where
+    go : (x : Bool) → digits_at_front (take n bs) ≡ min (digits_at_front bs) n
+        → cond x (suc (digits_at_front (take n bs))) 0 ≡ min (cond x (suc (digits_at_front bs)) 0) (suc n)
+    go true e = omega arith
+    go false e = omega arith
+
+prefix_front : (s : List ℕ) → prefix_len is_digit s ≡ digits_at_front s
+unfolding digits_at_front
+prefix_front [] = refl
+prefix_front (b ∷ bs) = go (is_digit b) (prefix_front bs)
+  where
+    go : (x : Bool) → prefix_len is_digit bs ≡ digits_at_front bs
+        → cond x (1 + prefix_len is_digit bs) 0 ≡ cond x (suc (digits_at_front bs)) 0
+    go true e = omega arith
+    go false e = refl
+
+-- the digits at the front are the bytes that the library's `take_while` takes
+pub front_counted : (s : List ℕ) → length (take_while is_digit s) ≡ digits_at_front s
+front_counted s = length-prefix_len is_digit s ∙ prefix_front s

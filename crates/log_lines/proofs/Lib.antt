@@ -16,7 +16,6 @@ mod Conversions
 mod Refusals
 -- A log of many lines.
 mod Walking
-mod Readers
 -- Computed examples.
 mod Examples
 mod EarlierExamples

@@ -1,18 +1,17 @@
 -- Laws of `are_digits` and `line_of`: which answer each line has. Assumes nothing.
+use Rattle.std.specs.Prelude.{Some, None}
 use mathlib.Core.Path.{◌≡◌, refl, ◌∙◌}
 use mathlib.Core.Bool.{Bool, true, false}
 use mathlib.Core.List.{List}
-use Prim.Native.Nat.{ℕ, ◌+◌, ◌≤◌, ◌<◌}
+use Prim.Native.Nat.{ℕ, ◌≤◌, ◌<◌}
 use native.Mathlib.Omega.{arith}
 use borrow.Author.Tests.{eqb-true, eq-eqb}
 use lib.Dec.{eqb}
-use lib.IntN.{ℤ}
 use lib.ListN.{length}
-use Rattle.log_lines.specs.Line.{digits_at_front, bad_place, are_digits, pair_from, byte_at, note_at, noted, line, refused, line_of}
-use Rattle.log_lines.specs.declared.digit.Pair.TheVariants as pairs
-use Rattle.log_lines.specs.declared.line.Noted.TheVariants as noteds
+use Rattle.log_lines.specs.Line.{digits_at_front, bad_place, are_digits, pair_from, byte_at, note_at, notes_of, line, refused, line_of}
+use Rattle.log_lines.specs.declared.line.Notes.{Notes}
 use Rattle.log_lines.proofs.Digits.{reach, reach-later, front-within}
-use Rattle.log_lines.proofs.Pairs.{pair-byte, pair-bad, note-word, note-bad}
+use Rattle.log_lines.proofs.Pairs.{pair-byte, pair-bad, notes-word, notes-bad}
 
 -- n digits
 pub digits-tested : (n : ℕ) (s : List ℕ) → length s ≡ n → n ≤ digits_at_front s → are_digits n s ≡ true
@@ -40,24 +39,23 @@ unfolding line_of
 line-of-other s h = rw (other-tested 34 s h)
 
 -- a pair and four notes
-pub line-of-notes : (s : List ℕ) {e : ℕ} {a b c d : ℤ} → length s ≡ 34 → pair_from s 0 ≡ pairs.Byte e
-    → noted s 2 ≡ noteds.Note a → noted s 10 ≡ noteds.Note b → noted s 18 ≡ noteds.Note c → noted s 26 ≡ noteds.Note d
-    → line_of s ≡ line e a b c d
-line-of-notes s h p q r t u =
+pub line-of-notes : (s : List ℕ) {e : ℕ} {n : Notes} → length s ≡ 34 → pair_from s 0 ≡ Some e → notes_of s ≡ Some n
+    → line_of s ≡ line e n.0 n.1 n.2 n.3
+line-of-notes s h p q =
     let e = pair-byte s 0 2 refl p in
-    let a = note-word s 2 10 refl q in
-    let b = note-word s 10 18 refl r in
-    let c = note-word s 18 26 refl t in
-    let d = note-word s 26 34 refl u in
+    let n = notes-word s q in
     line-of-digits s h (omega arith) ∙ cc
 
 few : (s : List ℕ) (k : ℕ) → reach s k < 34 → line_of s ≡ refused 15 (bad_place s)
 few s k h = let l = reach-later s 0 k (omega arith) in line-of-other s (λ n f. omega arith)
 
 -- a pair that is no byte
-pub line-of-bad-pair : (s : List ℕ) → pair_from s 0 ≡ pairs.Bad → line_of s ≡ refused 15 (bad_place s)
+pub line-of-bad-pair : (s : List ℕ) → pair_from s 0 ≡ None → line_of s ≡ refused 15 (bad_place s)
 line-of-bad-pair s e = let b = pair-bad s 0 e in few s 0 (omega arith)
 
--- eight bytes that are no note
-pub line-of-bad-note : (s : List ℕ) (k : ℕ) → k + 8 ≤ 34 → noted s k ≡ noteds.Bad → line_of s ≡ refused 15 (bad_place s)
-line-of-bad-note s k h e = let b = note-bad s k e in few s k (omega arith)
+-- 32 bytes that are no notes
+pub line-of-bad-notes : (s : List ℕ) → notes_of s ≡ None → line_of s ≡ refused 15 (bad_place s)
+line-of-bad-notes s e = let b = notes-bad s e in few s 2 (omega arith)
+
+-- what a line is
+pub ruleset line_steps = (line-of-other, line-of-notes, line-of-bad-pair, line-of-bad-notes)

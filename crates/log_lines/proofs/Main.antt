@@ -1,4 +1,5 @@
 -- What is proved of log lines, beside the contracts. Assumes nothing.
+use Rattle.std.specs.Prelude.{Some, Result}
 use mathlib.Core.Path.{◌≡◌}
 use mathlib.Core.Logic.{◌↔◌, ◌⊎◌}
 use mathlib.Core.List.{List, [], map}
@@ -7,15 +8,16 @@ use lib.IntN.{ℤ, pos}
 use lib.ListN.{length, replicate}
 use denote.Ref.{Bor}
 use Rattle.log_lines.specs.Digit.{digit_value, capital, hex_digit}
-use Rattle.log_lines.specs.Line.{digits_at_front, bad_place_of, bad_place, byte_at, note_at, line, refused, line_told, line_of}
+use Rattle.log_lines.specs.Line.{line_digits, digits_at_front, bad_place_of, bad_place, byte_at, note_at, line, refused, line_told, line_of}
 use Rattle.log_lines.specs.Line.{AreDigits, AllDigits, BadPlace, PlaceOf15}
-use Rattle.log_lines.specs.Earlier.{old_digits, line_digits, old_note_at, old_line_of, done, turned, converted, raise_told, raised_def, In16, lower_told, lowered_def}
+use Rattle.log_lines.specs.Earlier.{old_digits, old_note_at, old_line_of, done, turned, converted, raise_told, raised_def, In16, lower_told, lowered_def}
 use Rattle.log_lines.specs.Earlier.{LowerRefused}
 use Rattle.log_lines.specs.Walk.{lines_of, end_of, line_at, walked, start_of, Yields}
 use Rattle.log_lines.specs.declared.line.Line.{Line}
-use Rattle.log_lines.specs.declared.earlier.RaiseAnswer.{RaiseAnswer}
-use Rattle.log_lines.specs.declared.earlier.LowerAnswer.{LowerAnswer}
-use Rattle.log_lines.specs.declared.walk.Found.TheVariants as found
+use Rattle.log_lines.specs.declared.line.BadLine.{BadLine}
+use Rattle.log_lines.specs.declared.earlier.BadOldLine.{BadOldLine}
+use Rattle.log_lines.specs.declared.earlier.NotLowered.{NotLowered}
+use Rattle.log_lines.specs.declared.walk.Span.{Span}
 use Rattle.log_lines.proofs.Lines as lines
 use Rattle.log_lines.proofs.Exactly as exactly
 use Rattle.log_lines.proofs.Cases as cases
@@ -51,7 +53,7 @@ pub either_case : (s : List ℕ) → line_of (map capital s) ≡ line_of s
 either_case = cases.either_case
 
 -- What is told of an answer fixes the answer, so that the contract of `read_line` allows one answer only.
-pub told_injective : (a b : Line) → line_told a ≡ line_told b → a ≡ b
+pub told_injective : (a b : Result Line BadLine) → line_told a ≡ line_told b → a ≡ b
 told_injective = answers.line_told_injective
 
 -- ---- document 02, point 8: lines of the earlier edition
@@ -107,10 +109,10 @@ pub down_up : (s : List ℕ) → (lowered_def s).answer ≡ done → raised_def 
 down_up = conversions.down_up
 
 -- What is told of an answer fixes the answer, so that the contracts of `raised` and `lowered` allow one answer only.
-pub raise_told_injective : (a b : RaiseAnswer) → raise_told a ≡ raise_told b → a ≡ b
+pub raise_told_injective : (a b : Result (List ℕ) BadOldLine) → raise_told a ≡ raise_told b → a ≡ b
 raise_told_injective = conversions.raise_told_injective
 
-pub lower_told_injective : (a b : LowerAnswer) → lower_told a ≡ lower_told b → a ≡ b
+pub lower_told_injective : (a b : Result (List ℕ) NotLowered) → lower_told a ≡ lower_told b → a ≡ b
 lower_told_injective = conversions.lower_told_injective
 
 -- ---- digits
@@ -129,8 +131,8 @@ pub reader_walks : (log : Bor (List ℕ)) (ls : List (List ℕ)) → Yields (sta
 reader_walks = walking.reader_walks
 
 -- A line that is found lies within the log, and the next starts past the place asked for, within the log.
-pub line-within : (log : List ℕ) (at s e n : ℕ) → line_at log at ≡ found.Line s e n
-    → (s ≤ e) × (e ≤ length log) × (at < n) × (n ≤ length log)
+pub line-within : (log : List ℕ) (at : ℕ) (l : Span) → line_at log at ≡ Some l
+    → (l.start ≤ l.end) × (l.end ≤ length log) × (at < l.next) × (l.next ≤ length log)
 line-within = walking.line-within
 
 -- From a place within the log, a line ends within it.

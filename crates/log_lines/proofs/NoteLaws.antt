@@ -12,7 +12,7 @@ use mir.Syntax.{w16, w32}
 use mir.Val.{Fits, SFits, to_z, of_z, sel}
 use mir.Facts.{of_z-to_z, to_z_pos, sfits_to_z}
 use Rattle.numbers.specs.Word.{big_endian}
-use Rattle.numbers.proofs.Bools.{and-true}
+use Rattle.std.proofs.lemmas.Bool.{and_parts}
 use Rattle.log_lines.specs.Digit.{digit_value, is_digit}
 use Rattle.log_lines.specs.Line.{byte_from, note_from}
 use Rattle.log_lines.specs.Earlier.{digits_of, old_note, new_note, old_note_from, holds16}
@@ -37,7 +37,7 @@ module _ (u n : ℕ) where
           → of_z w16 (sel t (pos (u * 65536 + n)) (negsuc (2 ^ 32 - suc (u * 65536 + n)))) ≡ n
       go true e f = let l = leb-true (u * 65536 + n) 32767 f in omega arith
       go false e f =
-          let t = and-true (leb (2 ^ 32 - suc (u * 65536 + n)) 32767) true f in
+          let t = and_parts (leb (2 ^ 32 - suc (u * 65536 + n)) 32767) true f in
           let l = leb-true (2 ^ 32 - suc (u * 65536 + n)) 32767 t.0 in
           let g = ltb-false (u * 65536 + n) (2 ^ 31) e in
           omega arith
@@ -46,7 +46,7 @@ module _ (u n : ℕ) where
 pub narrow_fits : (z : ℤ) → holds16 z ≡ true → SFits w16 z
 narrow_fits (pos n) e = record { sfits = omega (arith, leb-true n 32767 e) }
 narrow_fits (negsuc n) e =
-    let t = and-true (leb n 32767) true e in
+    let t = and_parts (leb n 32767) true e in
     record { sfits = omega (arith, leb-true n 32767 t.0) }
 
 pub fits_narrow : (z : ℤ) → SFits w16 z → holds16 z ≡ true

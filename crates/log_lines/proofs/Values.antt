@@ -6,7 +6,7 @@ use native.Mathlib.Omega.{arith}
 use borrow.Author.Tests.{le-leb, leb-true, lt-ltb, le-ltb, ltb-true, ltb-false}
 use lib.Dec.{leb, ltb}
 use Rattle.numbers.specs.Range.{between}
-use Rattle.numbers.proofs.Bools.{and-true}
+use Rattle.std.proofs.lemmas.Bool.{and_parts}
 use Rattle.log_lines.specs.Digit.{digit_value, is_digit, capital, hex_digit}
 
 -- a number of a range
@@ -37,21 +37,6 @@ module _ (b v : ℕ) where
   value-of-small h k e =
       rw (outside 0x30 0x39 b (λ p q. omega arith), outside 0x41 0x46 b (λ p q. omega arith), within 0x61 0x66 b h k) e
 
-  pub value-of-other : (0x30 ≤ b → b ≤ 0x39 → ⊥) → (0x41 ≤ b → b ≤ 0x46 → ⊥) → (0x61 ≤ b → b ≤ 0x66 → ⊥) → v ≡ 16
-      → v ≡ digit_value b
-  unfolding digit_value
-  value-of-other p q r e = rw (outside 0x30 0x39 b p, outside 0x41 0x46 b q, outside 0x61 0x66 b r) e
-
--- c is the capital of the byte b
-module _ (b c : ℕ) where
-  pub capital-of-small : 0x61 ≤ b → b ≤ 0x66 → c ≡ b - 0x20 → c ≡ capital b
-  unfolding capital
-  capital-of-small h k e = rw (within 0x61 0x66 b h k) e
-
-  pub capital-of-other : (0x61 ≤ b → b ≤ 0x66 → ⊥) → c ≡ b → c ≡ capital b
-  unfolding capital
-  capital-of-other h e = rw (outside 0x61 0x66 b h) e
-
 -- the digit of a value has that value
 pub digit-back : (d : ℕ) → d < 16 → digit_value (hex_digit d) ≡ d
 digit-back d h = go (ltb d 10) refl
@@ -66,7 +51,7 @@ unfolding digit_value capital
 hex_of_value b = go (between 0x30 0x39 b) (between 0x41 0x46 b) (between 0x61 0x66 b) refl refl refl
   where
     range : (lo hi : ℕ) → between lo hi b ≡ true → (lo ≤ b) × (b ≤ hi)
-    range lo hi e = let t = and-true (leb lo b) (leb b hi) e in (leb-true lo b t.0, leb-true b hi t.1)
+    range lo hi e = let t = and_parts (leb lo b) (leb b hi) e in (leb-true lo b t.0, leb-true b hi t.1)
 
     go : (x y z : Bool) → between 0x30 0x39 b ≡ x → between 0x41 0x46 b ≡ y → between 0x61 0x66 b ≡ z
         → ltb (cond x (b - 0x30) (cond y (b - 0x41 + 10) (cond z (b - 0x61 + 10) 16))) 16 ≡ true

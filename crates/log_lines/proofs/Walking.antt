@@ -1,6 +1,10 @@
 -- The walk over a log: laws of `to_lf`, and that it yields the log's lines. Assumes nothing.
+use Rattle.std.specs.Prelude.{Some, None, take_while, ◌==◌}
+use Rattle.std.specs.List.{prefix_len}
+use Rattle.std.proofs.lemmas.Option.{none-some, same_Some}
+use Rattle.std.proofs.lemmas.List.Folds.{length-prefix_len}
 use mathlib.Core.Path.{◌≡◌, refl, sym, ap, subst, ◌∙◌}
-use mathlib.Core.Bool.{Bool, true, false, cond}
+use mathlib.Core.Bool.{Bool, true, false, cond, not}
 use mathlib.Core.Logic.{◌↔◌}
 use mathlib.Core.List.{List, [], ◌∷◌}
 use Prim.Native.Nat.{ℕ, zero, suc, ◌+◌, ◌-◌, ◌≤◌, ◌<◌}
@@ -9,27 +13,14 @@ use native.Mathlib.Omega.{arith}
 use lib.Dec.{ltb, leb, eqb}
 use lib.ListN.{length, take, drop, get_or, length-drop, drop_of_length-le}
 use lib.Seq.{drop-cons, drop-drop}
-use borrow.Author.Tests.{ne_eqb, eq-eqb, lt-ltb, le-ltb, ltb-true, ltb-false, leb-true, leb-false}
+use borrow.Author.Tests.{lt-ltb, le-ltb, ltb-true, ltb-false, leb-true, leb-false}
 use denote.Ref.{Bor}
 use Rattle.log_lines.specs.Walk.{onto, lines_of, to_lf, end_of, line_at, onward, walked, found_end}
 use Rattle.log_lines.specs.Walk.{start_of, line_here, moved_on, at_log_end, Yields, over, more}
 use Rattle.log_lines.specs.declared.walk.LogReader.{LogReader}
-use Rattle.log_lines.specs.declared.walk.Found.TheVariants.{Line, End}
+use Rattle.log_lines.specs.declared.walk.Span.{Span}
 
--- ---- for the loop that looks for LF
-module _ (s : List ℕ) (i : ℕ) where
-  pub at_lf : i < length s → get_or s i 0 ≡ 10 → to_lf (drop i s) ≡ 0
-  unfolding to_lf
-  at_lf h e = rw (drop-cons s i 0, eq-eqb _ _ e)
-
-  pub at_other : i < length s → (get_or s i 0 ≡ 10 → ⊥) → to_lf (drop i s) ≡ suc (to_lf (drop (i + 1) s))
-  unfolding to_lf
-  at_other h n = rw (add-one, drop-cons s i 0, ne_eqb _ _ n)
-
-  pub at_end : length s ≤ i → to_lf (drop i s) ≡ 0
-  unfolding to_lf
-  at_end h = rw (drop_of_length-le s h)
-
+-- ---- how far the first LF is
 toLF-within : (s : List ℕ) → to_lf s ≤ length s
 unfolding to_lf
 toLF-within [] = omega arith
@@ -38,6 +29,20 @@ toLF-within (b ∷ s) = go (eqb b 10) (toLF-within s)
     go : (t : Bool) → to_lf s ≤ length s → cond t 0 (suc (to_lf s)) ≤ suc (length s)
     go true h = omega arith
     go false h = omega arith
+
+prefix-lf : (s : List ℕ) → prefix_len (λ b. not (b == 10)) s ≡ to_lf s
+unfolding to_lf
+prefix-lf [] = refl
+prefix-lf (b ∷ s) = go (eqb b 10) (prefix-lf s)
+  where
+    go : (t : Bool) → prefix_len (λ b. not (b == 10)) s ≡ to_lf s
+        → cond (not t) (1 + prefix_len (λ b. not (b == 10)) s) 0 ≡ cond t 0 (suc (to_lf s))
+    go true h = refl
+    go false h = omega arith
+
+-- the bytes before it are those that the library's `take_while` takes
+pub lf_counted : (s : List ℕ) → length (take_while (λ b. not (b == 10)) s) ≡ to_lf s
+lf_counted s = length-prefix_len (λ b. not (b == 10)) s ∙ prefix-lf s
 
 pub end_of_within : (log : List ℕ) (at : ℕ) → at ≤ length log → end_of log at ≤ length log
 end_of_within log at h = omega (arith, toLF-within (drop at log), length-drop at log)
@@ -73,7 +78,7 @@ none-past log at h = rw (drop_of_length-le log h)
 
 -- ---- the walk
 module _ (log : List ℕ) where
-  pub found-end : (at : ℕ) → length log ≤ at → line_at log at ≡ End
+  pub found-end : (at : ℕ) → length log ≤ at → line_at log at ≡ None
   unfolding line_at
   found-end at h = rw (le-ltb at (length log) h)
 
@@ -81,7 +86,11 @@ module _ (log : List ℕ) where
   next_of : ℕ → ℕ
   next_of at = cond (ltb (end_of log at) (length log)) (end_of log at + 1) (end_of log at)
 
-  found-line : (at : ℕ) → at < length log → line_at log at ≡ Line at (end_of log at) (next_of at)
+  -- the line that starts at a place
+  abbrev found_of : ℕ → Span
+  found_of at = record { start = at; end = end_of log at; next = next_of at }
+
+  found-line : (at : ℕ) → at < length log → line_at log at ≡ Some (found_of at)
   unfolding line_at next_of
   found-line at h = rw (lt-ltb at (length log) h)
 
@@ -129,20 +138,18 @@ pub walks_all : (log : List ℕ) → walked (length log) log 0 ≡ lines_of log
 walks_all log = walk_from log (length log) 0 (omega arith) (omega arith)
 
 -- a line that was found lies within the log, and the next starts past its start
-pub line-within : (log : List ℕ) (at s e n : ℕ) → line_at log at ≡ Line s e n → (s ≤ e) × (e ≤ length log) × (at < n) × (n ≤ length log)
-line-within log at s e n f = go (ltb at (length log)) refl
+pub line-within : (log : List ℕ) (at : ℕ) (l : Span) → line_at log at ≡ Some l
+    → (l.start ≤ l.end) × (l.end ≤ length log) × (at < l.next) × (l.next ≤ length log)
+line-within log at l f = go (ltb at (length log)) refl
   where
-    go : (t : Bool) → ltb at (length log) ≡ t → (s ≤ e) × (e ≤ length log) × (at < n) × (n ≤ length log)
-    go false q = absurd (let z : line_at log at ≡ End = found-end log at (ltb-false at (length log) q) in let y : ◌≡◌ {A = ℕ} 0 1 = cc in omega arith)
+    go : (t : Bool) → ltb at (length log) ≡ t → (l.start ≤ l.end) × (l.end ≤ length log) × (at < l.next) × (l.next ≤ length log)
+    go false q = absurd (none-some l (sym (found-end log at (ltb-false at (length log) q)) ∙ f))
     go true q =
-        let l = ltb-true at (length log) q in
-        let r = next-rest log at l in
+        let h = ltb-true at (length log) q in
+        let r = next-rest log at h in
         let w = end_of_within log at (omega arith) in
-        let z : line_at log at ≡ Line at (end_of log at) (next_of log at) = found-line log at l in
-        let x : at ≡ s = cc in
-        let v : end_of log at ≡ e = cc in
-        let y : next_of log at ≡ n = cc in
-        (omega arith, omega arith, omega arith, omega arith)
+        let z : found_of log at ≡ l = same_Some _ _ (sym (found-line log at h) ∙ f) in
+        rw (sym z) (omega arith, w, r.0, r.1)
 
 -- ---- the reader
 -- the lines from its place on
@@ -165,6 +172,7 @@ module _ (r : LogReader) where
 
   -- it moves on within the log
   moves : r.at < length r.log.now → (r.at < (moved_on r).at) × ((moved_on r).at ≤ length r.log.now)
+  unfolding next_of
   moves h = let q = next-rest r.log.now r.at h in rw (found-line r.log.now r.at h) (q.0, q.1)
 
 -- it hands out all of them
@@ -204,3 +212,6 @@ reader_walks log ls = (
   yields_only (start_of log) ls,
   λ e. subst (Yields (start_of log)) (sym e) (yields_all (length log.now) (start_of log) (omega arith) (omega arith)),
 )
+
+-- where the log ends, and what lies within it
+pub ruleset end_steps = (end-tested, line-within)

@@ -1,27 +1,22 @@
 -- Lines of the earlier edition, and the converter between them and today's. From document 02, point 8; old line and raised line are
 -- its terms. Assumes nothing: definitions.
 use Rattle.std.specs.Prelude.{◌≡◌, Bool, true, false, cond, ◌&&◌, List, [], ◌∷◌, ℕ, zero, suc, ◌+◌, ◌*◌}
-use Rattle.std.specs.Prelude.{◌/◌, ◌%◌, ◌<◌, ℤ, pos, negsuc, nat_abs, ◌≤ℤ◌, eqb, replicate}
+use Rattle.std.specs.Prelude.{◌/◌, ◌%◌, ◌<◌, ℤ, pos, negsuc, nat_abs, ◌≤ℤ◌, eqb, replicate, Result, Ok, Err}
 use Rattle.std.specs.Int.Signed.{le_z}
 use Rattle.std.specs.Int.{w16, w32}
 use Rattle.std.proofs.Common.{of_z}
 use Rattle.numbers.specs.Word.{signed_half}
 use Rattle.log_lines.specs.Digit.{hex_digit}
-use Rattle.log_lines.specs.Line.{byte_from, byte_at, note_at, are_digits, bad_place_of, LineAnswer, line, refused, line_of}
-use Rattle.log_lines.specs.Line.{AllDigits, PlaceOf15}
-use Rattle.log_lines.specs.declared.earlier.RaiseAnswer.{RaiseAnswer}
-use Rattle.log_lines.specs.declared.earlier.RaiseAnswer.TheVariants as raises
-use Rattle.log_lines.specs.declared.earlier.LowerAnswer.{LowerAnswer}
-use Rattle.log_lines.specs.declared.earlier.LowerAnswer.TheVariants as lowers
+use Rattle.log_lines.specs.Line.{line_digits, byte_from, byte_at, note_at, are_digits, bad_place_of}
+use Rattle.log_lines.specs.Line.{LineAnswer, line, refused, line_of, AllDigits, PlaceOf15}
+use Rattle.log_lines.specs.declared.earlier.BadOldLine.{BadOldLine}
+use Rattle.log_lines.specs.declared.earlier.NotLowered.{NotLowered}
+use Rattle.log_lines.specs.declared.earlier.NotLowered.TheVariants as lowers
 
 -- ---- old lines
 -- "lines of 14 digits"
 abbrev pub old_digits : ℕ
 old_digits = 14
-
--- document 01's "34 digits", of today's lines
-abbrev pub line_digits : ℕ
-line_digits = 34
 
 -- a note "of signed 16 bits", of four digits from a place on
 abbrev pub old_note_from : List ℕ → ℕ → ℤ
@@ -67,18 +62,6 @@ pub data ConversionAnswer : Type 0 where
   done : ConversionAnswer
   turned : (number place : ℕ) → ConversionAnswer
 
--- document 02's number and values for each case of what `raised` answers: `Bad` is 23
-unfoldable pub raise_told : RaiseAnswer → ConversionAnswer
-raise_told raises.Raised = done
-raise_told (raises.Bad p) = turned 23 p
-
--- .. of what `lowered` answers: `Bad` is 15, `Fourth` 24, which names no place, and `Wide` 25
-unfoldable pub lower_told : LowerAnswer → ConversionAnswer
-lower_told lowers.Lowered = done
-lower_told (lowers.Bad p) = turned 15 p
-lower_told lowers.Fourth = turned 24 0
-lower_told (lowers.Wide p) = turned 25 p
-
 -- "It hands back the line by value": the answer, and the line's bytes
 pub record Converted : Type 0 where
   pub answer : ConversionAnswer
@@ -91,6 +74,33 @@ converted s = record { answer = done; line = s }
 -- a refused conversion to n digits hands back n zero bytes, the value 0 and not the digit
 abbrev pub not_converted : ℕ → ℕ → ℕ → Converted
 not_converted n number place = record { answer = turned number place; line = replicate n 0 }
+
+-- document 02's number and values for each case of what `raised` answers: an old line that is bad is 23
+unfoldable pub raise_told : Result (List ℕ) BadOldLine → Converted
+raise_told (Ok s) = converted s
+raise_told (Err b) = not_converted line_digits 23 b.place
+
+-- document 02's number for each case of why a line is not brought down: `Bad` is 15, `Fourth` 24 and `Wide` 25
+abbrev pub lower_number : NotLowered → ℕ
+lower_number (lowers.Bad b) = 15
+lower_number lowers.Fourth = 24
+lower_number (lowers.Wide p) = 25
+
+-- .. and its place; 24 names none
+abbrev pub lower_place : NotLowered → ℕ
+lower_place (lowers.Bad b) = b.place
+lower_place lowers.Fourth = 0
+lower_place (lowers.Wide p) = p
+
+-- .. of what is lost of a line
+unfoldable pub loss_told : Result (Unit {0}) NotLowered → ConversionAnswer
+loss_told (Ok _) = done
+loss_told (Err why) = turned (lower_number why) (lower_place why)
+
+-- .. of what `lowered` answers
+unfoldable pub lower_told : Result (List ℕ) NotLowered → Converted
+lower_told (Ok s) = converted s
+lower_told (Err why) = not_converted old_digits (lower_number why) (lower_place why)
 
 -- "brings them up, the fourth note 0": what an old line gives, as it was read
 abbrev pub raised_by : LineAnswer → Converted

@@ -1,14 +1,16 @@
 -- Log lines, in document 01's words. Assumes nothing: definitions.
 use Rattle.std.specs.Prelude.{◌≡◌, Bool, true, false, cond, ◌&&◌, List, [], ◌∷◌, ℕ, suc, ◌+◌, ◌*◌}
-use Rattle.std.specs.Prelude.{◌≤◌, ◌<◌, min, leb, eqb, ℤ, length, get_or, drop}
+use Rattle.std.specs.Prelude.{◌≤◌, ◌<◌, min, leb, eqb, ℤ, length, get_or, drop, Option, Some, None, Result, Ok, Err}
 use Rattle.numbers.specs.Word.{signed_word}
 use Rattle.log_lines.specs.Digit.{digit_value, is_digit}
 use Rattle.log_lines.specs.Pair.{pair_of}
-use Rattle.log_lines.specs.declared.digit.Pair.{Pair}
+use Rattle.log_lines.specs.declared.line.BadLine.{BadLine}
 use Rattle.log_lines.specs.declared.line.Line.{Line}
-use Rattle.log_lines.specs.declared.line.Line.TheVariants as lines
-use Rattle.log_lines.specs.declared.line.Noted.{Noted}
-use Rattle.log_lines.specs.declared.line.Noted.TheVariants as noteds
+use Rattle.log_lines.specs.declared.line.Notes.{Notes}
+
+-- "A log line is 34 digits"
+abbrev pub line_digits : ℕ
+line_digits = 34
 
 -- how many digits stand at the front: the place of "the first non-digit", or the length
 unfoldable pub digits_at_front : List ℕ → ℕ
@@ -24,7 +26,7 @@ unfoldable pub bad_place : List ℕ → ℕ
 bad_place s = bad_place_of 34 s
 
 -- what the two bytes from a place on are as a pair
-abbrev pub pair_from : List ℕ → ℕ → Pair
+abbrev pub pair_from : List ℕ → ℕ → Option ℕ
 pair_from s at = pair_of (get_or s at 0) (get_or s (at + 1) 0)
 
 -- the byte of two digits from a place on
@@ -44,18 +46,25 @@ abbrev pub note_from : List ℕ → ℕ → ℤ
 note_from s at = signed_word (byte_from s at) (byte_from s (at + 2)) (byte_from s (at + 4)) (byte_from s (at + 6))
 
 -- what the eight bytes from a place on are as a note: eight digits are one
-unfoldable pub noted : List ℕ → ℕ → Noted
-noted s at = cond (leb 8 (digits_at_front (drop at s))) (noteds.Note (note_from s at)) noteds.Bad
+unfoldable pub noted : List ℕ → ℕ → Option ℤ
+noted s at = cond (leb 8 (digits_at_front (drop at s))) (Some (note_from s at)) None
+
+-- what the 32 bytes behind the event are as "four notes": 32 digits are
+unfoldable pub notes_of : List ℕ → Option Notes
+notes_of s =
+    cond (leb 32 (digits_at_front (drop 2 s)))
+    (Some (record { 0 = note_at s 0; 1 = note_at s 1; 2 = note_at s 2; 3 = note_at s 3 }))
+    None
 
 -- the answer to a line: its event and its four notes, or a refusal, "its number and place"
 pub data LineAnswer : Type 0 where
   line : (event : ℕ) (first second third fourth : ℤ) → LineAnswer
   refused : (number place : ℕ) → LineAnswer
 
--- document 01's number and values for each case of the code's answer: `Bad` is refusal 15
-unfoldable pub line_told : Line → LineAnswer
-line_told (lines.Event e n) = line e n.0 n.1 n.2 n.3
-line_told (lines.Bad p) = refused 15 p
+-- document 01's number and values for each case of the code's answer: a bad line is refusal 15
+unfoldable pub line_told : Result Line BadLine → LineAnswer
+line_told (Ok l) = line l.event l.notes.0 l.notes.1 l.notes.2 l.notes.3
+line_told (Err b) = refused 15 b.place
 
 -- n digits: no less, no more, and no other byte
 abbrev pub are_digits : ℕ → List ℕ → Bool

@@ -1,10 +1,9 @@
 -- The lines of a log, in document 01's words: "LF ends a line, and the last may lack it". Assumes nothing: definitions.
 use Rattle.std.specs.Prelude.{◌≡◌, Bool, true, false, cond, List, [], ◌∷◌, ℕ, zero, suc, ◌+◌, ◌-◌, length}
-use Rattle.std.specs.Prelude.{take, drop, ltb, eqb}
+use Rattle.std.specs.Prelude.{take, drop, ltb, eqb, Option, Some, None}
 use Rattle.std.specs.Borrow.{Bor}
 use Rattle.log_lines.specs.declared.walk.LogReader.{LogReader}
-use Rattle.log_lines.specs.declared.walk.Found.{Found}
-use Rattle.log_lines.specs.declared.walk.Found.TheVariants.{Line, End}
+use Rattle.log_lines.specs.declared.walk.Span.{Span}
 
 -- a byte more in front of the first line
 abbrev pub onto : ℕ → List (List ℕ) → List (List ℕ)
@@ -26,16 +25,20 @@ abbrev pub end_of : List ℕ → ℕ → ℕ
 end_of log at = at + to_lf (drop at log)
 
 -- the line that starts at `at`: its start, its end, and where the next starts; or the log's end
-unfoldable pub line_at : List ℕ → ℕ → Found
+unfoldable pub line_at : List ℕ → ℕ → Option Span
 line_at log at =
     cond (ltb at (length log))
-    (Line at (end_of log at) (cond (ltb (end_of log at) (length log)) (end_of log at + 1) (end_of log at)))
-    End
+    (Some (record {
+      start = at;
+      end = end_of log at;
+      next = cond (ltb (end_of log at) (length log)) (end_of log at + 1) (end_of log at);
+    }))
+    None
 
 -- a line that was found, and what the rest of the walk gives from the next place on
-abbrev pub onward : List ℕ → (ℕ → List (List ℕ)) → Found → List (List ℕ)
-onward log rest (Line s e n) = take (e - s) (drop s log) ∷ rest n
-onward log rest End = []
+abbrev pub onward : List ℕ → (ℕ → List (List ℕ)) → Option Span → List (List ℕ)
+onward log rest (Some l) = take (l.end - l.start) (drop l.start log) ∷ rest l.next
+onward log rest None = []
 
 -- "One reader walks a log of many lines": the lines that it yields from a place on, in at most k steps
 unfoldable pub walked : ℕ → List ℕ → ℕ → List (List ℕ)
@@ -44,31 +47,31 @@ walked (suc k) log at = onward log (walked k log) (line_at log at)
 
 -- ---- the reader
 -- where in memory a line that was found stands, in a log at a block's offset; the log's own place at its end
-abbrev pub found_ptr : ℕ × ℕ → Found → ℕ × ℕ
-found_ptr p (Line s e n) = (p.0, s + p.1)
-found_ptr p End = p
+abbrev pub found_ptr : ℕ × ℕ → Option Span → ℕ × ℕ
+found_ptr p (Some l) = (p.0, l.start + p.1)
+found_ptr p None = p
 
 -- its bytes, without the LF; none at the log's end
-abbrev pub found_bytes : List ℕ → Found → List ℕ
-found_bytes log (Line s e n) = take (e - s) (drop s log)
-found_bytes log End = []
+abbrev pub found_bytes : List ℕ → Option Span → List ℕ
+found_bytes log (Some l) = take (l.end - l.start) (drop l.start log)
+found_bytes log None = []
 
 -- where the next line starts; at the log's end the place itself
-abbrev pub found_next : ℕ → Found → ℕ
-found_next at (Line s e n) = n
-found_next at End = at
+abbrev pub found_next : ℕ → Option Span → ℕ
+found_next at (Some l) = l.next
+found_next at None = at
 
 -- no line was found
-abbrev pub found_end : Found → Bool
-found_end (Line s e n) = false
-found_end End = true
+abbrev pub found_end : Option Span → Bool
+found_end (Some l) = false
+found_end None = true
 
 -- a reader at the start of a log
 abbrev pub start_of : Bor (List ℕ) → LogReader
 start_of log = record { log = log; at = 0 }
 
 -- what stands at a reader's place
-abbrev pub here : LogReader → Found
+abbrev pub here : LogReader → Option Span
 here r = line_at r.log.now r.at
 
 -- its line is a part of the log: where that stands in memory

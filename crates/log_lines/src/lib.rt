@@ -7,5 +7,5 @@ mod line; // line.rt: the line of 34 digits
 mod earlier; // earlier.rt: the line of 14 digits of the earlier edition, and the converter
 pub mod walk; // walk.rt: the lines of a log
 
-pub use earlier::{LowerAnswer, LowerResult, RaiseAnswer, RaiseResult, lowered, raised};
-pub use line::{Line, Notes, read_line};
+pub use earlier::{BadOldLine, NotLowered, lowered, raised};
+pub use line::{BadLine, Line, Notes, read_line};

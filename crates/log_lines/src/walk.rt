@@ -1,96 +1,78 @@
 // One reader walks a log of many lines in lent memory: `start`, then `line_here` and `moved_on` until `at_log_end`. The work is
 // done by `line_at`, on a plain slice and a number.
-ghost use Rattle.std.specs.Prelude.{◌≡◌, ◌≤◌, length};
+ghost use Rattle.std.specs.Prelude.{◌≡◌, ◌≤◌, ◌==◌, length, not, take_while};
 ghost use Rattle.log_lines.specs.Walk.{end_of, line_at, found_ptr, found_bytes, found_next, found_end};
 ghost use Rattle.log_lines.specs.Walk.{start_of, ptr_here, line_here, moved_on, at_log_end};
 
-// A log and a place in it.
+// A log and a place in it. Document 01 names this form, a struct of a slice and a position with thin functions over plain ones.
 #[derive(Clone, Copy)]
 pub struct LogReader<'a> {
     pub log: &'a [u8],
     pub at: usize,
 }
 
-// What stands at a place: a line, from start up to, not including, end, with the place where the next starts; or the log's end.
-#[derive(Clone, Copy)]
-pub enum Found {
-    Line {
-        start: usize,
-        end: usize,
-        next: usize,
-    },
-    End,
+// A line in a log, from start up to, not including, end, with the place where the next starts.
+#[derive(Clone, Copy, PartialEq, Eq, Debug)]
+pub struct Span {
+    pub start: usize,
+    pub end: usize,
+    pub next: usize,
+}
+
+// How many bytes stand before the first LF, or all.
+fn to_lf(log: &[u8]) -> usize
+    ensures { result ≡ length (take_while (λ b. not (b == 10)) log.now) }
+{
+    log.iter().take_while(|b| **b != b'\n').count()
 }
 
 // Where the line that starts at `at` ends: at its LF, or at the log's end.
+#[tactic(auto, using(std::proofs::lemmas::List::take_rest, crate::proofs::Walking::lf_counted))]
 fn line_end(log: &[u8], at: usize) -> usize
     requires { at ≤ length log.now }
-    ensures { (result ≡ end_of log.now at) × (result ≤ length log.now) }
+    ensures ends { result ≡ end_of log.now at }
+    ensures within { result ≤ length log.now }
 {
-    let mut i = at;
-    while i < log.len() {
-        if log[i] == 10 {
-            return i;
-        }
-        i += 1;
-    }
-    i
+    at + to_lf(&log[at..])
 }
 
-// The line at a place.
-pub fn line_at(log: &[u8], at: usize) -> Found
+// The line that starts at a place; none at the log's end.
+#[tactic(auto, unfolding(crate::specs::Walk::line_at))]
+pub fn line_at(log: &[u8], at: usize) -> Option<Span>
     ensures { result ≡ line_at log.now at }
 {
     if log.len() <= at {
-        return Found::End;
+        return None;
     }
     let end = line_end(log, at);
-    if end < log.len() {
-        Found::Line {
-            start: at,
-            end,
-            next: end + 1,
-        }
-    } else {
-        Found::Line {
-            start: at,
-            end,
-            next: end,
-        }
-    }
+    Some(Span {
+        start: at,
+        end,
+        next: (end + 1).min(log.len()),
+    })
 }
 
 // The line at a place, a part of the log without its LF; at the log's end the empty part at its start.
+#[tactic(auto, using(crate::proofs::Walking::end_steps))]
 fn part_at<'a>(log: &'a [u8], at: usize) -> &'a [u8]
     ensures { (result.ref_ptr ≡ found_ptr log.entry.ref_ptr (line_at log.now at))
         × (result.now ≡ found_bytes log.now (line_at log.now at)) }
 {
-    let Found::Line {
-        start,
-        end,
-        next: _,
-    } = line_at(log, at)
-    else {
-        return &log[0..0];
-    };
-    &log[start..end]
+    match line_at(log, at) {
+        Some(line) => &log[line.start..line.end],
+        None => &log[0..0],
+    }
 }
 
 // Where the next line starts; at the log's end the place itself.
 fn next_at(log: &[u8], at: usize) -> usize
     ensures { result ≡ found_next at (line_at log.now at) }
 {
-    match line_at(log, at) {
-        Found::Line {
-            start: _,
-            end: _,
-            next,
-        } => next,
-        Found::End => at,
-    }
+    line_at(log, at).map_or(at, |line| line.next)
 }
 
 // Whether no line starts at a place.
+#[tactic(auto, using(crate::proofs::Walking::end_steps))]
 fn is_end(log: &[u8], at: usize) -> bool
     ensures { result ≡ found_end (line_at log.now at) }
 {

@@ -7,6 +7,7 @@ use mathlib.Core.List.{List, []}
 use Prim.Native.Nat.{ℕ}
 use lib.Dec.{eqb}
 use lib.ListN.{length}
+use Rattle.std.specs.Prelude.{Result, Ok, Err}
 use Rattle.numbers.proofs.Bools.{true-false}
 use Rattle.rule.specs.Frames.{Bytes}
 use Rattle.rule.specs.Tree.{IsRule, references, magnitudes_c, magnitudes, NoneExceeds}
@@ -18,8 +19,6 @@ use Rattle.rule.specs.Check.{whole_frames, after_order, checked_body, checked_of
 use Rattle.rule.specs.Opening.{Whole, PlaceOf10, Opening, refused_9, refused_10, refused_7, refused_8, accepted}
 use Rattle.rule.specs.CheckTold.{CheckAnswer}
 use Rattle.rule.specs.CheckTold as checking
-use Rattle.rule.specs.declared.order.Ordered.{Ordered}
-use Rattle.rule.specs.declared.order.Ordered.TheVariants.{Fine, At}
 use Rattle.rule.proofs.FrameOrder.{fine-count, fine-order}
 use Rattle.rule.proofs.FrameLength.{true-whole, whole-true, whole-false}
 use Rattle.rule.proofs.FrameRules.{IsBody, fine-rule, rule-fine}
@@ -50,14 +49,14 @@ module _ (s : List ℕ) (b : Bytes s) (w : Whole (length s)) where
   by_count r true g = refused_7 w r (no_reference (rule-body r) g)
   by_count r false g = by_size r (sizes_fit (note_decimals (scale_of s)) (body s)) (λ e. true-false (sym (reference-none (rule-body r) e) ∙ g)) refl
 
-  by_order : head_fine s ≡ true → (o : Ordered) → order_of (literal_decimals (scale_of s)) (body s) ≡ o
+  by_order : head_fine s ≡ true → (o : Result ℕ ℕ) → order_of (literal_decimals (scale_of s)) (body s) ≡ o
       → Opening s (after_order (head_frames (scale_of s)) (note_decimals (scale_of s)) (body s) o)
-  by_order f (Fine m) g =
+  by_order f (Ok m) g =
       let i : InOrder (literal_decimals (scale_of s)) (body s) = fine-order (literal_decimals (scale_of s)) (body s) m g in
       let r : IsBody (scale_of s) (body s) = fine-rule (scale_of s) (body_bytes b) (body-whole s w.steps) i in
-      subst (λ (n : ℕ). Opening s (after_order (head_frames (scale_of s)) (note_decimals (scale_of s)) (body s) (Fine n))) (sym (fine-count (literal_decimals (scale_of s)) (body s) m g))
+      subst (λ (n : ℕ). Opening s (after_order (head_frames (scale_of s)) (note_decimals (scale_of s)) (body s) (Ok n))) (sym (fine-count (literal_decimals (scale_of s)) (body s) m g))
       (by_count (body-rule b w.steps f r) (eqb (reference_count (body s)) 0) refl)
-  by_order f (At p) g = refused_10 w (place-bytes s b w.steps w.least f p g)
+  by_order f (Err p) g = refused_10 w (place-bytes s b w.steps w.least f p g)
 
   by-head : (t : Bool) → head_fine s ≡ t → Opening s (cond t (checked_body (scale_of s) (body s)) (checking.refused 10 0))
   by-head true f = by_order f (order_of (literal_decimals (scale_of s)) (body s)) refl

@@ -9,6 +9,7 @@ use native.Mathlib.Omega.{arith}
 use borrow.Author.Tests.{le-leb}
 use lib.ListN.{length, take, drop, take-append-drop}
 use lib.Seq.{take-add}
+use Rattle.std.specs.Prelude.{Err}
 use Rattle.numbers.proofs.Bools.{true-false}
 use Rattle.rule.specs.Frames.{Relation, frame_count, Bytes}
 use Rattle.rule.specs.Tree.{instance, relation, RuleTree, LimitsC, Limits, postfix, bytes_of, IsRule}
@@ -16,7 +17,6 @@ use Rattle.rule.specs.Scale.{literal_decimals, head_of, head_frames, scale_of, h
 use Rattle.rule.specs.Order.{order_of}
 use Rattle.rule.specs.Opening.{Begins, PlaceOf10}
 use Rattle.rule.specs.declared.Frame.{Frame}
-use Rattle.rule.specs.declared.order.Ordered.TheVariants.{At}
 use Rattle.rule.proofs.FrameLists.{frames_of, frames-length, frames_append, bytes-frames, AllOctets, all_take, octets_in}
 use Rattle.rule.proofs.FrameParsing.{BodyRule}
 use Rattle.rule.proofs.FramePlaces.{BeginsF, PlaceF, place}
@@ -114,7 +114,7 @@ module _ (s : List ℕ) (b : Bytes s) (h : length s % 8 ≡ 0) (w : 8 ≤ length
         end = λ g r. a.end (omega arith) (body_of fs r.tree r.limits (its.headless w) (sym its.are ∙ rule-frames r));
       }
 
-  pub place-bytes : (p : ℕ) → order_of (literal_decimals (scale_of s)) (body s) ≡ At p → PlaceOf10 s (head_frames (scale_of s) + p)
+  pub place-bytes : (p : ℕ) → order_of (literal_decimals (scale_of s)) (body s) ≡ Err p → PlaceOf10 s (head_frames (scale_of s) + p)
   place-bytes p e = to-bytes p (place z (body s) (octets_in (body_bytes b)) p e)
 
 -- ---- a head whose fields are not its kind's begins no rule

@@ -9,6 +9,7 @@ use lib.Dec.{T, leb, eqb}
 use lib.IntN.{pos, nat_abs}
 use lib.ListN.{length, drop, length-drop}
 use borrow.Author.Tests.{eqb-true}
+use Rattle.std.specs.Prelude.{Result, Ok, Err}
 use Rattle.numbers.proofs.Bools.{and-true}
 use Rattle.rule.specs.Limits.{decimal_limit}
 use Rattle.rule.specs.Frames.{Source, Kind, kind_byte, scale_byte, frame_at, frame_count, fields_of}
@@ -22,8 +23,6 @@ use Rattle.rule.proofs.CheckNumbers.{number_of}
 use Rattle.rule.specs.Opening.{Whole}
 use Rattle.rule.specs.CheckTold as checking
 use Rattle.rule.specs.declared.Frame.{Frame}
-use Rattle.rule.specs.declared.order.Ordered.{Ordered}
-use Rattle.rule.specs.declared.order.Ordered.TheVariants.{Fine, At}
 use Rattle.rule.proofs.FrameKinds.{kind_at}
 use Rattle.rule.proofs.FrameOrder.{fine-order}
 use Rattle.rule.proofs.FrameLists.{frame_past}
@@ -46,10 +45,10 @@ sizes-by true u e = absurd (not-refused 7 0 (λ z. omega arith) e)
 sizes-by false true e = refl
 sizes-by false false e = absurd (not-refused 8 0 (λ z. omega arith) e)
 
-order-by : (z : Option ℕ) (s : List ℕ) (o : Ordered) → order_of (literal_decimals z) s ≡ o → after_order (head_frames z) (note_decimals z) s o ≡ checking.accepted
+order-by : (z : Option ℕ) (s : List ℕ) (o : Result ℕ ℕ) → order_of (literal_decimals z) s ≡ o → after_order (head_frames z) (note_decimals z) s o ≡ checking.accepted
     → InOrder (literal_decimals z) s × (sizes_fit (note_decimals z) s ≡ true)
-order-by z s (At p) g e = absurd (not-refused 10 (head_frames z + p) (λ z. omega arith) e)
-order-by z s (Fine m) g e = (fine-order (literal_decimals z) s m g, sizes-by (eqb m 0) (sizes_fit (note_decimals z) s) e)
+order-by z s (Err p) g e = absurd (not-refused 10 (head_frames z + p) (λ z. omega arith) e)
+order-by z s (Ok m) g e = (fine-order (literal_decimals z) s m g, sizes-by (eqb m 0) (sizes_fit (note_decimals z) s) e)
 
 head-by : (s : List ℕ) → Whole (length s) → (t : Bool) → head_fine s ≡ t → cond t (checked_body (scale_of s) (body s)) (checking.refused 10 0) ≡ checking.accepted → Passed s
 head-by s w true h e =

@@ -9,22 +9,22 @@ use borrow.Author.Tests.{lt-ltb}
 use Rattle.rule.specs.Tree.{word_bytes}
 use Rattle.rule.specs.Memory.{put}
 use Rattle.rule.proofs.ReaderFrames.{fill}
-use Rattle.rule.specs.declared.memory.Fields.{Fields}
+use Rattle.rule.specs.declared.memory.RawFrame.{RawFrame}
 
 -- a frame's bytes
-abbrev pub eight : Fields → List ℕ
+abbrev pub eight : RawFrame → List ℕ
 eight f = f.kind ∷ (f.event ∷ (f.note ∷ (f.factor ∷ word_bytes f.word [])))
 
 -- of frames
-abbrev pub packed : List Fields → List ℕ
+abbrev pub packed : List RawFrame → List ℕ
 packed [] = []
 packed (f ∷ fs) = eight f ++ packed fs
 
-pub packed-length : (fs : List Fields) → length (packed fs) ≡ length fs * 8
+pub packed-length : (fs : List RawFrame) → length (packed fs) ≡ length fs * 8
 packed-length [] = refl
 packed-length (f ∷ fs) = let h = packed-length fs in omega arith
 
-put-at : (p q : List ℕ) (k : ℕ) (f : Fields) → k < 64 → length p ≡ k * 8 → 8 ≤ length q → put (p ++ q) k f ≡ (p ++ eight f) ++ drop 8 q
+put-at : (p q : List ℕ) (k : ℕ) (f : RawFrame) → k < 64 → length p ≡ k * 8 → 8 ≤ length q → put (p ++ q) k f ≡ (p ++ eight f) ++ drop 8 q
 unfolding put
 put-at p q k f h e g =
     let l : k * 8 + 8 ≤ length (p ++ q) = rw length-append (omega arith) in
@@ -44,7 +44,7 @@ zeros-left (suc n) zero h = absurd (omega arith)
 zeros-left (suc n) (suc m) h = let e : suc m - suc n ≡ m - n = omega arith in rw e (zeros-left n m (omega arith))
 
 -- from place k on, after the bytes p
-filled-from : (fs : List Fields) (k m : ℕ) (p : List ℕ) → k + length fs ≤ 64 → length p ≡ k * 8 → length fs * 8 ≤ m
+filled-from : (fs : List RawFrame) (k m : ℕ) (p : List ℕ) → k + length fs ≤ 64 → length p ≡ k * 8 → length fs * 8 ≤ m
     → fill k fs (p ++ replicate m 0) ≡ p ++ (packed fs ++ replicate (m - length fs * 8) 0)
 filled-from [] k m p h e g = let z : m - 0 ≡ m = omega arith in rw z
 filled-from (f ∷ fs) k m p h e g =
@@ -55,5 +55,5 @@ filled-from (f ∷ fs) k m p h e g =
     ∙ (filled-from fs (k + 1) (m - 8) (p ++ eight f) (omega arith) (rw length-append (omega arith)) (omega arith)
     ∙ (append_assoc p (eight f) (packed fs ++ replicate (m - 8 - length fs * 8) 0) ∙ ap (λ (j : ℕ). p ++ (eight f ++ (packed fs ++ replicate j 0))) n))
 
-pub filled : (fs : List Fields) → length fs ≤ 64 → fill 0 fs (replicate 512 0) ≡ packed fs ++ replicate (512 - length fs * 8) 0
+pub filled : (fs : List RawFrame) → length fs ≤ 64 → fill 0 fs (replicate 512 0) ≡ packed fs ++ replicate (512 - length fs * 8) 0
 filled fs h = filled-from fs 0 512 [] (omega arith) refl (omega arith)

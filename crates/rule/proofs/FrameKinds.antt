@@ -9,7 +9,7 @@ use native.Mathlib.Omega.{arith}
 use lib.Dec.{T, eqb}
 use borrow.Author.Tests.{eqb-true}
 use Rattle.numbers.proofs.Ranges.{each, all_from, tested}
-use Rattle.rule.specs.Frames.{Source, literal, instance, reference, add, subtract, multiply, equal, unequal, less, at_most, more, at_least, and, or, implies, Kind, operand, arithmetic, absolute, relation, negation, connective, none, kind_byte, kinds, kind_in, kind_of, arithmetic_at, relation_at, connective_at, fields_of, bare_fields}
+use Rattle.rule.specs.Frames.{literal, instance, reference, add, subtract, multiply, equal, unequal, less, at_most, more, at_least, and, or, implies, Kind, operand, arithmetic, absolute, relation, negation, connective, none, kind_byte, kinds, kind_in, kind_of, arithmetic_at, relation_at, connective_at, fields_of, bare_fields}
 use Rattle.rule.specs.declared.Frame.{Frame}
 
 -- ---- the byte of a kind has that kind
@@ -52,10 +52,6 @@ byte-kind b = byte_in_lem kinds b
 
 -- ---- ranges of bytes
 module _ (P : Kind → Type 0) (b : ℕ) where
-  pub operand-range : 1 ≤ b → b < 4 → ((s : Source) → P (operand s)) → P (kind_of b)
-  unfolding kind_of
-  operand-range h k p = each (λ x. P (kind_of x)) 1 3 b (p literal, (p instance, (p reference, tt))) h k
-
   pub sum-range : 17 ≤ b → b < 19 → P (arithmetic add) → P (arithmetic subtract) → P (kind_of b)
   unfolding kind_of
   sum-range h k p q = each (λ x. P (kind_of x)) 17 2 b (p, (q, tt)) h k

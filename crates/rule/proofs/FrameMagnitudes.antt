@@ -2,20 +2,26 @@
 use mathlib.Core.Path.{◌≡◌, refl, sym, ap, ◌∙◌}
 use mathlib.Core.Bool.{Bool, true, false, cond}
 use mathlib.Core.List.{List, [], ◌∷◌}
-use Prim.Native.Nat.{ℕ, zero, suc, ◌+◌, ◌-◌, ◌≤◌, ◌<◌}
+use Prim.Native.Nat.{ℕ, zero, suc, ◌+◌, ◌-◌, ◌≤◌}
 use native.Mathlib.Nat.{add-suc, add-zero}
 use native.Mathlib.Numerals.{add-one}
 use native.Mathlib.Omega.{arith}
 use lib.Dec.{T, leb}
-use borrow.Author.Tests.{leb-true, leb-false, lt-leb}
+use lib.ListN.{length}
+use Rattle.std.specs.Result.{is_ok}
+use Rattle.std.proofs.Common.{Result, Ok, Err, IsErr}
+use Rattle.std.proofs.lemmas.Bool.Decides.{nat_tests}
+use Rattle.numbers.proofs.Bools.{true-false}
+use borrow.Author.Tests.{leb-true}
 use Rattle.rule.specs.Limits.{magnitude_limit}
 use Rattle.rule.specs.Frames.{Kind, operand, arithmetic, absolute, relation, negation, connective, none, kind_of, frame_at, frame_count}
 use Rattle.rule.specs.Decimals.{Term, term}
 use Rattle.rule.specs.Tree.{grown}
 use Rattle.rule.specs.Sizes.{Sizes, fits, over, pushed, topped, sides_fit, compared, operand_size, sizes_after, size_next, size_at, is_fits, sizes_fit}
-use Rattle.rule.specs.Stack.{terms_of, loaded, capped, Bounded}
+use Rattle.rule.specs.Stack.{Bounded}
+use Rattle.rule.specs.Magnitudes.{loaded, saturated, saturated_term}
 use Rattle.rule.specs.declared.Frame.{Frame}
-use Rattle.rule.specs.declared.sizes.Size.{Size}
+use Rattle.rule.specs.declared.sizes.OverLimit.{OverLimit}
 use Rattle.rule.proofs.FrameKinds.{is_keeping}
 
 -- ---- every magnitude so far is within the limit
@@ -90,46 +96,32 @@ module _ (scale : ℕ) where
   sizes_after_keeping (connective j) x ms t = refl
   sizes_after_keeping none x ms t = refl
 
-  pub size_again : (s cells counts cells' counts' : List ℕ) (i k : ℕ) (x : Frame) (r : Size) → size_at scale s i ≡ fits (terms_of 0 cells counts k) → x ≡ frame_at s i
-      → loaded cells' counts' r ≡ sizes_after scale (kind_of x.kind) x (terms_of 0 cells counts k) → size_at scale s (i + 1) ≡ loaded cells' counts' r
-  size_again s cells counts cells' counts' i k x r e w h =
-      rw add-one (ap (size_next scale (frame_at s i)) e ∙ ap (λ (y : Frame). sizes_after scale (kind_of y.kind) y (terms_of 0 cells counts k)) (sym w) ∙ sym h)
+  pub size_again : (s : List ℕ) (ms : List (Term ℕ)) (i : ℕ) (x : Frame) (z : Sizes) → size_at scale s i ≡ fits ms → x ≡ frame_at s i
+      → z ≡ sizes_after scale (kind_of x.kind) x ms → size_at scale s (i + 1) ≡ z
+  size_again s ms i x z e w h =
+      rw add-one (ap (size_next scale (frame_at s i)) e ∙ ap (λ (y : Frame). sizes_after scale (kind_of y.kind) y ms) (sym w) ∙ sym h)
 
--- ---- capped amounts tell the same
--- m is n, or both are over the limit
-pub data Alike (m n : ℕ) : Type 0 where
-  exact : m ≡ n → Alike m n
-  both-over : magnitude_limit < m → magnitude_limit < n → Alike m n
-
-pub capped-alike : (n : ℕ) → Alike (capped n) n
-capped-alike n = go (leb n magnitude_limit) refl
+-- a relation, of the two that there are
+pub compared_pair : (r : Result Unit OverLimit) (a b : Term ℕ) (ms rest : List (Term ℕ)) → ms ≡ b ∷ (a ∷ rest) → length ms ≡ 2 → is_ok r ≡ sides_fit a b → loaded rest r ≡ compared ms
+compared_pair r a b ms [] e n h = rw (e, ← h) (fitted r)
   where
-    go : (t : Bool) → leb n magnitude_limit ≡ t → Alike (cond t n (magnitude_limit + 1)) n
-    go true e = exact refl
-    go false e = both-over (omega arith) (leb-false n magnitude_limit e)
+    fitted : (r : Result Unit OverLimit) → loaded [] r ≡ cond (is_ok r) (fits []) over
+    fitted (Ok u) = refl
+    fitted (Err z) = refl
+compared_pair r a b ms (c ∷ rest) e n h = absurd (let l : suc (suc (suc (length rest))) ≡ 2 = sym (ap length e) ∙ n in omega arith)
 
-pub capped_as : {m : ℕ} (n : ℕ) → m ≡ capped n → Alike m n
-capped_as n e = rw e (capped-alike n)
+-- what is an error is not `Ok`
+pub not_ok : (r : Result Unit OverLimit) → IsErr r → is_ok r ≡ false
+not_ok (Ok u) h = absurd (true-false (sym h))
+not_ok (Err e) h = refl
 
-pub alike-add : {a b m n : ℕ} → Alike a m → Alike b n → Alike (a + b) (m + n)
-alike-add (exact e) (exact f) = exact (rw (e, f))
-alike-add (exact e) (both-over p q) = both-over (omega arith) (omega arith)
-alike-add (both-over p q) y = both-over (omega arith) (omega (arith, alike-low y))
-  where
-    alike-low : {b n : ℕ} → Alike b n → 0 ≤ n
-    alike-low y = omega arith
+-- ---- saturated amounts tell the same
+pub saturated_leb : (n : ℕ) → leb (saturated n) magnitude_limit ≡ leb n magnitude_limit
+saturated_leb n = grind (arith, nat_tests)
 
-pub alike-leb : {m n : ℕ} → Alike m n → leb m magnitude_limit ≡ leb n magnitude_limit
-alike-leb {m} {n} (exact e) = rw e
-alike-leb {m} {n} (both-over p q) = lt-leb m magnitude_limit p ∙ sym (lt-leb n magnitude_limit q)
+pushed_by : (t : Bool) (n d : ℕ) (ms : List (Term ℕ)) → leb n magnitude_limit ≡ t → pushed (term (saturated n) d) ms ≡ pushed (term n d) ms
+pushed_by true n d ms e = let h = leb-true n magnitude_limit e in let q : saturated n ≡ n = omega arith in rw q
+pushed_by false n d ms e = rw (saturated_leb n, e)
 
-pub pushed-alike : {m n : ℕ} (d : ℕ) (ms : List (Term ℕ)) → Alike m n → pushed (term m d) ms ≡ pushed (term n d) ms
-pushed-alike d ms (exact e) = rw e
-pushed-alike {m} {n} d ms (both-over p q) = rw (lt-leb m magnitude_limit p, lt-leb n magnitude_limit q)
-
-pub capped_le : (n : ℕ) → capped n ≤ magnitude_limit + 1
-capped_le n = go (leb n magnitude_limit) refl
-  where
-    go : (t : Bool) → leb n magnitude_limit ≡ t → cond t n (magnitude_limit + 1) ≤ magnitude_limit + 1
-    go true e = let h = leb-true n magnitude_limit e in omega arith
-    go false e = omega arith
+pub pushed_saturated : (t : Term ℕ) (ms : List (Term ℕ)) → pushed (saturated_term t) ms ≡ pushed t ms
+pushed_saturated t ms = pushed_by (leb t.amount magnitude_limit) t.amount t.decimals ms refl

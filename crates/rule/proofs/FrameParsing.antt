@@ -12,6 +12,8 @@ use lib.ListN.{length, take}
 use lib.Signed.{le_z}
 use mir.Syntax.{w32}
 use mir.Val.{SFits}
+use Rattle.std.specs.Prelude.{Option as Maybe, Some, None}
+use Rattle.std.specs.Prelude.{Ok}
 use Rattle.numbers.proofs.Bools.{and_l, and_r, T_true}
 use Rattle.numbers.proofs.Ints.{nat_abs_zero, not_negative}
 use Rattle.rule.specs.Limits.{event_limit, note_limit, factor_limit, offset_limit, literal_limit}
@@ -19,34 +21,44 @@ use Rattle.rule.specs.Frames.{Source, Arithmetic, Relation, Connective, Kind, ki
 use Rattle.rule.specs.Tree.{Sum, literal, instance, reference, arithmetic, abs, Cond, relation, not, connective, LimitsR, LimitsS, RuleTree, LimitsC, postfix_s, postfix_c, postfix}
 use Rattle.rule.specs.Scale.{literal_decimals, head_of}
 use Rattle.rule.specs.References.{reference_count, reference_of}
-use Rattle.rule.specs.Order.{stepped, step_in, frame_step, Prefix, viable, stuck, order_at, order_next, prefix_at, ended, order_of, InOrder}
+use Rattle.rule.specs.Order.{good, stepped, step_in, frame_step, Prefix, viable, stuck, order_at, order_next, prefix_at, ended, order_of, InOrder}
 use Rattle.rule.specs.Build.{Trees, trees, top1, top2, related, built_by, built, trees_at, first_c, tree_of}
 use Rattle.rule.specs.declared.Frame.{Frame}
-use Rattle.rule.specs.declared.order.Ordered.TheVariants.{Fine}
 use Rattle.rule.specs.declared.order.Shape.{Shape}
-use Rattle.rule.specs.declared.order.Shape.TheVariants.{Good, Bad}
 use Rattle.rule.proofs.FrameKinds.{kind-byte, byte-kind}
 use Rattle.rule.proofs.FrameOrder.{one_left}
 use Rattle.rule.proofs.FrameLists.{frames_of, runs, runs_append, runs_to, runs-all, pass1, pass2, Octets, AllOctets}
 
 -- ---- refusal 10's pass over a list of frames, by the scale
-abbrev pub ordered : Option ℕ → Frame → Shape → Shape
-ordered z x (Good c k) = frame_step (literal_decimals z) x c k
-ordered z x Bad = Bad
+abbrev pub ordered : Option ℕ → Frame → Maybe Shape → Maybe Shape
+ordered z x (Some h) = frame_step (literal_decimals z) x h.conditions h.sums
+ordered z x None = None
 
-abbrev pub shape_of : Prefix → Shape
-shape_of (viable c k) = Good c k
-shape_of (stuck p) = Bad
+abbrev pub shape_of : Prefix → Maybe Shape
+shape_of (viable c k) = good c k
+shape_of (stuck p) = None
 
-shape-order-at : (i : ℕ) (h : Shape) → shape_of (order_at i h) ≡ h
-shape-order-at i (Good c k) = refl
-shape-order-at i Bad = refl
+shape-order-at : (i : ℕ) (h : Maybe Shape) → shape_of (order_at i h) ≡ h
+shape-order-at i (Some h) = refl
+shape-order-at i None = refl
 
-bad-good : {c k : ℕ} → Bad ≡ Good c k → ⊥
+bad-good : {c k : ℕ} → None ≡ good c k → ⊥
 bad-good e = let z : ◌≡◌ {A = ℕ} 0 1 = cc in omega arith
 
-end-fine : (n m : ℕ) (p : Prefix) → shape_of p ≡ Good 1 0 → ended n m p ≡ Fine m
-end-fine n m (viable c k) e = let p : c ≡ 1 = cc in let q : k ≡ 0 = cc in rw (p, q)
+-- the counts of good ones
+abbrev good_conds : Maybe Shape → ℕ
+good_conds (Some h) = h.conditions
+good_conds None = 0
+
+abbrev good_sums : Maybe Shape → ℕ
+good_sums (Some h) = h.sums
+good_sums None = 0
+
+good_parts : (a b c d : ℕ) → good a b ≡ good c d → (a ≡ c) × (b ≡ d)
+good_parts a b c d e = (ap good_conds e, ap good_sums e)
+
+end-fine : (n m : ℕ) (p : Prefix) → shape_of p ≡ good 1 0 → ended n m p ≡ Ok m
+end-fine n m (viable c k) e = let p = good_parts c k 1 0 e in rw (p.0, p.1)
 end-fine n m (stuck q) e = absurd (bad-good e)
 
 -- ---- a tree's frames build the tree, on any stacks
@@ -113,7 +125,7 @@ flat_c [] = []
 flat_c (p ∷ cs) = flat_c cs ++ postfix_c p
 
 -- a test passed
-passed : (t : Bool) (h : Shape) {c k : ℕ} → cond t h Bad ≡ Good c k → T t × (h ≡ Good c k)
+passed : (t : Bool) (h : Maybe Shape) {c k : ℕ} → cond t h None ≡ good c k → T t × (h ≡ good c k)
 passed true h e = (tt, e)
 passed false h e = absurd (bad-good e)
 
@@ -203,16 +215,16 @@ module _ (z : Option ℕ) where
   shape-next i x (viable c k) = shape-order-at i (frame_step (literal_decimals z) x c k)
   shape-next i x (stuck p) = refl
 
-  pub order-to : (s : List ℕ) (i : ℕ) → i ≤ length (frames_of s) → shape_of (prefix_at (literal_decimals z) s i) ≡ runs (ordered z) (take i (frames_of s)) (Good 0 0)
+  pub order-to : (s : List ℕ) (i : ℕ) → i ≤ length (frames_of s) → shape_of (prefix_at (literal_decimals z) s i) ≡ runs (ordered z) (take i (frames_of s)) (good 0 0)
   order-to s i h = runs_to (ordered z) s (λ j. shape_of (prefix_at (literal_decimals z) s j)) (λ j. shape-next j (frame_at s j) (prefix_at (literal_decimals z) s j)) i h
 
-  pub order-all : (s : List ℕ) → shape_of (prefix_at (literal_decimals z) s (frame_count s)) ≡ runs (ordered z) (frames_of s) (Good 0 0)
+  pub order-all : (s : List ℕ) → shape_of (prefix_at (literal_decimals z) s (frame_count s)) ≡ runs (ordered z) (frames_of s) (good 0 0)
   order-all s = runs-all (ordered z) s (λ j. shape_of (prefix_at (literal_decimals z) s j)) (λ j. shape-next j (frame_at s j) (prefix_at (literal_decimals z) s j))
 
-  pub fine-runs : (s : List ℕ) → InOrder (literal_decimals z) s → runs (ordered z) (frames_of s) (Good 0 0) ≡ Good 1 0
+  pub fine-runs : (s : List ℕ) → InOrder (literal_decimals z) s → runs (ordered z) (frames_of s) (good 0 0) ≡ good 1 0
   fine-runs s f = sym (order-all s) ∙ ap shape_of (one_left (literal_decimals z) s f)
 
-  pub runs-fine : (s : List ℕ) → runs (ordered z) (frames_of s) (Good 0 0) ≡ Good 1 0 → InOrder (literal_decimals z) s
+  pub runs-fine : (s : List ℕ) → runs (ordered z) (frames_of s) (good 0 0) ≡ good 1 0 → InOrder (literal_decimals z) s
   unfolding order_of
   runs-fine s e = end-fine (frame_count s) (reference_count s) (prefix_at (literal_decimals z) s (frame_count s)) (order-all s ∙ e)
 
@@ -238,19 +250,19 @@ module _ (z : Option ℕ) where
   -- one frame more, by what it does
   module _ (pre : List Frame) (c k : ℕ) (x : Frame) (c' k' : ℕ) where
     -- what a good step took and left
-    took : (n : ℕ) → stepped (sum_of n) c k ≡ Good c' k' → (n ≤ k) × (c ≡ c') × (k - n + 1 ≡ k')
-    took n g = let d = passed (leb n k) _ g in let e : Good c (k - n + 1) ≡ Good c' k' = d.1 in (leb→le n k d.0, cc, cc)
+    took : (n : ℕ) → stepped (sum_of n) c k ≡ good c' k' → (n ≤ k) × (c ≡ c') × (k - n + 1 ≡ k')
+    took n g = let d = passed (leb n k) _ g in let e = good_parts c (k - n + 1) c' k' d.1 in (leb→le n k d.0, e.0, e.1)
 
-    took_c : (n : ℕ) → stepped (cond_of n) c k ≡ Good c' k' → (n ≤ c) × (k ≡ 0) × (c - n + 1 ≡ c') × (0 ≡ k')
+    took_c : (n : ℕ) → stepped (cond_of n) c k ≡ good c' k' → (n ≤ c) × (k ≡ 0) × (c - n + 1 ≡ c') × (0 ≡ k')
     took_c n g =
         let d = passed (leb n c && eqb k 0) _ g in
-        let e : Good (c - n + 1) 0 ≡ Good c' k' = d.1 in
-        (leb→le n c (and_l (leb n c) (eqb k 0) d.0), eqb→eq k 0 (and_r (leb n c) (eqb k 0) d.0), cc, cc)
+        let e = good_parts (c - n + 1) 0 c' k' d.1 in
+        (leb→le n c (and_l (leb n c) (eqb k 0) d.0), eqb→eq k 0 (and_r (leb n c) (eqb k 0) d.0), e.0, e.1)
 
-    took-two : stepped relates c k ≡ Good c' k' → (k ≡ 2) × (c + 1 ≡ c') × (0 ≡ k')
-    took-two g = let d = passed (eqb k 2) _ g in let e : Good (c + 1) 0 ≡ Good c' k' = d.1 in (eqb→eq k 2 d.0, cc, cc)
+    took-two : stepped relates c k ≡ good c' k' → (k ≡ 2) × (c + 1 ≡ c') × (0 ≡ k')
+    took-two g = let d = passed (eqb k 2) _ g in let e = good_parts (c + 1) 0 c' k' d.1 in (eqb→eq k 2 d.0, e.0, e.1)
 
-    leaf-step : (cs : List Cond) (ss : List Sum) → Held pre c k cs ss → (t : Sum) → x ∷ [] ≡ postfix_s t → LimitsS z t → stepped (sum_of 0) c k ≡ Good c' k' → Held (pre ++ (x ∷ [])) c' k' cs (t ∷ ss)
+    leaf-step : (cs : List Cond) (ss : List Sum) → Held pre c k cs ss → (t : Sum) → x ∷ [] ≡ postfix_s t → LimitsS z t → stepped (sum_of 0) c k ≡ good c' k' → Held (pre ++ (x ∷ [])) c' k' cs (t ∷ ss)
     leaf-step cs ss h t e l g =
         let d = took 0 g in
         record {
@@ -261,7 +273,7 @@ module _ (z : Option ℕ) where
           are = ap (λ (y : List Frame). y ++ (x ∷ [])) h.are ∙ append_assoc (flat_c cs) (flat_s ss) (x ∷ []) ∙ ap (λ (y : List Frame). flat_c cs ++ (flat_s ss ++ y)) e;
         }
 
-    arithmetic-step : (o : Arithmetic) → bare (Kind.arithmetic o) ≡ x → (cs : List Cond) (ss : List Sum) → Held pre c k cs ss → stepped (sum_of 2) c k ≡ Good c' k' → Held (pre ++ (x ∷ [])) c' k' cs (top2 (arithmetic o) ss)
+    arithmetic-step : (o : Arithmetic) → bare (Kind.arithmetic o) ≡ x → (cs : List Cond) (ss : List Sum) → Held pre c k cs ss → stepped (sum_of 2) c k ≡ good c' k' → Held (pre ++ (x ∷ [])) c' k' cs (top2 (arithmetic o) ss)
     arithmetic-step o e cs [] h g = absurd (omega (arith, h.sums, (took 2 g).0))
     arithmetic-step o e cs (b ∷ []) h g = absurd (omega (arith, h.sums, (took 2 g).0))
     arithmetic-step o e cs (b ∷ (a ∷ ss)) h g =
@@ -274,7 +286,7 @@ module _ (z : Option ℕ) where
           are = rw (← e) (ap (λ (y : List Frame). y ++ (bare (Kind.arithmetic o) ∷ [])) h.are ∙ reg2 (flat_c cs) (flat_s ss) (postfix_s a) (postfix_s b) (bare (Kind.arithmetic o) ∷ []));
         }
 
-    absolute-step : bare Kind.absolute ≡ x → (cs : List Cond) (ss : List Sum) → Held pre c k cs ss → stepped (sum_of 1) c k ≡ Good c' k' → Held (pre ++ (x ∷ [])) c' k' cs (top1 abs ss)
+    absolute-step : bare Kind.absolute ≡ x → (cs : List Cond) (ss : List Sum) → Held pre c k cs ss → stepped (sum_of 1) c k ≡ good c' k' → Held (pre ++ (x ∷ [])) c' k' cs (top1 abs ss)
     absolute-step e cs [] h g = absurd (omega (arith, h.sums, (took 1 g).0))
     absolute-step e cs (a ∷ ss) h g =
         let d = took 1 g in
@@ -286,7 +298,7 @@ module _ (z : Option ℕ) where
           are = rw (← e) (ap (λ (y : List Frame). y ++ (bare Kind.absolute ∷ [])) h.are ∙ reg1 (flat_c cs) (flat_s ss) (postfix_s a) (bare Kind.absolute ∷ []));
         }
 
-    relation-step : (r : Relation) → bare (Kind.relation r) ≡ x → (cs : List Cond) (ss : List Sum) → Held pre c k cs ss → stepped relates c k ≡ Good c' k' → HeldT (pre ++ (x ∷ [])) c' k' (related r cs ss)
+    relation-step : (r : Relation) → bare (Kind.relation r) ≡ x → (cs : List Cond) (ss : List Sum) → Held pre c k cs ss → stepped relates c k ≡ good c' k' → HeldT (pre ++ (x ∷ [])) c' k' (related r cs ss)
     relation-step r e cs [] h g = absurd (omega (arith, h.sums, (took-two g).0))
     relation-step r e cs (b ∷ []) h g = absurd (omega (arith, h.sums, (took-two g).0))
     relation-step r e cs (b ∷ (a ∷ [])) h g =
@@ -300,7 +312,7 @@ module _ (z : Option ℕ) where
         }
     relation-step r e cs (b ∷ (a ∷ (y ∷ ss))) h g = absurd (omega (arith, h.sums, (took-two g).0))
 
-    negation-step : bare Kind.negation ≡ x → (cs : List Cond) (ss : List Sum) → Held pre c k cs ss → stepped (cond_of 1) c k ≡ Good c' k' → Held (pre ++ (x ∷ [])) c' k' (top1 not cs) ss
+    negation-step : bare Kind.negation ≡ x → (cs : List Cond) (ss : List Sum) → Held pre c k cs ss → stepped (cond_of 1) c k ≡ good c' k' → Held (pre ++ (x ∷ [])) c' k' (top1 not cs) ss
     negation-step e [] ss h g = absurd (omega (arith, h.conds, (took_c 1 g).0))
     negation-step e (p ∷ cs) (b ∷ ss) h g = absurd (omega (arith, h.sums, (took_c 1 g).1))
     negation-step e (p ∷ cs) [] h g =
@@ -313,7 +325,7 @@ module _ (z : Option ℕ) where
           are = rw (← e) (ap (λ (y : List Frame). y ++ (bare Kind.negation ∷ [])) h.are ∙ reg_not (flat_c cs) (postfix_c p) (bare Kind.negation ∷ []));
         }
 
-    connective-step : (j : Connective) → bare (Kind.connective j) ≡ x → (cs : List Cond) (ss : List Sum) → Held pre c k cs ss → stepped (cond_of 2) c k ≡ Good c' k' → Held (pre ++ (x ∷ [])) c' k' (top2 (connective j) cs) ss
+    connective-step : (j : Connective) → bare (Kind.connective j) ≡ x → (cs : List Cond) (ss : List Sum) → Held pre c k cs ss → stepped (cond_of 2) c k ≡ good c' k' → Held (pre ++ (x ∷ [])) c' k' (top2 (connective j) cs) ss
     connective-step j e [] ss h g = absurd (omega (arith, h.conds, (took_c 2 g).0))
     connective-step j e (q ∷ []) ss h g = absurd (omega (arith, h.conds, (took_c 2 g).0))
     connective-step j e (q ∷ (p ∷ cs)) (b ∷ ss) h g = absurd (omega (arith, h.sums, (took_c 2 g).1))
@@ -329,7 +341,7 @@ module _ (z : Option ℕ) where
 
   -- ---- one frame more, by its kind
   module _ (x : Frame) (ok : Octets x) (pre : List Frame) (c k : ℕ) (cs : List Cond) (ss : List Sum) (h : Held pre c k cs ss) (c' k' : ℕ) where
-    step : (o : Kind) → x.kind ≡ kind_byte o → step_in (literal_decimals z) o x c k ≡ Good c' k' → HeldT (pre ++ (x ∷ [])) c' k' (built_by o x cs ss)
+    step : (o : Kind) → x.kind ≡ kind_byte o → step_in (literal_decimals z) o x c k ≡ good c' k' → HeldT (pre ++ (x ∷ [])) c' k' (built_by o x cs ss)
     step (Kind.operand Source.literal) e g =
         let u = passed (literal_fields (literal_decimals z) x) _ g in
         leaf-step pre c k x c' k' cs ss h (literal x.event (nat_abs x.value)) (ap (λ (y : Frame). y ∷ []) (is-literal (literal_decimals z) x u.0 e))
@@ -355,34 +367,33 @@ module _ (z : Option ℕ) where
     step (Kind.connective j) e g =
         let u = passed (bare_fields x) _ g in
         connective-step pre c k x c' k' j (is-bare (Kind.connective j) x e u.0) cs ss h u.1
-    step Kind.none e g = absurd (bad-good (passed (bare_fields x) Bad g).1)
+    step Kind.none e g = absurd (bad-good (passed (bare_fields x) None g).1)
 
-    step_by_lem : (kind_of x.kind ≡ Kind.none) ⊎ (x.kind ≡ kind_byte (kind_of x.kind)) → frame_step (literal_decimals z) x c k ≡ Good c' k' → HeldT (pre ++ (x ∷ [])) c' k' (built x (trees cs ss))
+    step_by_lem : (kind_of x.kind ≡ Kind.none) ⊎ (x.kind ≡ kind_byte (kind_of x.kind)) → frame_step (literal_decimals z) x c k ≡ good c' k' → HeldT (pre ++ (x ∷ [])) c' k' (built x (trees cs ss))
     step_by_lem (inl e) g =
-        absurd (bad-good (passed (bare_fields x) Bad (sym (ap (λ (o : Kind). step_in (literal_decimals z) o x c k) e) ∙ g)).1)
+        absurd (bad-good (passed (bare_fields x) None (sym (ap (λ (o : Kind). step_in (literal_decimals z) o x c k) e) ∙ g)).1)
     step_by_lem (inr e) g = step (kind_of x.kind) e g
 
-  pub bad-stays : (fs : List Frame) → runs (ordered z) fs Bad ≡ Bad
+  pub bad-stays : (fs : List Frame) → runs (ordered z) fs None ≡ None
   bad-stays [] = refl
   bad-stays (x ∷ fs) = bad-stays fs
 
-  first_good : (fs : List Frame) (y : Shape) (c k : ℕ) → runs (ordered z) fs y ≡ Good c k → (d : ℕ) × ((j : ℕ) × (y ≡ Good d j))
-  first_good fs (Good d j) c k g = (d, (j, refl))
-  first_good fs Bad c k g = absurd (bad-good (sym (bad-stays fs) ∙ g))
+  first_good : (fs : List Frame) (y : Maybe Shape) (c k : ℕ) → runs (ordered z) fs y ≡ good c k → (d : ℕ) × ((j : ℕ) × (y ≡ good d j))
+  first_good fs (Some h) c k g = (h.conditions, (h.sums, refl))
+  first_good fs None c k g = absurd (bad-good (sym (bad-stays fs) ∙ g))
 
-  sound : (fs pre : List Frame) (c k : ℕ) (y : Trees) → AllOctets fs → HeldT pre c k y → (c' k' : ℕ) → runs (ordered z) fs (Good c k) ≡ Good c' k' → HeldT (pre ++ fs) c' k' (runs built fs y)
+  sound : (fs pre : List Frame) (c k : ℕ) (y : Trees) → AllOctets fs → HeldT pre c k y → (c' k' : ℕ) → runs (ordered z) fs (good c k) ≡ good c' k' → HeldT (pre ++ fs) c' k' (runs built fs y)
   sound [] pre c k y ok h c' k' g =
-      let p : c ≡ c' = cc in
-      let q : k ≡ k' = cc in
-      rw (append-nil pre, ← p, ← q) h
+      let e = good_parts c k c' k' g in
+      rw (append-nil pre, ← e.0, ← e.1) h
   sound (x ∷ fs) pre c k (trees cs ss) ok h c' k' g =
-      let p = first_good fs (ordered z x (Good c k)) c' k' g in
+      let p = first_good fs (ordered z x (good c k)) c' k' g in
       let q : HeldT (pre ++ (x ∷ [])) p.0 p.1.0 (built x (trees cs ss)) = step_by_lem x ok.0 pre c k cs ss h p.0 p.1.0 (byte-kind x.kind) p.1.1 in
       let r : HeldT ((pre ++ (x ∷ [])) ++ fs) c' k' (runs built fs (built x (trees cs ss)))
       = sound fs (pre ++ (x ∷ [])) p.0 p.1.0 (built x (trees cs ss)) ok.1 q c' k' (ap (runs (ordered z) fs) (sym p.1.1) ∙ g) in
       subst (λ (l : List Frame). HeldT l c' k' (runs built fs (built x (trees cs ss)))) (append_assoc pre (x ∷ []) fs) r
 
-  begun : (fs : List Frame) (c k : ℕ) → AllOctets fs → runs (ordered z) fs (Good 0 0) ≡ Good c k → HeldT fs c k (runs built fs (trees [] []))
+  begun : (fs : List Frame) (c k : ℕ) → AllOctets fs → runs (ordered z) fs (good 0 0) ≡ good c k → HeldT fs c k (runs built fs (trees [] []))
   begun fs c k ok g = sound fs [] 0 0 (trees [] []) ok (record { conds = refl; sums = refl; all_c = tt; all_s = tt; are = refl }) c k g
 
   only : (fs : List Frame) (y : Trees) → HeldT fs 1 0 y → BodyRule z fs
@@ -391,5 +402,5 @@ module _ (z : Option ℕ) where
   only fs (trees (t ∷ []) (a ∷ ss)) h = absurd (let b : suc (length ss) ≡ 0 = h.sums in omega arith)
   only fs (trees (t ∷ []) []) h = record { tree = t; limits = h.all_c.0; frames = h.are ∙ append-nil (postfix_c t) }
 
-  pub rule-of : (fs : List Frame) → AllOctets fs → runs (ordered z) fs (Good 0 0) ≡ Good 1 0 → BodyRule z fs
+  pub rule-of : (fs : List Frame) → AllOctets fs → runs (ordered z) fs (good 0 0) ≡ good 1 0 → BodyRule z fs
   rule-of fs ok g = only fs (runs built fs (trees [] [])) (begun fs 1 0 ok g)

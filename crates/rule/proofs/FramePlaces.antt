@@ -10,21 +10,21 @@ use lib.Dec.{eqb}
 use lib.ListN.{length, take}
 use lib.Seq.{take-length}
 use borrow.Author.Tests.{le-leb}
+use Rattle.std.specs.Prelude.{Option as Maybe, Some, None}
+use Rattle.std.specs.Prelude.{Ok, Err}
 use Rattle.rule.specs.Frames.{Source, Arithmetic, Relation, Connective, Kind, kind_of, bare, frame_at, frame_count}
 use Rattle.rule.specs.References.{reference_count}
 use Rattle.rule.specs.Scale.{literal_decimals}
-use Rattle.rule.specs.Order.{frame_step, Prefix, viable, stuck, order_at, order_next, prefix_at, ended, order_of}
+use Rattle.rule.specs.Order.{good, frame_step, Prefix, viable, stuck, order_at, order_next, prefix_at, ended, order_of}
 use Rattle.rule.specs.declared.Frame.{Frame}
-use Rattle.rule.specs.declared.order.Ordered.TheVariants.{Fine, At}
 use Rattle.rule.specs.declared.order.Shape.{Shape}
-use Rattle.rule.specs.declared.order.Shape.TheVariants.{Good, Bad}
 use Rattle.rule.proofs.FrameLists.{frames_of, frames-length, runs, runs_append, AllOctets, all_append, all_take}
 use Rattle.rule.proofs.FrameParsing.{ordered, shape_of, order-to, order-all, bad-stays, BodyRule, rule-of}
 use Rattle.rule.proofs.FrameRules.{order-rule, rule-order, bare-octets}
 
-order-at-stuck : (i : ℕ) (h : Shape) (p : ℕ) → order_at i h ≡ stuck p → i ≡ p
-order-at-stuck i (Good c k) p e = cc
-order-at-stuck i Bad p e = cc
+order-at-stuck : (i : ℕ) (h : Maybe Shape) (p : ℕ) → order_at i h ≡ stuck p → i ≡ p
+order-at-stuck i (Some h) p e = cc
+order-at-stuck i None p e = cc
 
 -- some frames more make a body
 pub record BeginsF (z : Option ℕ) (fs : List Frame) : Type 0 where
@@ -43,9 +43,9 @@ module _ (z : Option ℕ) where
   record Completion (c k : ℕ) : Type 0 where
     more : List Frame
     octets : AllOctets more
-    whole : runs (ordered z) more (Good c k) ≡ Good 1 0
+    whole : runs (ordered z) more (good c k) ≡ good 1 0
 
-  one_more_lem : (o : Kind) (c k c' k' : ℕ) → (ordered z) (bare o) (Good c k) ≡ Good c' k' → Completion c' k' → Completion c k
+  one_more_lem : (o : Kind) (c k c' k' : ℕ) → (ordered z) (bare o) (good c k) ≡ good c' k' → Completion c' k' → Completion c k
   one_more_lem o c k c' k' e r = record { more = bare o ∷ r.more; octets = (bare-octets o, r.octets); whole = ap (runs (ordered z) r.more) e ∙ r.whole }
 
   joined : (c : ℕ) → Completion (suc c) 0
@@ -53,18 +53,18 @@ module _ (z : Option ℕ) where
   joined zero = record { more = []; octets = tt; whole = refl }
   joined (suc c) =
       one_more_lem (Kind.connective Connective.and) (suc (suc c)) 0 (suc c) 0
-      (rw (le-leb 2 (suc (suc c)) (omega arith)) (ap (λ (x : ℕ). Good x 0) (omega arith))) (joined c)
+      (rw (le-leb 2 (suc (suc c)) (omega arith)) (ap (λ (x : ℕ). good x 0) (omega arith))) (joined c)
 
   related : (c : ℕ) → Completion c 2
   unfolding kind_of
-  related c = one_more_lem (Kind.relation Relation.equal) c 2 (suc c) 0 (ap (λ (x : ℕ). Good x 0) (omega arith)) (joined c)
+  related c = one_more_lem (Kind.relation Relation.equal) c 2 (suc c) 0 (ap (λ (x : ℕ). good x 0) (omega arith)) (joined c)
 
   summed : (c k : ℕ) → Completion c (suc (suc k))
   unfolding kind_of
   summed c zero = related c
   summed c (suc k) =
       one_more_lem (Kind.arithmetic Arithmetic.add) c (suc (suc (suc k))) c (suc (suc k))
-      (rw (le-leb 2 (suc (suc (suc k))) (omega arith)) (ap (Good c) (omega arith))) (summed c k)
+      (rw (le-leb 2 (suc (suc (suc k))) (omega arith)) (ap (good c) (omega arith))) (summed c k)
 
   single : (c : ℕ) → Completion c 1
   unfolding kind_of
@@ -78,20 +78,20 @@ module _ (z : Option ℕ) where
   completes c (suc (suc k)) = summed c k
 
   -- ---- frames begin a rule exactly where the pass has not stuck
-  good-begins : (fs : List Frame) (c k : ℕ) → AllOctets fs → runs (ordered z) fs (Good 0 0) ≡ Good c k → BeginsF z fs
+  good-begins : (fs : List Frame) (c k : ℕ) → AllOctets fs → runs (ordered z) fs (good 0 0) ≡ good c k → BeginsF z fs
   good-begins fs c k ok g =
       let r : Completion c k = completes c k in
       record {
         rest = r.more;
-        rule = rule-of z (fs ++ r.more) (all_append fs r.more ok r.octets) (runs_append (ordered z) fs r.more (Good 0 0) ∙ ap (runs (ordered z) r.more) g ∙ r.whole);
+        rule = rule-of z (fs ++ r.more) (all_append fs r.more ok r.octets) (runs_append (ordered z) fs r.more (good 0 0) ∙ ap (runs (ordered z) r.more) g ∙ r.whole);
       }
 
-  bad-begins : (fs : List Frame) → runs (ordered z) fs (Good 0 0) ≡ Bad → BeginsF z fs → ⊥
+  bad-begins : (fs : List Frame) → runs (ordered z) fs (good 0 0) ≡ None → BeginsF z fs → ⊥
   bad-begins fs g b =
       let r : BodyRule z (fs ++ b.rest) = b.rule in
-      let e : runs (ordered z) (fs ++ b.rest) (Good 0 0) ≡ Good 1 0 = ap (λ (x : List Frame). runs (ordered z) x (Good 0 0)) r.frames ∙ order-rule z r.tree r.limits in
-      let d : runs (ordered z) (fs ++ b.rest) (Good 0 0) ≡ Bad = runs_append (ordered z) fs b.rest (Good 0 0) ∙ ap (runs (ordered z) b.rest) g ∙ bad-stays z b.rest in
-      let g : Bad ≡ Good 1 0 = sym d ∙ e in
+      let e : runs (ordered z) (fs ++ b.rest) (good 0 0) ≡ good 1 0 = ap (λ (x : List Frame). runs (ordered z) x (good 0 0)) r.frames ∙ order-rule z r.tree r.limits in
+      let d : runs (ordered z) (fs ++ b.rest) (good 0 0) ≡ None = runs_append (ordered z) fs b.rest (good 0 0) ∙ ap (runs (ordered z) b.rest) g ∙ bad-stays z b.rest in
+      let g : None ≡ good 1 0 = sym d ∙ e in
       let y : ◌≡◌ {A = ℕ} 0 1 = cc in
       omega arith
 
@@ -119,7 +119,7 @@ module _ (z : Option ℕ) where
 
   -- ---- the place
   module _ (s : List ℕ) (ok : AllOctets (frames_of s)) where
-    place-by : (p : ℕ) (q : Prefix) → prefix_at (literal_decimals z) s (frame_count s) ≡ q → ended (frame_count s) (reference_count s) q ≡ At p → order_of (literal_decimals z) s ≡ At p → PlaceF z (frames_of s) p
+    place-by : (p : ℕ) (q : Prefix) → prefix_at (literal_decimals z) s (frame_count s) ≡ q → ended (frame_count s) (reference_count s) q ≡ Err p → order_of (literal_decimals z) s ≡ Err p → PlaceF z (frames_of s) p
     place-by p (stuck x) e g f =
         let i : x ≡ p = cc in
         let r : Stuck s p (frame_count s) = stuck-from s p (frame_count s) (e ∙ ap stuck i) in
@@ -143,13 +143,13 @@ module _ (z : Option ℕ) where
           end = λ h r. never (reference_count s) (sym (rule-order z s r) ∙ f);
         }
       where
-        at_end : (n m : ℕ) (t : Bool) → cond t (Fine m) (At n) ≡ At p → p ≡ n
+        at_end : (n m : ℕ) (t : Bool) → cond t (Ok m) (Err n) ≡ Err p → p ≡ n
         at_end n m true g = cc
         at_end n m false g = cc
 
-        never : (m : ℕ) → Fine m ≡ At p → ⊥
+        never : (m : ℕ) → Ok m ≡ Err p → ⊥
         never m z = let y : ◌≡◌ {A = ℕ} 0 1 = cc in omega arith
 
-    pub place : (p : ℕ) → order_of (literal_decimals z) s ≡ At p → PlaceF z (frames_of s) p
+    pub place : (p : ℕ) → order_of (literal_decimals z) s ≡ Err p → PlaceF z (frames_of s) p
     unfolding order_of
     place p f = place-by p (prefix_at (literal_decimals z) s (frame_count s)) refl f f

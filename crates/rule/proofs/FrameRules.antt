@@ -9,24 +9,24 @@ use native.Mathlib.Omega.{arith}
 use lib.IntN.{nat_abs}
 use lib.ListN.{length}
 use borrow.Author.Tests.{le-leb, lt-ltb}
+use Rattle.std.specs.Prelude.{None}
 use Rattle.numbers.proofs.Ints.{mag_nat_abs}
 use Rattle.rule.specs.Limits.{literal_limit, decimal_limit, event_limit, note_limit, factor_limit, offset_limit}
 use Rattle.rule.specs.Frames.{Source, Kind, kind_of, sum_of, cond_of, bare, fields_of, Bytes}
 use Rattle.rule.specs.Tree.{Sum, literal, instance, reference, arithmetic, abs, Cond, relation, not, connective, LimitsS, LimitsC, postfix_s, postfix_c, bytes_of}
 use Rattle.rule.specs.Scale.{literal_decimals}
-use Rattle.rule.specs.Order.{stepped, step_by, step_in, InOrder}
+use Rattle.rule.specs.Order.{good, stepped, step_by, step_in, InOrder}
 use Rattle.rule.specs.declared.Frame.{Frame}
-use Rattle.rule.specs.declared.order.Shape.TheVariants.{Good, Bad}
 use Rattle.rule.proofs.FrameKinds.{kind-byte, kind_octet}
 use Rattle.rule.proofs.FrameLists.{frames_of, runs, pass1, pass2, Octets, AllOctets, all_append, octets_in, octets-bytes, frames-bytes, bytes-frames}
 use Rattle.rule.proofs.FrameParsing.{ordered, fine-runs, runs-fine, BodyRule, rule-of}
 
 -- where j is k and the sums, or the conditions, that a frame takes
-sum-on : (n c k j : ℕ) → j ≡ k + n → stepped (sum_of n) c j ≡ Good c (k + 1)
-sum-on n c k j e = rw (le-leb n j (omega arith)) (ap (Good c) (omega arith))
+sum-on : (n c k j : ℕ) → j ≡ k + n → stepped (sum_of n) c j ≡ good c (k + 1)
+sum-on n c k j e = rw (le-leb n j (omega arith)) (ap (good c) (omega arith))
 
-cond-on : (n k j : ℕ) → j ≡ k + n → stepped (cond_of n) j 0 ≡ Good (k + 1) 0
-cond-on n k j e = rw (le-leb n j (omega arith)) (ap (λ (x : ℕ). Good x 0) (omega arith))
+cond-on : (n k j : ℕ) → j ≡ k + n → stepped (cond_of n) j 0 ≡ good (k + 1) 0
+cond-on n k j e = rw (le-leb n j (omega arith)) (ap (λ (x : ℕ). good x 0) (omega arith))
 
 -- ---- and eight bytes hold each of them
 pub bare-octets : (k : Kind) → Octets (bare k)
@@ -47,10 +47,10 @@ pub record IsBody (z : Option ℕ) (s : List ℕ) : Type 0 where
 
 module _ (z : Option ℕ) where
   -- ---- a tree's frames are in order, whatever stands before them
-  bare-on : (o : Kind) (c k : ℕ) → fields_of (literal_decimals z) o (bare o) ≡ true → (ordered z) (bare o) (Good c k) ≡ step_by o c k
-  bare-on o c k f = ap (λ (p : Kind). step_in (literal_decimals z) p (bare o) c k) (kind-byte o) ∙ ap (λ (t : Bool). cond t (step_by o c k) Bad) f
+  bare-on : (o : Kind) (c k : ℕ) → fields_of (literal_decimals z) o (bare o) ≡ true → (ordered z) (bare o) (good c k) ≡ step_by o c k
+  bare-on o c k f = ap (λ (p : Kind). step_in (literal_decimals z) p (bare o) c k) (kind-byte o) ∙ ap (λ (t : Bool). cond t (step_by o c k) None) f
 
-  order_s : (t : Sum) → LimitsS z t → (c k : ℕ) → runs (ordered z) (postfix_s t) (Good c k) ≡ Good c (k + 1)
+  order_s : (t : Sum) → LimitsS z t → (c k : ℕ) → runs (ordered z) (postfix_s t) (good c k) ≡ good c (k + 1)
   unfolding kind_of
   order_s (literal d n) l c k = rw (le-leb d (literal_decimals z) l.0, le-leb 0 n zero-le) (sum-on 0 c k k (omega arith))
   order_s instance l c k = sum-on 0 c k k (omega arith)
@@ -68,7 +68,7 @@ module _ (z : Option ℕ) where
   order_s (abs a) l c k =
       pass1 (ordered z) (postfix_s a) (bare Kind.absolute) _ _ (order_s a l c k) ∙ bare-on Kind.absolute c (k + 1) refl ∙ sum-on 1 c k (k + 1) refl
 
-  order_c : (t : Cond) → LimitsC z t → (c : ℕ) → runs (ordered z) (postfix_c t) (Good c 0) ≡ Good (c + 1) 0
+  order_c : (t : Cond) → LimitsC z t → (c : ℕ) → runs (ordered z) (postfix_c t) (good c 0) ≡ good (c + 1) 0
   order_c (relation r a b) l c =
       pass2 (ordered z) (postfix_s a) (postfix_s b) (bare (Kind.relation r)) _ _ _ (order_s a l.0 c 0) (order_s b l.1 c 1) ∙ bare-on (Kind.relation r) c 2 refl
   order_c (not p) l c = pass1 (ordered z) (postfix_c p) (bare Kind.negation) _ _ (order_c p l c) ∙ bare-on Kind.negation (c + 1) 0 refl ∙ cond-on 1 c (c + 1) refl
@@ -76,7 +76,7 @@ module _ (z : Option ℕ) where
       pass2 (ordered z) (postfix_c p) (postfix_c q) (bare (Kind.connective j)) _ _ _ (order_c p l.0 c) (order_c q l.1 (c + 1))
       ∙ bare-on (Kind.connective j) (c + 1 + 1) 0 refl ∙ cond-on 2 c (c + 1 + 1) (omega arith)
 
-  pub order-rule : (t : Cond) → LimitsC z t → runs (ordered z) (postfix_c t) (Good 0 0) ≡ Good 1 0
+  pub order-rule : (t : Cond) → LimitsC z t → runs (ordered z) (postfix_c t) (good 0 0) ≡ good 1 0
   order-rule t l = order_c t l 0
 
   octets_s : (t : Sum) → LimitsS z t → AllOctets (postfix_s t)
@@ -116,7 +116,7 @@ module _ (z : Option ℕ) where
   fine-rule {s} b h f = frames-rule b h (rule-of z (frames_of s) (octets_in b) (fine-runs z s f))
 
   pub rule-order : (s : List ℕ) → BodyRule z (frames_of s) → InOrder (literal_decimals z) s
-  rule-order s r = runs-fine z s (ap (λ (x : List Frame). runs (ordered z) x (Good 0 0)) r.frames ∙ order-rule r.tree r.limits)
+  rule-order s r = runs-fine z s (ap (λ (x : List Frame). runs (ordered z) x (good 0 0)) r.frames ∙ order-rule r.tree r.limits)
 
   pub rule-fine : {s : List ℕ} → IsBody z s → InOrder (literal_decimals z) s
   rule-fine {s} r = rule-order s (rule-frames r)

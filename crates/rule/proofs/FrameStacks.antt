@@ -1,12 +1,13 @@
 -- What frames in order say of the magnitudes and of the stacks: each frame has the sums and conditions that it needs,
 -- and there are as many magnitudes as sums. Assumes nothing.
-use mathlib.Core.Path.{◌≡◌, refl, sym, ◌∙◌, subst}
+use mathlib.Core.Path.{◌≡◌, refl, ◌∙◌, subst}
 use mathlib.Core.Bool.{Bool, true, false, ◌&&◌, cond}
 use mathlib.Core.List.{List, [], ◌∷◌}
 use Prim.Native.Nat.{ℕ, zero, suc, ◌+◌, ◌-◌, ◌*◌, ◌≤◌, ◌<◌, zero-le}
 use native.Mathlib.Omega.{arith}
 use lib.Dec.{T, leb, eqb, leb→le, eqb→eq}
 use lib.ListN.{length}
+use Rattle.std.specs.Prelude.{Option as Maybe, None}
 use Rattle.numbers.proofs.Bools.{and_l, and_r}
 use Rattle.rule.specs.Limits.{frame_limit, frame_bytes, decimal_limit, magnitude_limit}
 use Rattle.rule.specs.Frames.{Source, literal, instance, reference, Arithmetic, add, subtract, multiply}
@@ -15,17 +16,14 @@ use Rattle.rule.specs.Decimals.{Term}
 use Rattle.rule.specs.Tree.{grown}
 use Rattle.rule.specs.Order.{stepped, step_by, frame_step, Prefix, viable, stuck, order_at, order_next, prefix_at, InOrder, Orderly}
 use Rattle.rule.specs.Sizes.{Sizes, fits, over, topped, sides_fit, compared, operand_size, sizes_after, size_next, size_at}
-use Rattle.rule.specs.Stack.{terms_of, SumsFor, CondsFor, EnoughSums, EnoughConds, all_decimals, Long, Measured}
+use Rattle.rule.specs.Stack.{SumsFor, CondsFor, EnoughSums, EnoughConds, all_decimals}
 use Rattle.rule.specs.declared.Frame.{Frame}
 use Rattle.rule.specs.declared.order.Shape.{Shape}
-use Rattle.rule.specs.declared.order.Shape.TheVariants.{Bad}
-use Rattle.rule.proofs.FrameStack.{terms_length}
 use Rattle.rule.proofs.FrameOrder.{Live, sums_of, conds_of, live, sums_le}
-use Rattle.rule.proofs.FrameMagnitudes.{BoundedIn, sizes_in}
 use Rattle.rule.proofs.FrameParsing.{literal-decimals}
 
 -- ---- a frame that leaves a viable prefix has the fields of its kind, and the sums and conditions that it needs
-live_cond : (i : ℕ) (t : Bool) (h : Shape) → Live (order_at i (cond t h Bad)) → T t × Live (order_at i h)
+live_cond : (i : ℕ) (t : Bool) (h : Maybe Shape) → Live (order_at i (cond t h None)) → T t × Live (order_at i h)
 live_cond i true h l = (tt, l)
 live_cond i false h l = absurd l
 
@@ -65,7 +63,7 @@ same_over : (p : Prefix) → Same p over
 same_over (viable c k) = tt
 same_over (stuck p) = tt
 
-same_cond : (i : ℕ) (t : Bool) (h : Shape) (z : Sizes) → (T t → Same (order_at i h) z) → Same (order_at i (cond t h Bad)) z
+same_cond : (i : ℕ) (t : Bool) (h : Maybe Shape) (z : Sizes) → (T t → Same (order_at i h) z) → Same (order_at i (cond t h None)) z
 same_cond i true h z f = f tt
 same_cond i false h z f = tt
 
@@ -179,12 +177,20 @@ module _ (most scale : ℕ) where
   sizes-length s i ms l e = same_out (prefix_at most s i) ms l (subst (Same (prefix_at most s i)) e (same_at s i))
 
 -- ---- for the loop over the magnitudes
-pub size_ready : (scale : ℕ) (s cells counts : List ℕ) (i k : ℕ) (x : Frame) → i < frame_count s → length s ≤ frame_limit * frame_bytes → scale ≤ decimal_limit → Orderly s
-    → x ≡ frame_at s i → Long cells counts → size_at scale s i ≡ fits (terms_of 0 cells counts k) → Measured cells counts k × EnoughSums (kind_of x.kind) k
-size_ready scale s cells counts i k x h n g o w l e =
-    let q : sums_of (prefix_at o.most s i) ≡ k = sym (sizes-length o.most scale s i (terms_of 0 cells counts k) (live o.most s i (omega arith) o.order) e) ∙ terms_length 0 cells counts k in
-    let b : k ≤ i = subst (λ (n : ℕ). n ≤ i) q (sums_le o.most s i) in
-    let d : all_decimals (terms_of 0 cells counts k) ≤ decimal_limit * i = few-decimals o.most scale o.few g s i (terms_of 0 cells counts k) (omega arith) o.order e in (
-      record { long = l; room = omega arith; bounded = subst BoundedIn e (sizes_in scale s i); few = omega arith },
-      rw w (subst (EnoughSums (kind_of (frame_at s i).kind)) q (found o.most s i h o.order).sums),
-    )
+-- what a frame finds before it
+pub record SizeReady (x : Frame) (ms : List (Term ℕ)) : Type 0 where
+  pub enough : EnoughSums (kind_of x.kind) (length ms)
+  pub room : length ms < frame_limit
+  pub few : all_decimals ms ≤ decimal_limit * frame_limit
+
+pub size_ready : (scale : ℕ) (s : List ℕ) (i : ℕ) (ms : List (Term ℕ)) (x : Frame) → i < frame_count s → length s ≤ frame_limit * frame_bytes → scale ≤ decimal_limit → Orderly s
+    → x ≡ frame_at s i → size_at scale s i ≡ fits ms → SizeReady x ms
+size_ready scale s i ms x h n g o w e =
+    let q : length ms ≡ sums_of (prefix_at o.most s i) = sizes-length o.most scale s i ms (live o.most s i (omega arith) o.order) e in
+    let b : sums_of (prefix_at o.most s i) ≤ i = sums_le o.most s i in
+    let d : all_decimals ms ≤ decimal_limit * i = few-decimals o.most scale o.few g s i ms (omega arith) o.order e in
+    record {
+      enough = rw (w, q) (found o.most s i h o.order).sums;
+      room = omega arith;
+      few = omega arith;
+    }

@@ -20,7 +20,7 @@ use Rattle.rule.specs.Memory.{position, negated, factor_of, offset_of, fields, c
 use Rattle.rule.proofs.ReaderFrames.{each, tree_bytes}
 use Rattle.rule.specs.Spelling.{number_of_name, decimal, letters}
 use Rattle.rule.specs.Answers.{Within}
-use Rattle.rule.specs.declared.memory.Fields.{Fields}
+use Rattle.rule.specs.declared.memory.RawFrame.{RawFrame}
 use Rattle.rule.specs.declared.parts.Place.{Place}
 use Rattle.rule.specs.declared.parts.Role.TheVariants.{Event, Note}
 use Rattle.rule.specs.declared.parts.Sign.TheVariants.{Plus, Minus}
@@ -103,7 +103,7 @@ module _ (text : List ℕ) (x : Rule) (w : Within text x) where
   pub meaning-limits : Limits (meaning text x)
   meaning-limits = subst Limits same (limits-frames (coded_number text x Event) (coded_number text x Note) (value_at text) (decimals_at text) x fit)
 
-  abbrev put-fields : List Fields
+  abbrev put-fields : List RawFrame
   put-fields = each (fields (code_at text) (value_at text) (decimals_at text) (codes (code_at text) (value_at text) (decimals_at text) Event (names x)) (codes (code_at text) (value_at text) (decimals_at text) Note (names x))) (frames x)
 
   put_count : length put-fields ≡ length (frames x)

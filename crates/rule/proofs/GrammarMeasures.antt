@@ -1,16 +1,13 @@
 -- What a register holds after the reading of a tree is that function of the tree. Assumes nothing.
+use Rattle.std.proofs.lemmas.Bool.Decides.{nat_tests}
 use mathlib.Core.Path.{◌≡◌, refl, ap, sym, ◌∙◌}
-use mathlib.Core.Bool.{Bool, true, false, cond}
 use mathlib.Core.List.{List, [], ◌∷◌, ◌++◌, append-nil, append_assoc}
-use Prim.Native.Nat.{ℕ, zero, suc, ◌+◌, max, min, ◌≤◌, ◌<◌}
+use Prim.Native.Nat.{ℕ, zero, suc, ◌+◌, max, min, ◌≤◌}
 use native.Mathlib.Omega.{arith}
-use lib.Dec.{leb}
-use borrow.Author.Tests.{leb-true, leb-false}
 use Rattle.rule.specs.declared.parts.Place.{Place}
 use Rattle.rule.specs.declared.parts.Role.{Role}
 use Rattle.rule.specs.declared.parts.Role.TheVariants.{Event, Note}
 use Rattle.rule.specs.declared.parts.Limit.{Limit}
-use Rattle.rule.specs.ReadLimits.{depth_limit}
 use Rattle.rule.specs.Grammar.{Rule, rule}
 use Rattle.rule.specs.Draft.{Draft}
 use Rattle.rule.specs.Items.{Item, enters, puts, items}
@@ -65,8 +62,8 @@ module _ {B : Type 0} (note : Act → List B → List B) (h : Draft → List B) 
     (adds : (f : Draft) (l : List B) → read_draft (List B) note f l ≡ l ++ h f) where
   noted : (d : ℕ) (is : List Item) (l : List B) → read_items (List B) note d is l ≡ l ++ flat h (frames_in is)
   noted d [] l = sym (append-nil l)
-  noted d (enters k ∷ is) l = rw (still (down k d) l) (noted d is l)
-  noted d (puts f ∷ is) l = noted d is (read_draft (List B) note f l) ∙ rw (adds f l) (append_assoc l (h f) (flat h (frames_in is)))
+  noted d (enters k ∷ is) l = grind (arith, still (down k d) l, noted d is l)
+  noted d (puts f ∷ is) l = grind (arith, append_assoc, adds f l, noted d is (read_draft (List B) note f l))
 
 -- frames
 abbrev own : Draft → List Draft
@@ -74,7 +71,7 @@ own f = f ∷ []
 
 flat-own : (fs : List Draft) → flat own fs ≡ fs
 flat-own [] = refl
-flat-own (f ∷ fs) = ap (λ (l : List Draft). f ∷ l) (flat-own fs)
+flat-own (f ∷ fs) = grind (arith, flat-own fs)
 
 no_name_frame : (ns : List Named) (l : List Draft) → read_each (read_name (List Draft) note-frame) ns l ≡ l
 no_name_frame = idle-names note-frame (λ r p l. refl) (λ r p l. refl)
@@ -83,7 +80,7 @@ adds-frame : (f : Draft) (l : List Draft) → read_draft (List Draft) note-frame
 adds-frame f l = ap (λ (m : List Draft). m ++ own f) (idle-numbers note-frame (λ b p m. refl) (numbers_of f) _ ∙ no_name_frame (names_of f) l)
 
 pub frames-items : (d : ℕ) (is : List Item) (l : List Draft) → read_items (List Draft) note-frame d is l ≡ l ++ frames_in is
-frames-items d is l = noted note-frame own (λ k m. refl) adds-frame d is l ∙ ap (λ (m : List Draft). l ++ m) (flat-own (frames_in is))
+frames-items d is l = grind (arith, noted note-frame own (λ k m. refl) adds-frame d is l, flat-own (frames_in is))
 
 pub frames-read : (x : Rule) → read_rule (List Draft) note-frame x [] ≡ frames x
 frames-read (rule e es n ns k c) =
@@ -93,8 +90,8 @@ frames-read (rule e es n ns k c) =
 -- names
 names-listed : (ns l : List Named) → read_each (read_name (List Named) note-name) ns l ≡ l ++ ns
 names-listed [] l = sym (append-nil l)
-names-listed (declared r p ∷ ns) l = names-listed ns (l ++ declared r p ∷ []) ∙ append_assoc l (declared r p ∷ []) ns
-names-listed (used r p ∷ ns) l = names-listed ns (l ++ used r p ∷ []) ∙ append_assoc l (used r p ∷ []) ns
+names-listed (declared r p ∷ ns) l = grind (arith, append_assoc, names-listed ns (l ++ declared r p ∷ []))
+names-listed (used r p ∷ ns) l = grind (arith, append_assoc, names-listed ns (l ++ used r p ∷ []))
 
 adds-names : (f : Draft) (l : List Named) → read_draft (List Named) note-name f l ≡ l ++ names_of f
 adds-names f l = idle-numbers note-name (λ b p m. refl) (numbers_of f) _ ∙ names-listed (names_of f) l
@@ -109,7 +106,7 @@ names-read (rule e es n ns k c) =
 -- numbers
 numbers-listed : (vs l : List Sized) → read_each (read_number (List Sized) note-number) vs l ≡ l ++ vs
 numbers-listed [] l = sym (append-nil l)
-numbers-listed (sized_by b p ∷ vs) l = numbers-listed vs (l ++ sized_by b p ∷ []) ∙ append_assoc l (sized_by b p ∷ []) vs
+numbers-listed (sized_by b p ∷ vs) l = grind (arith, append_assoc, numbers-listed vs (l ++ sized_by b p ∷ []))
 
 no_name_number : (ns : List Named) (l : List Sized) → read_each (read_name (List Sized) note-number) ns l ≡ l
 no_name_number = idle-names note-number (λ r p l. refl) (λ r p l. refl)
@@ -125,15 +122,11 @@ numbers-read (rule e es n ns k c) =
 -- ---- depth: the register stops at 17
 deeper-is : (d : ℕ) → d ≤ 17 → deeper d ≡ min 17 (d + 1)
 unfolding deeper
-deeper-is d h = go (leb d depth_limit) refl
-  where
-    go : (x : Bool) → leb d depth_limit ≡ x → cond x (d + 1) d ≡ min 17 (d + 1)
-    go true e = let q : d ≤ 16 = leb-true d 16 e in omega arith
-    go false e = let q : 16 < d = leb-false d 16 e in omega arith
+deeper-is d h = grind (arith, nat_tests)
 
 down_is : (k d : ℕ) → d ≤ 17 → down k d ≡ min 17 (d + k)
 down_is zero d h = omega arith
-down_is (suc k) d h = let e = deeper-is d h in let f = down_is k (deeper d) (omega arith) in omega arith
+down_is (suc k) d h = grind (arith, deeper-is d h, down_is k (deeper d))
 
 no_name_depth : (ns : List Named) (t : ℕ) → read_each (read_name ℕ note-depth) ns t ≡ t
 no_name_depth = idle-names note-depth (λ r p t. refl) (λ r p t. refl)
@@ -149,10 +142,8 @@ max-three t a b = omega arith
 
 depth-items : (is : List Item) (t : ℕ) → read_items ℕ note-depth 0 is t ≡ max t (min 17 (deepest is))
 depth-items [] t = omega arith
-depth-items (enters k ∷ is) t =
-    let e : down k 0 ≡ min 17 k = let q = down_is k 0 (omega arith) in omega arith in
-    depth-items is (max t (down k 0)) ∙ (max-three t (down k 0) (min 17 (deepest is)) ∙ ap (max t) (ap (λ (w : ℕ). max w (min 17 (deepest is))) e ∙ sym (cap_max k (deepest is))))
-depth-items (puts f ∷ is) t = rw (keeps-depth f t) (depth-items is t)
+depth-items (enters k ∷ is) t = grind (arith, down_is k 0, depth-items is (max t (down k 0)))
+depth-items (puts f ∷ is) t = grind (arith, keeps-depth f t, depth-items is t)
 
 -- the greatest depth entered, which stops at 17, is the tree's
 pub depth-read : (x : Rule) → read_rule ℕ note-depth x 0 ≡ min 17 (depth x)

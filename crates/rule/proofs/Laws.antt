@@ -3,9 +3,6 @@
 -- kinds by their bytes
 pub use Rattle.rule.proofs.FrameKinds.{kind_at, byte-kind, arithmetic-at, relation-at, connective-at}
 pub use Rattle.rule.proofs.FrameKinds.{none_00, none_04, none_15, none_27, none_35}
--- an array with a count as a stack
-pub use Rattle.rule.proofs.FrameStack.{stack_length, stack_push, stack_one, stack_two, stack_top, stack_fold}
-pub use Rattle.rule.proofs.FrameStack.{term_at, terms_length, terms_push, terms_one, terms_two, terms_top, terms_fold}
 -- how many sums and conditions the first frames leave
 pub use Rattle.rule.proofs.FrameOrder.{Live, live, sums_of, conds_of, sums_le, conds_le, one_left}
 -- the frame at a place, and how many magnitudes stand there

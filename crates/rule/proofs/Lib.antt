@@ -45,8 +45,9 @@ mod ReaderEnd
 mod ReaderConclusion
 -- Frames and trees: kinds, stacks, the passes of 9, 10 and 8, frames as a tree and back, what a tree's frames are.
 mod FrameKinds
+mod FrameChunks
+mod KindEffects
 mod FramePowers
-mod FrameStack
 mod FrameOrder
 mod FrameMagnitudes
 mod FrameStacks

@@ -5,6 +5,7 @@ use mathlib.Core.Bool.{Bool, true}
 use mathlib.Core.List.{List}
 use Prim.Native.Nat.{ℕ, ◌≤◌, ◌<◌, zero-le}
 use lib.ListN.{length, get_or}
+use Rattle.std.specs.Prelude.{Result}
 use Rattle.rule.specs.Class.{letter, digit, blank, mark, foreign, point, class_of, Letters, OfClass}
 use Rattle.rule.specs.Token.{end_kind, name_kind, number_kind, events_kind, notes_kind, index_kind, abs_kind, events_word, notes_word, index_word, abs_word, word_kind, token_at, spelling, tokens, IsWord, Rising}
 use Rattle.rule.specs.Token.{decimal_kind, scale_kind, Mode, declares, takes_points, token_in, PointBetween, DecimalsBehind}
@@ -50,8 +51,7 @@ use Rattle.rule.specs.Answers as answers
 use Rattle.rule.specs.declared.Token.{Token}
 use Rattle.rule.specs.ReadTold.{ReadAnswer, read_told}
 use Rattle.rule.specs.ReadTold as reading
-use Rattle.rule.specs.declared.Checked.{Checked}
-use Rattle.rule.specs.declared.Reading.{Reading}
+use Rattle.rule.specs.declared.Refusal.{Refusal}
 use Rattle.rule.proofs.SpellSame
 use Rattle.rule.proofs.SpellTrees
 use Rattle.rule.proofs.FrameTrees
@@ -186,7 +186,7 @@ pub opening_iff : {s : List ℕ} → Bytes s → (o : CheckAnswer) → (checked_
 opening_iff = CheckAnswers.opening_iff
 
 -- what is told of an answer fixes the answer, so that the contract of `check` allows one answer only
-pub check_told_injective : (a b : Checked) → check_told a ≡ check_told b → a ≡ b
+pub check_told_injective : (a b : Result Unit Refusal) → check_told a ≡ check_told b → a ≡ b
 check_told_injective = told.check_told_injective
 
 -- ---- reading
@@ -197,7 +197,7 @@ pub read_iff : (text b : List ℕ) (a : ReadAnswer × List ℕ) → (read_of tex
 read_iff = ReadPlaces.read_iff
 
 -- what is told of an answer fixes the answer, so that the contract of `read` allows one answer only
-pub read_told_injective : (a b : Reading) → read_told a ≡ read_told b → a ≡ b
+pub read_told_injective : (a b : Result ℕ Refusal) → read_told a ≡ read_told b → a ≡ b
 read_told_injective = told.read_told_injective
 
 -- each answer of `read`, with what holds of the text and what the earlier checks leave: 1 to 5, 18 and 6 to 8 in this order

@@ -11,7 +11,7 @@ use borrow.Author.Tests.{ltb-true, ltb-false, le-ltb}
 use Rattle.rule.specs.declared.parts.Place.{Place}
 use Rattle.rule.specs.declared.parts.Role.{Role}
 use Rattle.rule.specs.declared.parts.Role.TheVariants.{Event, Note}
-use Rattle.rule.specs.declared.memory.Fields.{Fields}
+use Rattle.rule.specs.declared.memory.RawFrame.{RawFrame}
 use Rattle.rule.specs.Grammar.{Rule, rule}
 use Rattle.rule.specs.Measure.{frames_in, frames, names}
 use Rattle.rule.specs.Draft.{Draft}
@@ -25,12 +25,12 @@ use Rattle.rule.proofs.GrammarWalk.{read_items, read_names, read_rule}
 use Rattle.rule.proofs.GrammarMeasures.{note-frame, frames-items}
 use Rattle.rule.proofs.ReaderRegisters.{Body, sim-items, unblamed, untouched, count_kept, names-listed}
 
-fill_snoc : (k : ℕ) (fs : List Fields) (f : Fields) (b : List ℕ) → fill k (fs ++ f ∷ []) b ≡ put (fill k fs b) (k + length fs) f
+fill_snoc : (k : ℕ) (fs : List RawFrame) (f : RawFrame) (b : List ℕ) → fill k (fs ++ f ∷ []) b ≡ put (fill k fs b) (k + length fs) f
 fill_snoc k [] f b = ap (λ j. put b j f) (omega arith)
 fill_snoc k (g ∷ fs) f b = fill_snoc (k + 1) fs f (put b k g) ∙ ap (λ j. put (fill (k + 1) fs (put b k g)) j f) (omega arith)
 
 -- past the 64th place nothing is put
-full : (b : List ℕ) (k : ℕ) (f : Fields) → 64 ≤ k → put b k f ≡ b
+full : (b : List ℕ) (k : ℕ) (f : RawFrame) → 64 ≤ k → put b k f ≡ b
 unfolding put
 full b k f h = rw (le-ltb k 64 h)
 
@@ -42,7 +42,7 @@ module _ (code value decimals : Place → ℕ) where
       pub counts : w.count ≡ min 65 (length l)
       pub its-bytes : w.bytes ≡ fill 0 (each (fields code value decimals E N) l) b₀
 
-    at_its_place : (l : List Draft) (f : Fields) (b : List ℕ) (c : ℕ) → c ≡ min 65 (length l) → (t : Bool) → ltb c 64 ≡ t → put b c f ≡ put b (0 + length (each (fields code value decimals E N) l)) f
+    at_its_place : (l : List Draft) (f : RawFrame) (b : List ℕ) (c : ℕ) → c ≡ min 65 (length l) → (t : Bool) → ltb c 64 ≡ t → put b c f ≡ put b (0 + length (each (fields code value decimals E N) l)) f
     at_its_place l f b c e true q = let z : c < 64 = ltb-true c 64 q in let y = length-each (fields code value decimals E N) l in ap (λ j. put b j f) (omega arith)
     at_its_place l f b c e false q =
         let z : 64 ≤ c = ltb-false c 64 q in

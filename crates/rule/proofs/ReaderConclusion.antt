@@ -2,43 +2,48 @@
 use mathlib.Core.Path.{◌≡◌, refl}
 use mathlib.Core.Bool.{true, false}
 use mathlib.Core.List.{List}
-use Prim.Native.Nat.{ℕ, ◌-◌, ◌*◌, ◌≤◌, ◌<◌, zero-le}
+use Prim.Native.Nat.{ℕ, ◌+◌, ◌-◌, ◌*◌, ◌≤◌, ◌<◌, zero-le}
+use native.Mathlib.Omega.{arith}
+use Rattle.std.proofs.Common.{Some, None}
 use borrow.Author.Tests.{ne_eqb, lt-ltb, le-ltb}
 use lib.ListN.{length, take, replicate}
 use Rattle.rule.specs.Token.{declares, tokens}
 use Rattle.rule.specs.Machine.{start, MachineAnswer}
-use Rattle.rule.specs.Memory.{Mem, fresh, listed, mem}
+use Rattle.rule.specs.Memory.{Mem, fresh, listed, spot, mem}
 use Rattle.rule.specs.ReadsPart.{run_from}
 use Rattle.rule.specs.Check.{checked_of}
-use Rattle.rule.specs.Reading.{judged, after_check, concluded, after_grammar, read_of, unread}
+use Rattle.rule.specs.Reading.{judged, after_check, concluded, after_grammar, read_of}
 use Rattle.rule.specs.ReadTold as reading
 use Rattle.rule.specs.declared.memory.Registers.{Registers}
 use Rattle.rule.proofs.TokenLists.{rising}
 use Rattle.rule.proofs.ReaderEnd.{Kept, OkA, run_ok}
 
 -- ---- 4 to 8 and 18
+one-less : (at : ℕ) → at + 1 - 1 ≡ at
+one-less at = omega arith
+
 module _ (b : List ℕ) (t : Registers) (tb bytes : List ℕ) where
-  pub four : (t.name ≡ 0 → ⊥) → concluded b (mem t tb bytes) ≡ (reading.refused 4 (t.name - 1), b)
+  pub four : (at : ℕ) → t.name ≡ Some at → concluded b (mem t tb bytes) ≡ (reading.refused 4 at, b)
   unfolding mem
-  four h = rw (ne_eqb t.name 0 h)
+  four at h = rw (h, ne_eqb (at + 1) 0 (λ e. omega arith), one-less at)
 
-  pub five : t.name ≡ 0 → (t.number ≡ 0 → ⊥) → concluded b (mem t tb bytes) ≡ (reading.refused 5 (t.number - 1), b)
+  pub five : (at : ℕ) → t.name ≡ None → t.number ≡ Some at → concluded b (mem t tb bytes) ≡ (reading.refused 5 at, b)
   unfolding mem
-  five e h = rw (e, ne_eqb t.number 0 h)
+  five at e h = rw (e, h, ne_eqb (at + 1) 0 (λ e. omega arith), one-less at)
 
-  pub eighteen : t.name ≡ 0 → t.number ≡ 0 → (t.decimals ≡ 0 → ⊥) → concluded b (mem t tb bytes) ≡ (reading.refused 18 (t.decimals - 1), b)
+  pub eighteen : (at : ℕ) → t.name ≡ None → t.number ≡ None → t.decimals ≡ Some at → concluded b (mem t tb bytes) ≡ (reading.refused 18 at, b)
   unfolding mem
-  eighteen e f h = rw (e, f, ne_eqb t.decimals 0 h)
+  eighteen at e f h = rw (e, f, h, ne_eqb (at + 1) 0 (λ e. omega arith), one-less at)
 
-  pub six-deep : t.name ≡ 0 → t.number ≡ 0 → t.decimals ≡ 0 → t.deep ≡ true → concluded b (mem t tb bytes) ≡ (reading.refused 6 0, b)
+  pub six-deep : t.name ≡ None → t.number ≡ None → t.decimals ≡ None → t.deep ≡ true → concluded b (mem t tb bytes) ≡ (reading.refused 6 0, b)
   unfolding mem
   six-deep e f i g = rw (e, f, i, g)
 
-  pub six-frames : t.name ≡ 0 → t.number ≡ 0 → t.decimals ≡ 0 → t.deep ≡ false → 64 < t.count → concluded b (mem t tb bytes) ≡ (reading.refused 6 0, b)
+  pub six-frames : t.name ≡ None → t.number ≡ None → t.decimals ≡ None → t.deep ≡ false → 64 < t.count → concluded b (mem t tb bytes) ≡ (reading.refused 6 0, b)
   unfolding mem
   six-frames e f i g h = rw (e, f, i, g, lt-ltb 64 t.count h)
 
-  pub seven_eight : t.name ≡ 0 → t.number ≡ 0 → t.decimals ≡ 0 → t.deep ≡ false → t.count ≤ 64 → concluded b (mem t tb bytes) ≡ after_check b (mem t tb bytes) (checked_of (take (t.count * 8) bytes))
+  pub seven_eight : t.name ≡ None → t.number ≡ None → t.decimals ≡ None → t.deep ≡ false → t.count ≤ 64 → concluded b (mem t tb bytes) ≡ after_check b (mem t tb bytes) (checked_of (take (t.count * 8) bytes))
   unfolding mem
   seven_eight e f i g h = rw (e, f, i, g, le-ltb 64 t.count h)
 
@@ -61,10 +66,11 @@ module _ (text b : List ℕ) where
   three a e h l q = rw (e, ne_eqb (length text) 0 h, le-ltb 1024 (length text) l, q)
 
 -- ---- the machine's answer
--- the code begins with an empty table, whatever its places hold
-pub starts : (text tb : List ℕ) → judged text ≡ run_from (declares 2) text start (mem unread tb (replicate 512 0)) 0
+-- the code begins with empty registers, whatever the table's places hold
+pub starts : (text tb : List ℕ) (t : Registers) → (t.count ≡ 0) × ((t.deep ≡ false) × ((t.number ≡ None) × ((t.decimals ≡ None) × ((t.name ≡ None) × ((t.events ≡ 0) × (t.notes ≡ 0))))))
+    → judged text ≡ run_from (declares 2) text start (mem t tb (replicate 512 0)) 0
 unfolding judged run_from mem listed
-starts text tb = refl
+starts text tb t e = rw (e.0, e.1.0, e.1.1.0, e.1.1.1.0, e.1.1.1.1.0, e.1.1.1.1.1.0, e.1.1.1.1.1.1)
 
 pub judged_ok : (text : List ℕ) → OkA text (length text) (judged text)
 unfolding judged
@@ -73,18 +79,14 @@ judged_ok text =
     (record { name-within = zero-le; number-within = zero-le; decimals-within = zero-le; long = refl })
 
 module _ (n : ℕ) (t : Registers) (tb b : List ℕ) where
-  pub kept-name : Kept n (mem t tb b) → t.name ≤ n
+  pub kept-name : Kept n (mem t tb b) → spot t.name ≤ n
   unfolding mem
   kept-name k = k.name-within
 
-  pub kept-number : Kept n (mem t tb b) → t.number ≤ n
+  pub kept-number : Kept n (mem t tb b) → spot t.number ≤ n
   unfolding mem
   kept-number k = k.number-within
 
-  pub kept-decimals : Kept n (mem t tb b) → t.decimals ≤ n
+  pub kept-decimals : Kept n (mem t tb b) → spot t.decimals ≤ n
   unfolding mem
   kept-decimals k = k.decimals-within
-
-  pub kept-long : Kept n (mem t tb b) → length b ≡ 512
-  unfolding mem
-  kept-long k = k.long

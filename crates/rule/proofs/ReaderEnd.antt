@@ -16,7 +16,7 @@ use Rattle.rule.specs.declared.Token.{Token}
 use Rattle.rule.specs.declared.parts.Place.{Place}
 use Rattle.rule.specs.declared.parts.Role.{Role}
 use Rattle.rule.specs.declared.parts.Role.TheVariants.{Event, Note}
-use Rattle.rule.specs.declared.memory.Fields.{Fields}
+use Rattle.rule.specs.declared.memory.RawFrame.{RawFrame}
 use Rattle.rule.proofs.FrameDrafts.{All}
 use Rattle.rule.proofs.GrammarKeeps.{At, Outs, Holds, Keeper, run-keeps}
 use Rattle.rule.proofs.TokenLists.{none_left, one_more_lem}
@@ -30,7 +30,7 @@ module _ (points : Bool) (text : List ℕ) (at : ℕ) (m : Mem) {t : Token} (is 
   unfolding run_from run step
   something_left h ne = rw (one_more_lem (body points) text at h (λ e. ne (ap (λ (q : Token). q.kind) is ∙ e)), ← is)
 
-put-long : (b : List ℕ) (k : ℕ) (f : Fields) → length (put b k f) ≡ length b
+put-long : (b : List ℕ) (k : ℕ) (f : RawFrame) → length (put b k f) ≡ length b
 unfolding put
 put-long b k f = go (ltb k 64)
   where

@@ -7,11 +7,11 @@ use Rattle.rule.specs.Grammar.{Rule}
 use Rattle.rule.specs.Measure.{frames, names}
 use Rattle.rule.specs.Memory.{put, fields, code_at, value_at, decimals_at}
 use Rattle.rule.specs.declared.parts.Role.TheVariants.{Event, Note}
-use Rattle.rule.specs.declared.memory.Fields.{Fields}
+use Rattle.rule.specs.declared.memory.RawFrame.{RawFrame}
 use Rattle.rule.proofs.ReaderRefusals.{codes}
 
 -- frames put one after the other, from place k on
-abbrev pub fill : ℕ → List Fields → List ℕ → List ℕ
+abbrev pub fill : ℕ → List RawFrame → List ℕ → List ℕ
 fill k [] b = b
 fill k (f ∷ fs) b = fill (k + 1) fs (put b k f)
 

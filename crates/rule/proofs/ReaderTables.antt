@@ -2,13 +2,20 @@
 use mathlib.Core.Path.{◌≡◌, refl, ap, sym, subst, ◌∙◌}
 use mathlib.Core.Bool.{Bool, true, false, cond}
 use mathlib.Core.List.{List, [], ◌∷◌, ◌++◌}
-use Prim.Native.Nat.{ℕ, zero, suc, ◌+◌, ◌-◌, ◌≤◌, ◌<◌, min}
+use Prim.Native.Nat.{ℕ, zero, suc, ◌+◌, ◌-◌, ◌/◌, ◌%◌, ◌≤◌, ◌<◌, min}
 use native.Mathlib.Numerals.{add-one}
 use native.Mathlib.Omega.{arith}
-use borrow.Author.Tests.{lt-ltb, le-ltb, ltb-true, ltb-false, leb-false, eq-eqb, ne_eqb}
+use borrow.Author.Tests.{ltb-false, leb-false, eq-eqb, ne_eqb, eqb-true, eqb-false}
 use lib.Dec.{ltb, leb, eqb}
-use lib.ListN.{length, get_or, set}
-use lib.Seq.{get_or-set_same, get_or-set_other}
+use lib.ListN.{length, get_or, set, take, drop}
+use lib.Seq.{get_or-set_same, get_or-set_other, drop-cons}
+use Rattle.std.proofs.Common.{Option, Some, None, ◌||◌, take-take}
+use Rattle.std.specs.List.{list_any, position_or_len}
+use Rattle.std.specs.List as list
+use Rattle.std.specs.Option.{unwrap_or}
+use Rattle.std.specs.Int.{w32, to_be_bytes}
+use borrow.Rule.Slice.PartMut.{put_mid}
+use Rattle.std.proofs.lemmas.List.Recursion.{is_position_or_len}
 use Rattle.rule.specs.Name.{long_name}
 use Rattle.rule.specs.Spelling.{room}
 use Rattle.rule.specs.Memory.{position, table, enlist, listed, mem, is_declared}
@@ -21,39 +28,65 @@ unfolding listed
 length-listed tb from zero = refl
 length-listed tb from (suc n) = ap suc (length-listed tb (suc from) n)
 
--- a name has a place among names exactly if it is one of them
-pub position-among : (c : ℕ) (l : List ℕ) → ltb (position c l) (length l) ≡ is_declared c l
-unfolding position
-position-among c [] = refl
-position-among c (x ∷ l) = go (eqb c x) (position-among c l)
+-- the places of a table from one on, as the names that it lists
+pub listed-is : (tb : List ℕ) (from n : ℕ) → from + n ≤ length tb → take n (drop from tb) ≡ listed tb from n
+unfolding listed
+listed-is tb from zero h = take-zero (drop from tb)
   where
-    go : (t : Bool) → ltb (position c l) (length l) ≡ is_declared c l → ltb (cond t 0 (suc (position c l))) (suc (length l)) ≡ cond t true (is_declared c l)
-    go true ih = lt-ltb 0 (suc (length l)) (omega arith)
-    go false ih = raised (ltb (position c l) (length l)) refl ∙ ih
-      where
-        raised : (t : Bool) → ltb (position c l) (length l) ≡ t → ltb (suc (position c l)) (suc (length l)) ≡ ltb (position c l) (length l)
-        raised true e = let h : position c l < length l = ltb-true _ _ e in lt-ltb (suc (position c l)) (suc (length l)) (omega arith) ∙ sym e
-        raised false e = let h : length l ≤ position c l = ltb-false _ _ e in le-ltb (suc (position c l)) (suc (length l)) (omega arith) ∙ sym e
+    take-zero : (l : List ℕ) → take 0 l ≡ []
+    take-zero [] = refl
+    take-zero (x ∷ l) = refl
+listed-is tb from (suc n) h = rw (drop-cons tb from 0 (omega arith)) (ap (λ (l : List ℕ). get_or tb from 0 ∷ l) (listed-is tb (suc from) n (omega arith)))
 
--- ---- a search from the first name on, at the j-th
-module _ (tb : List ℕ) (from n c j : ℕ) where
-  pub find_end : n ≤ j → j + position c (listed tb (from + j) (n - j)) ≡ j
-  unfolding position listed
-  find_end h = let e : n - j ≡ 0 = omega arith in rw e (omega arith)
+pub listed-part : (tb : List ℕ) (from n k : ℕ) → n ≤ k → from + k ≤ length tb → take n (take k (drop from tb)) ≡ listed tb from n
+listed-part tb from n k h l = take-take n k (drop from tb) h ∙ listed-is tb from n (omega arith)
 
-  pub find_hit : j < n → get_or tb (from + j) 0 ≡ c → j + position c (listed tb (from + j) (n - j)) ≡ j
-  unfolding position listed
-  find_hit h q = let e : n - j ≡ suc (n - (j + 1)) = omega arith in rw (e, eq-eqb c _ (sym q)) (omega arith)
+same-test : (a b : ℕ) → eqb a b ≡ eqb b a
+same-test a b = go (eqb b a) refl
+  where
+    go : (t : Bool) → eqb b a ≡ t → eqb a b ≡ t
+    go true e = eq-eqb a b (sym (eqb-true b a e))
+    go false e = ne_eqb a b (λ q. eqb-false b a e (sym q))
 
-  pub find_miss : j < n → (get_or tb (from + j) 0 ≡ c → ⊥) → (j + 1) + position c (listed tb (from + (j + 1)) (n - (j + 1))) ≡ j + position c (listed tb (from + j) (n - j))
-  unfolding position listed
-  find_miss h q =
-      let e : n - j ≡ suc (n - (j + 1)) = omega arith in
-      let f : from + (j + 1) ≡ suc (from + j) = omega arith in
-      rw (e, f, ne_eqb c (get_or tb (from + j) 0) (λ z. q (sym z))) (omega arith)
+-- the library's words for a name among names, and for its place
+pub any-declared : (c : ℕ) (l : List ℕ) → list_any (λ y. eqb y c) l ≡ is_declared c l
+any-declared c [] = refl
+any-declared c (x ∷ l) = rw (same-test x c) (go (eqb c x) (any-declared c l))
+  where
+    go : (t : Bool) → list_any (λ y. eqb y c) l ≡ is_declared c l → (t || list_any (λ y. eqb y c) l) ≡ cond t true (is_declared c l)
+    go true h = refl
+    go false h = h
 
-pub find_start : (tb : List ℕ) (from n c : ℕ) → 0 + position c (listed tb (from + 0) (n - 0)) ≡ position c (listed tb from n)
-find_start tb from n c = let e : from + 0 ≡ from = omega arith in let f : n - 0 ≡ n = omega arith in rw (e, f) (omega arith)
+place-none : (c : ℕ) → position c [] ≡ 0
+unfolding position
+place-none c = refl
+
+place-more : (c x : ℕ) (xs : List ℕ) → position c (x ∷ xs) ≡ cond (eqb x c) 0 (1 + position c xs)
+unfolding position
+place-more c x xs = rw (same-test x c) (go (eqb c x))
+  where
+    go : (t : Bool) → cond t 0 (suc (position c xs)) ≡ cond t 0 (1 + position c xs)
+    go true = refl
+    go false = omega arith
+
+pub place-among : (c : ℕ) (l : List ℕ) → position_or_len (λ y. eqb y c) l ≡ position c l
+place-among c l = sym (is_position_or_len (position c) (λ y. eqb y c) (place-none c) (place-more c) l)
+
+pub position-short : (c : ℕ) (l : List ℕ) → position c l ≤ length l
+unfolding position
+position-short c [] = omega arith
+position-short c (x ∷ l) = go (eqb c x) (position-short c l)
+  where
+    go : (t : Bool) → position c l ≤ length l → cond t 0 (suc (position c l)) ≤ suc (length l)
+    go true h = omega arith
+    go false h = omega arith
+
+pub found : (c : ℕ) (l : List ℕ) (r : Option ℕ) → r ≡ list.position (λ y. eqb y c) l → unwrap_or r (length l) ≡ position c l
+found c l r e = rw (e, place-among c l) (go (ltb (position c l) (length l)) refl)
+  where
+    go : (t : Bool) → ltb (position c l) (length l) ≡ t → unwrap_or (cond t (Some (position c l)) None) (length l) ≡ position c l
+    go true h = refl
+    go false h = let k : length l ≤ position c l = ltb-false _ _ h in let m = position-short c l in omega arith
 
 -- ---- one name more
 listed_snoc : (tb : List ℕ) (from n : ℕ) → listed tb from (n + 1) ≡ listed tb from n ++ get_or tb (from + n) 0 ∷ []
@@ -120,3 +153,29 @@ one-note m tb b c h l =
     let e : min 4 (m.notes + 1) ≡ m.notes + 1 = omega arith in
     let f : min 4 m.notes ≡ m.notes = omega arith in
     rw (e, f, listed_more tb c 8 m.notes (omega arith), listed-other tb (8 + m.notes) c 0 (min 8 m.events) (λ j q z. omega arith))
+
+-- ---- a word's four bytes, put at a place
+put-at : (a p q r s : ℕ) (b : List ℕ) → a + 4 ≤ length b → put_mid a 4 b (p ∷ q ∷ r ∷ s ∷ []) ≡ set (set (set (set b a p) (suc a) q) (suc (suc a)) r) (suc (suc (suc a))) s
+put-at zero p q r s [] h = absurd (omega arith)
+put-at zero p q r s (w ∷ []) h = absurd (omega arith)
+put-at zero p q r s (w ∷ x ∷ []) h = absurd (omega arith)
+put-at zero p q r s (w ∷ x ∷ y ∷ []) h = absurd (omega arith)
+put-at zero p q r s (w ∷ x ∷ y ∷ z ∷ b) h = refl
+put-at (suc a) p q r s [] h = absurd (omega arith)
+put-at (suc a) p q r s (x ∷ b) h = ap (λ (l : List ℕ). x ∷ l) (put-at a p q r s b (omega arith))
+
+big-endian : (w : ℕ) → w < 4294967296 → to_be_bytes w32 w ≡ (w / 256 / 256 / 256) ∷ (w / 256 / 256 % 256) ∷ (w / 256 % 256) ∷ (w % 256) ∷ []
+big-endian w h =
+    let a : w / 16777216 % 256 ≡ w / 256 / 256 / 256 = omega arith in
+    let b : w / 65536 ≡ w / 256 / 256 = omega arith in
+    rw (a, b)
+
+pub word-put : (b : List ℕ) (p w : ℕ) (ys : List ℕ) → p + 8 ≤ length b → w < 4294967296 → ys ≡ to_be_bytes w32 w
+    → put_mid (p + 4) (p + 8 - (p + 4)) b ys ≡ set (set (set (set b (p + 4) (w / 256 / 256 / 256)) (p + 5) (w / 256 / 256 % 256)) (p + 6) (w / 256 % 256)) (p + 7) (w % 256)
+word-put b p w ys h k e =
+    let l : p + 8 - (p + 4) ≡ 4 = omega arith in
+    let f : p + 5 ≡ suc (p + 4) = omega arith in
+    let g : p + 6 ≡ suc (suc (p + 4)) = omega arith in
+    let i : p + 7 ≡ suc (suc (suc (p + 4))) = omega arith in
+    let z : ys ≡ (w / 256 / 256 / 256) ∷ (w / 256 / 256 % 256) ∷ (w / 256 % 256) ∷ (w % 256) ∷ [] = e ∙ big-endian w k in
+    rw (l, z, f, g, i) (put-at (p + 4) _ _ _ _ b (omega arith))

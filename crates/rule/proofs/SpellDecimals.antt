@@ -1,22 +1,20 @@
 -- Where 18 leaves a tree that a text spells, its decimals are within their limits: none in a literal without the clause.
 -- Assumes nothing.
-use mathlib.Core.Path.{◌≡◌, refl, ap, sym, ◌∙◌}
-use mathlib.Core.Bool.{Bool, true, false, cond}
+use Rattle.std.proofs.lemmas.Bool.Decides.{nat_tests}
+use mathlib.Core.Path.{◌≡◌, refl, sym, ◌∙◌}
 use mathlib.Core.Option.{none, some}
 use mathlib.Core.List.{List, [], ◌∷◌, append-nil}
 use Prim.Native.Nat.{ℕ, ◌≤◌}
 use native.Mathlib.Omega.{arith}
-use borrow.Author.Tests.{eqb-true, ltb-false}
-use lib.Dec.{eqb}
-use lib.ListN.{length}
+use borrow.Author.Tests.{ltb-false}
 use Rattle.rule.specs.Limits.{decimal_limit}
-use Rattle.rule.specs.Class.{digit, point, class_of, OfClass}
+use Rattle.rule.specs.Class.{digit, class_of, OfClass}
 use Rattle.rule.specs.Token.{tokens}
 use Rattle.rule.specs.Number.{number_value}
 use Rattle.rule.specs.Grammar.{Cond, Rule, rule, yield, words}
 use Rattle.rule.specs.Measure.{Sized, sized_by, numbers}
 use Rattle.rule.specs.Memory.{value_at, decimals_at}
-use Rattle.rule.specs.Spelling.{NumberOf, of_number, of_decimal, first_decimals, decimal, decimals, letters}
+use Rattle.rule.specs.Spelling.{NumberOf, of_number, of_decimal, first_decimals, decimals, letters}
 use Rattle.rule.specs.declared.parts.Place.{Place}
 use Rattle.rule.specs.declared.parts.Limit.TheVariants.{OfClause, OfLiteral, OfFactor, OfOffset}
 use Rattle.rule.proofs.FrameDrafts.{All, DecimalsFit}
@@ -30,11 +28,7 @@ use Rattle.rule.proofs.SpellNumbers.{Few, all-few}
 digits-whole : (bs : List ℕ) → OfClass digit bs → decimals bs ≡ 0
 unfolding decimals class_of
 digits-whole [] o = refl
-digits-whole (b ∷ bs) o = go (digits-whole bs o.1) (eqb b point) refl
-  where
-    go : decimals bs ≡ 0 → (t : Bool) → eqb b point ≡ t → cond t (length bs) (decimals bs) ≡ 0
-    go ih true e = let f : ◌≡◌ {A = ℕ} 0 2 = sym (ap class_of (eqb-true b point e)) ∙ o.0 in absurd (omega arith)
-    go ih false e = ih
+digits-whole (b ∷ bs) o = grind (arith, nat_tests, digits-whole bs o.1)
 
 pub most-six : (x : Rule) → most_decimals x ≤ decimal_limit
 most-six (rule e es n ns none c) = omega arith
@@ -43,7 +37,7 @@ most-six (rule e es n ns (some p) c) = omega arith
 module _ (text : List ℕ) where
   clause-fits : (p : Place) → Few text (sized_by OfClause p) → value_at text p ≤ decimal_limit
   unfolding number_value
-  clause-fits p h = let q = ltb-false 6 (decimal (letters text p)) h in omega arith
+  clause-fits p h = grind (arith, nat_tests)
 
   -- with the clause
   few-fit : (s : Sized) → Few text s → DecimalsFit (value_at text) (decimals_at text) decimal_limit s

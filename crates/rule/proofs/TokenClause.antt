@@ -1,7 +1,8 @@
 -- The clause's word is told by what stands before and after it. Assumes nothing.
+use Rattle.std.proofs.lemmas.Bool.Decides.{nat_tests}
 use mathlib.Core.Path.{◌≡◌, refl, ap, sym, subst, ◌∙◌}
 use mathlib.Core.Logic.{◌↔◌}
-use mathlib.Core.Bool.{Bool, true, false, cond}
+use mathlib.Core.Bool.{Bool, true, false}
 use mathlib.Core.List.{List, [], ◌∷◌, ◌++◌}
 use Prim.Native.Nat.{ℕ, zero, suc, ◌≤◌, zero-le}
 use native.Mathlib.Omega.{arith}
@@ -11,7 +12,7 @@ use lib.ListN.{length}
 use Rattle.numbers.proofs.Bools.{true-false, and-true, true-and}
 use Rattle.rule.specs.Class.{semicolon}
 use Rattle.rule.specs.Token.{end_kind, number_kind, scale_kind, scale_word, same, token_at, spelling, semicolons, first_kind, last_kind, AfterNotes}
-use Rattle.rule.specs.Token.{Mode, declares, clause, body, next, clause_at, as_scale, token_in, tokens_from, tokens}
+use Rattle.rule.specs.Token.{Mode, declares, clause, body, next, clause_at, token_in, tokens_from, tokens}
 use Rattle.rule.specs.declared.Token.{Token}
 use Rattle.rule.proofs.TokenWords.{same_eq, same_refl}
 use Rattle.rule.proofs.TokenLists.{none_left, one_more_lem, moves_in, spans_in}
@@ -31,19 +32,11 @@ Late (body points) = Unit
 
 late-next : (md : Mode) (k : ℕ) → Late md → Late (next md k)
 late-next (declares n) k l = absurd l
-late-next clause k l = go (eqb k semicolon)
-  where
-    go : (q : Bool) → Late (cond q (body true) clause)
-    go true = tt
-    go false = tt
+late-next clause k l = grind arith
 late-next (body points) k l = tt
 
 late-first : (k : ℕ) → Late (next (declares 0) k)
-late-first k = go (eqb k scale_kind)
-  where
-    go : (q : Bool) → Late (cond q clause (body false))
-    go true = tt
-    go false = tt
+late-first k = grind arith
 
 late-stays : (md : Mode) (us : List Token) → Late md → after md us ≡ declares 0 → ⊥
 late-stays md [] l e = subst Late e l
@@ -57,34 +50,16 @@ left (body points) = 1
 after_tells : (n k : ℕ) (us : List Token) → after (declares n) us ≡ declares 0 → (n ≡ 0 → k ≡ semicolon) → (semicolons us ≡ n) × (last_kind k us ≡ semicolon)
 after_tells n k [] e h = let z : n ≡ 0 = ap left e in (sym z, h z)
 after_tells zero k (u ∷ us) e h = absurd (late-stays (next (declares 0) u.kind) us (late-first u.kind) e)
-after_tells (suc n) k (u ∷ us) e h = go (λ m. after_tells m u.kind us) (eqb u.kind semicolon) refl e
-  where
-    go : ((m : ℕ) → after (declares m) us ≡ declares 0 → (m ≡ 0 → u.kind ≡ semicolon) → (semicolons us ≡ m) × (last_kind u.kind us ≡ semicolon))
-        → (q : Bool) → eqb u.kind semicolon ≡ q → after (cond q (declares n) (declares (suc n))) us ≡ declares 0
-        → (cond q (suc (semicolons us)) (semicolons us) ≡ suc n) × (last_kind u.kind us ≡ semicolon)
-    go ih true f g = let r = ih n g (λ z. eqb-true u.kind semicolon f) in (ap suc r.0, r.1)
-    go ih false f g = ih (suc n) g (λ z. absurd (omega arith))
+after_tells (suc n) k (u ∷ us) e h = (grind (arith, nat_tests, after_tells n u.kind us, after_tells (suc n) u.kind us), grind (arith, nat_tests, after_tells n u.kind us, after_tells (suc n) u.kind us))
 
 last_tells : (k : ℕ) (us : List Token) → semicolons us ≡ 0 → last_kind k us ≡ semicolon → k ≡ semicolon
 last_tells k [] z l = l
-last_tells k (u ∷ us) z l = go (λ y. last_tells u.kind us y l) (eqb u.kind semicolon) refl z
-  where
-    go : (semicolons us ≡ 0 → u.kind ≡ semicolon) → (q : Bool) → eqb u.kind semicolon ≡ q → cond q (suc (semicolons us)) (semicolons us) ≡ 0 → k ≡ semicolon
-    go ih true f y = absurd (omega arith)
-    go ih false f y = absurd (eqb-false u.kind semicolon f (ih y))
+last_tells k (u ∷ us) z l = grind (arith, nat_tests, last_tells u.kind us)
 
 tells_after : (n k : ℕ) (us : List Token) → semicolons us ≡ n → last_kind k us ≡ semicolon → after (declares n) us ≡ declares 0
 tells_after n k [] c l = ap declares (sym c)
-tells_after zero k (u ∷ us) c l = go (eqb u.kind semicolon) refl c
-  where
-    go : (q : Bool) → eqb u.kind semicolon ≡ q → cond q (suc (semicolons us)) (semicolons us) ≡ 0 → after (next (declares 0) u.kind) us ≡ declares 0
-    go true f y = absurd (omega arith)
-    go false f y = absurd (eqb-false u.kind semicolon f (last_tells u.kind us y l))
-tells_after (suc n) k (u ∷ us) c l = go (λ m y. tells_after m u.kind us y l) (eqb u.kind semicolon) refl c
-  where
-    go : ((m : ℕ) → semicolons us ≡ m → after (declares m) us ≡ declares 0) → (q : Bool) → eqb u.kind semicolon ≡ q → cond q (suc (semicolons us)) (semicolons us) ≡ suc n → after (cond q (declares n) (declares (suc n))) us ≡ declares 0
-    go ih true f y = ih n (omega arith)
-    go ih false f y = ih (suc n) y
+tells_after zero k (u ∷ us) c l = grind (arith, nat_tests, last_tells u.kind us)
+tells_after (suc n) k (u ∷ us) c l = grind (arith, nat_tests, tells_after n u.kind us, tells_after (suc n) u.kind us)
 
 -- ---- a token of a text, with those before and those after it
 pub record Parted (text : List ℕ) (md : Mode) (us : List Token) (t : Token) (vs : List Token) : Type 0 where
@@ -129,19 +104,11 @@ part text md at (u ∷ us) t vs h e = go (λ l f. part text (next md u.kind) (to
         record { at = r.at; within = r.within; is = r.is; rest = r.rest }
 
 first_of : (md : Mode) (text : List ℕ) (at : ℕ) → at ≤ length text → first_kind (tokens_from md text at) ≡ (token_in md text at).kind
-first_of md text at h = go (eqb (token_in md text at).kind end_kind) refl
-  where
-    go : (q : Bool) → eqb (token_in md text at).kind end_kind ≡ q → first_kind (tokens_from md text at) ≡ (token_in md text at).kind
-    go true f = ap first_kind (none_left md text at (eqb-true _ _ f)) ∙ sym (eqb-true _ _ f)
-    go false f = ap first_kind (one_more_lem md text at h (eqb-false _ _ f))
+first_of md text at h = grind (arith, nat_tests, none_left md text at, one_more_lem md text at h)
 
 -- ---- the clause's word
 scale-mode : (md : Mode) (text : List ℕ) (at : ℕ) → (token_in md text at).kind ≡ scale_kind → (md ≡ declares 0) × (clause_at text at ≡ true)
-scale-mode (declares zero) text at e = go (clause_at text at) refl e
-  where
-    go : (q : Bool) → clause_at text at ≡ q → (cond q (as_scale (token_at false text at)) (token_at false text at)).kind ≡ scale_kind → (declares 0 ≡ declares 0) × (clause_at text at ≡ true)
-    go true f k = (refl, f)
-    go false f k = absurd (never-scale false text at k)
+scale-mode (declares zero) text at e = (refl, grind (arith, never-scale false text at))
 scale-mode (declares (suc n)) text at e = absurd (never-scale false text at e)
 scale-mode clause text at e = absurd (never-scale false text at e)
 scale-mode (body points) text at e = absurd (never-scale points text at e)

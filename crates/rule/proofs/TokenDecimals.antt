@@ -3,13 +3,11 @@ use mathlib.Core.Path.{◌≡◌, refl, sym, ap, ◌∙◌}
 use mathlib.Core.Bool.{Bool, true, false, cond}
 use mathlib.Core.Logic.{◌↔◌}
 use mathlib.Core.List.{List, [], ◌∷◌}
-use Prim.Native.Nat.{ℕ, suc, ◌+◌, ◌-◌, ◌*◌, ◌≤◌, ◌<◌, min}
-use native.Mathlib.Numerals.{add-one}
+use Prim.Native.Nat.{ℕ, ◌+◌, ◌-◌, ◌*◌, ◌≤◌, ◌<◌, min}
 use native.Mathlib.Omega.{arith}
 use lib.Dec.{eqb}
-use lib.ListN.{length, drop, get_or, drop_of_length-le, length-drop}
-use borrow.Author.Tests.{ne_eqb}
-use lib.Seq.{drop-cons}
+use lib.ListN.{length}
+use Rattle.std.specs.List.{fold, position_or_len}
 use Rattle.rule.specs.Class.{point}
 use Rattle.rule.specs.Number.{most, number_value}
 use Rattle.rule.specs.Spelling.{decimal_from, decimal, decimals}
@@ -28,27 +26,15 @@ cap_from w (b ∷ bs) = go (λ v. cap_from v bs) (eqb b point)
         let e : min most x ≡ min most y = omega arith in
         sym (ih x) ∙ ap (λ (v : ℕ). min most (decimal_from v bs)) e ∙ ih y
 
--- one digit more, or a point
-pub digit-more : (ds : List ℕ) (v i : ℕ) → i < length ds
-    → min most (decimal_from (cond (eqb (get_or ds i 0) point) v (min most (v * 10 + (get_or ds i 0 - 48)))) (drop (i + 1) ds)) ≡ min most (decimal_from v (drop i ds))
-unfolding decimal_from
-digit-more ds v i h = rw (add-one, drop-cons ds i 0 h) (go (eqb (get_or ds i 0) point))
-  where
-    go : (t : Bool) → min most (decimal_from (cond t v (min most (v * 10 + (get_or ds i 0 - 48)))) (drop (suc i) ds)) ≡ min most (cond t (decimal_from v (drop (suc i) ds)) (decimal_from (v * 10 + (get_or ds i 0 - 48)) (drop (suc i) ds)))
-    go true = refl
-    go false = cap_from (v * 10 + (get_or ds i 0 - 48)) (drop (suc i) ds)
+-- the value with one digit more, capped; a point is passed over
+abbrev pub with_digit : ℕ → ℕ → ℕ
+with_digit v b = cond (eqb b point) v (min most (v * 10 + (b - 48)))
 
-pub digit-capped : (b v : ℕ) → v ≤ most → cond (eqb b point) v (min most (v * 10 + (b - 48))) ≤ most
-digit-capped b v h = go (eqb b point)
-  where
-    go : (t : Bool) → cond t v (min most (v * 10 + (b - 48))) ≤ most
-    go true = h
-    go false = omega arith
-
--- all digits read
-pub digits-end : (ds : List ℕ) (v i : ℕ) → length ds ≤ i → v ≤ most → v ≡ min most (decimal_from v (drop i ds))
+-- digit by digit, each value capped
+pub digits_told : (v : ℕ) (ds : List ℕ) → v ≤ most → fold with_digit v ds ≡ min most (decimal_from v ds)
 unfolding decimal_from
-digits-end ds v i h l = rw (drop_of_length-le ds h) (omega arith)
+digits_told v [] h = omega arith
+digits_told v (b ∷ bs) h = grind (arith, digits_told v bs h, digits_told (min most (v * 10 + (b - 48))) bs, cap_from (v * 10 + (b - 48)) bs)
 
 -- a value at or below a limit that `most` exceeds is told exactly, and one above it stays above
 pub number_decides : (ds : List ℕ) (limit : ℕ) → limit < most → (number_value ds ≤ limit) ↔ (decimal ds ≤ limit)
@@ -59,15 +45,8 @@ pub number-exact : (ds : List ℕ) → decimal ds ≤ most → number_value ds �
 unfolding number_value
 number-exact ds l = omega arith
 
--- ---- decimals: the digits left of the point are passed over
-pub decimals-point : (ds : List ℕ) (i : ℕ) → i < length ds → get_or ds i 0 ≡ point → length ds - i - 1 ≡ decimals (drop i ds)
+-- the decimals stand behind the first point
+pub decimals_told : (ds : List ℕ) → decimals ds ≡ length ds - position_or_len (λ b. eqb b point) ds - 1
 unfolding decimals
-decimals-point ds i h e = rw (drop-cons ds i 0 h, e, length-drop (suc i) ds) (omega arith)
-
-pub decimals-digit : (ds : List ℕ) (i : ℕ) → i < length ds → (get_or ds i 0 ≡ point → ⊥) → decimals (drop (i + 1) ds) ≡ decimals (drop i ds)
-unfolding decimals
-decimals-digit ds i h e = rw (add-one, drop-cons ds i 0 h, ne_eqb (get_or ds i 0) point e)
-
-pub decimals-end : (ds : List ℕ) (i : ℕ) → length ds ≤ i → 0 ≡ decimals (drop i ds)
-unfolding decimals
-decimals-end ds i h = rw (drop_of_length-le ds h)
+decimals_told [] = refl
+decimals_told (b ∷ bs) = grind (arith, decimals_told bs)

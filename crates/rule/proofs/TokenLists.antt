@@ -1,18 +1,18 @@
 -- Laws of the tokens of a text: the next one lies beyond the place and within the text, what stands before it is blank, and
 -- `tokens_from` is the next one and those after it. Assumes nothing.
+use Rattle.rule.proofs.TokenWords.{same_told}
+use Rattle.std.proofs.lemmas.Bool.Decides.{nat_tests}
 use mathlib.Core.Path.{◌≡◌, refl, ap, sym, ◌∙◌}
 use mathlib.Core.Logic.{◌↔◌}
-use mathlib.Core.Bool.{Bool, true, false, cond}
+use mathlib.Core.Bool.{Bool, true, false}
 use mathlib.Core.List.{List, [], ◌∷◌}
 use Prim.Native.Nat.{ℕ, zero, suc, ◌+◌, ◌-◌, ◌≤◌, ◌<◌}
 use native.Mathlib.Omega.{arith}
-use borrow.Author.Tests.{eq-eqb, ne_eqb, eqb-false}
-use lib.Dec.{eqb}
-use lib.ListN.{length, take, drop, get_or, length-drop}
+use lib.ListN.{length, drop, get_or, length-drop}
 use lib.Seq.{get_or-drop}
-use Rattle.rule.specs.Class.{letter, digit, blank, mark, class_of, span}
-use Rattle.rule.specs.Token.{end_kind, name_kind, events_kind, notes_kind, index_kind, abs_kind, events_word, notes_word, index_word, abs_word, same, word_kind, longest_mark, mark_width, fraction_of, token_kind, width_of, past, token_here, token_at, IsWord, Rising}
-use Rattle.rule.specs.Token.{Mode, declares, clause, body, next, takes_points, clause_at, as_scale, token_in, tokens_in, tokens_from}
+use Rattle.rule.specs.Class.{blank, class_of}
+use Rattle.rule.specs.Token.{end_kind, same, word_kind, token_kind, width_of, past, token_here, token_at, IsWord, Rising}
+use Rattle.rule.specs.Token.{Mode, declares, clause, body, next, takes_points, clause_at, token_in, tokens_in, tokens_from}
 use Rattle.rule.specs.declared.Token.{Token}
 use Rattle.rule.proofs.TokenSpans.{span_le, span_class}
 use Rattle.rule.proofs.TokenFractions.{fraction_of_le}
@@ -20,42 +20,18 @@ use Rattle.rule.proofs.TokenMarks.{mark_high, width_some, width-alone}
 
 pub word-is : (w : List ℕ) → IsWord (word_kind w)
 unfolding word_kind
-word-is w = go (same w events_word) (same w notes_word) (same w index_word) (same w abs_word)
-  where
-    go : (a b c d : Bool) → IsWord (cond a events_kind (cond b notes_kind (cond c index_kind (cond d abs_kind name_kind))))
-    go true b c d = (omega arith, omega arith, λ e. omega arith)
-    go false true c d = (omega arith, omega arith, λ e. omega arith)
-    go false false true d = (omega arith, omega arith, λ e. omega arith)
-    go false false false true = (omega arith, omega arith, λ e. omega arith)
-    go false false false false = (omega arith, omega arith, λ e. omega arith)
+word-is w = (grind arith, grind arith, grind arith)
 
 -- a token's kind is not that of the end
 kind-some : (points : Bool) (b : ℕ) (bs : List ℕ) → token_kind points b bs ≡ end_kind → ⊥
 unfolding token_kind
-kind-some points b bs = go (eqb (class_of b) letter) (eqb (class_of b) digit) (eqb (class_of b) mark) (eqb (fraction_of points bs) 0)
-  where
-    go : (t u v w : Bool) → cond t (word_kind (b ∷ take (span letter bs) bs)) (cond u (cond w 2 7) (cond v (longest_mark b (get_or bs 0 0)) 255)) ≡ 0 → ⊥
-    go true u v w q = omega (arith, (word-is (b ∷ take (span letter bs) bs)).0)
-    go false true v true q = omega arith
-    go false true v false q = omega arith
-    go false false true w q = omega (arith, mark_high b (get_or bs 0 0))
-    go false false false w q = omega arith
+kind-some points b bs = grind (arith, nat_tests, word-is, mark_high)
 
 -- a token has a byte at least, and lies within the text
 width_le : (points : Bool) (b : ℕ) (bs : List ℕ) → (1 ≤ width_of points b bs) × (width_of points b bs ≤ suc (length bs))
 unfolding width_of
-width_le points b bs = go (eqb (class_of b) letter) (eqb (class_of b) digit) (eqb (class_of b) mark)
-  where
-    within : (l : List ℕ) → mark_width (longest_mark b (get_or l 0 0)) ≤ suc (length l)
-    within [] = omega (arith, width-alone b)
-    within (x ∷ l) = omega (arith, width_some (longest_mark b x))
-
-    go : (t u v : Bool) → (1 ≤ cond t (1 + span letter bs) (cond u (1 + span digit bs + fraction_of points bs) (cond v (mark_width (longest_mark b (get_or bs 0 0))) 1)))
-        × (cond t (1 + span letter bs) (cond u (1 + span digit bs + fraction_of points bs) (cond v (mark_width (longest_mark b (get_or bs 0 0))) 1)) ≤ suc (length bs))
-    go true u v = (omega arith, omega (arith, span_le letter bs))
-    go false true v = (omega arith, omega (arith, fraction_of_le points bs))
-    go false false true = ((width_some (longest_mark b (get_or bs 0 0))).0, within bs)
-    go false false false = (omega arith, omega arith)
+width_le points b [] = grind (arith, span_le, fraction_of_le, width_some, width-alone)
+width_le points b (x ∷ bs) = grind (arith, span_le, fraction_of_le, width_some)
 
 -- ---- what stands at s
 module _ (points : Bool) (s : ℕ) where
@@ -139,32 +115,20 @@ clause-some text at q e =
 
 module _ (text : List ℕ) (at : ℕ) where
   pub starts-alike : (md : Mode) → (token_in md text at).start ≡ (token_at (takes_points md) text at).start
-  starts-alike (declares zero) = go (clause_at text at)
-    where
-      go : (q : Bool) → (cond q (as_scale (token_at false text at)) (token_at false text at)).start ≡ (token_at false text at).start
-      go true = refl
-      go false = refl
+  starts-alike (declares zero) = grind arith
   starts-alike (declares (suc n)) = refl
   starts-alike clause = refl
   starts-alike (body points) = refl
 
   pub ends-alike : (md : Mode) → (token_in md text at).end ≡ (token_at (takes_points md) text at).end
-  ends-alike (declares zero) = go (clause_at text at)
-    where
-      go : (q : Bool) → (cond q (as_scale (token_at false text at)) (token_at false text at)).end ≡ (token_at false text at).end
-      go true = refl
-      go false = refl
+  ends-alike (declares zero) = grind arith
   ends-alike (declares (suc n)) = refl
   ends-alike clause = refl
   ends-alike (body points) = refl
 
   -- and it is the end exactly where that one is
   pub over-alike : (md : Mode) → ((token_in md text at).kind ≡ end_kind) ↔ ((token_at (takes_points md) text at).kind ≡ end_kind)
-  over-alike (declares zero) = go (clause_at text at) refl
-    where
-      go : (q : Bool) → clause_at text at ≡ q → ((cond q (as_scale (token_at false text at)) (token_at false text at)).kind ≡ end_kind) ↔ ((token_at false text at).kind ≡ end_kind)
-      go true r = (λ e. absurd (omega arith), λ e. absurd (clause-some text at r e))
-      go false r = (λ e. e, λ e. e)
+  over-alike (declares zero) = (grind (arith, clause-some text at), grind (arith, clause-some text at))
   over-alike (declares (suc n)) = (λ e. e, λ e. e)
   over-alike clause = (λ e. e, λ e. e)
   over-alike (body points) = (λ e. e, λ e. e)
@@ -185,34 +149,13 @@ module _ (text : List ℕ) (at : ℕ) where
 enough : (text : List ℕ) (j k : ℕ) (md : Mode) (at : ℕ) → at ≤ length text → length text - at ≤ j → length text - at ≤ k → tokens_in j md text at ≡ tokens_in k md text at
 unfolding tokens_in
 enough text zero zero md at h hj hk = refl
-enough text zero (suc k) md at h hj hk = go (eqb (token_in md text at).kind end_kind) refl
-  where
-    go : (t : Bool) → eqb (token_in md text at).kind end_kind ≡ t → [] ≡ cond t [] (token_in md text at ∷ tokens_in k (next md (token_in md text at).kind) text (token_in md text at).end)
-    go true e = refl
-    go false e = let r = moves_in text at md h (eqb-false _ _ e) in let s = spans_in text at md h in absurd (omega arith)
-enough text (suc j) zero md at h hj hk = go (eqb (token_in md text at).kind end_kind) refl
-  where
-    go : (t : Bool) → eqb (token_in md text at).kind end_kind ≡ t → cond t [] (token_in md text at ∷ tokens_in j (next md (token_in md text at).kind) text (token_in md text at).end) ≡ []
-    go true e = refl
-    go false e = let r = moves_in text at md h (eqb-false _ _ e) in let s = spans_in text at md h in absurd (omega arith)
-enough text (suc j) (suc k) md at h hj hk = go (λ a. enough text j k (next md (token_in md text at).kind) a) (eqb (token_in md text at).kind end_kind) refl
-  where
-    go : ((a : ℕ) → a ≤ length text → length text - a ≤ j → length text - a ≤ k → tokens_in j (next md (token_in md text at).kind) text a ≡ tokens_in k (next md (token_in md text at).kind) text a)
-        → (t : Bool) → eqb (token_in md text at).kind end_kind ≡ t
-        → cond t [] (token_in md text at ∷ tokens_in j (next md (token_in md text at).kind) text (token_in md text at).end) ≡ cond t [] (token_in md text at ∷ tokens_in k (next md (token_in md text at).kind) text (token_in md text at).end)
-    go ih true e = refl
-    go ih false e =
-        let r = moves_in text at md h (eqb-false _ _ e) in
-        let s = spans_in text at md h in
-        ap (λ (l : List Token). token_in md text at ∷ l) (ih (token_in md text at).end r.1 (omega arith) (omega arith))
+enough text zero (suc k) md at h hj hk = grind (arith, nat_tests, moves_in text at md h, spans_in text at md h)
+enough text (suc j) zero md at h hj hk = grind (arith, nat_tests, moves_in text at md h, spans_in text at md h)
+enough text (suc j) (suc k) md at h hj hk = grind (arith, nat_tests, moves_in text at md h, spans_in text at md h, enough text j k (next md (token_in md text at).kind) (token_in md text at).end)
 
 pub none_left : (md : Mode) (text : List ℕ) (at : ℕ) → (token_in md text at).kind ≡ end_kind → tokens_from md text at ≡ []
 unfolding tokens_from tokens_in
-none_left md text at e = go (length text - at)
-  where
-    go : (k : ℕ) → tokens_in k md text at ≡ []
-    go zero = refl
-    go (suc k) = rw (eq-eqb _ _ e)
+none_left md text at e = grind (arith, nat_tests)
 
 pub one_more_lem : (md : Mode) (text : List ℕ) (at : ℕ) → at ≤ length text → ((token_in md text at).kind ≡ end_kind → ⊥)
     → tokens_from md text at ≡ token_in md text at ∷ tokens_from (next md (token_in md text at).kind) text (token_in md text at).end
@@ -220,20 +163,16 @@ unfolding tokens_from tokens_in
 one_more_lem md text at h ne =
     let r = moves_in text at md h ne in
     let s = spans_in text at md h in
-    enough text (length text - at) (suc (length text - at)) md at h (omega arith) (omega arith)
-    ∙ rw (ne_eqb (token_in md text at).kind end_kind ne)
-    (ap (λ (l : List Token). token_in md text at ∷ l) (enough text (length text - at) (length text - (token_in md text at).end) (next md (token_in md text at).kind) (token_in md text at).end r.1 (omega arith) (omega arith)))
+    grind (arith, nat_tests, enough text (length text - at) (suc (length text - at)) md at h, enough text (length text - at) (length text - (token_in md text at).end) (next md (token_in md text at).kind) (token_in md text at).end)
 
 rising_in : (k : ℕ) (md : Mode) (text : List ℕ) (at : ℕ) → at ≤ length text → Rising at (length text) (tokens_in k md text at)
 unfolding tokens_in
 rising_in zero md text at h = h
-rising_in (suc k) md text at h = go (eqb (token_in md text at).kind end_kind) refl (λ l. rising_in k (next md (token_in md text at).kind) text (token_in md text at).end l)
-  where
-    go : (t : Bool) → eqb (token_in md text at).kind end_kind ≡ t → ((token_in md text at).end ≤ length text → Rising (token_in md text at).end (length text) (tokens_in k (next md (token_in md text at).kind) text (token_in md text at).end))
-        → Rising at (length text) (cond t [] (token_in md text at ∷ tokens_in k (next md (token_in md text at).kind) text (token_in md text at).end))
-    go true e ih = h
-    go false e ih = let r = moves_in text at md h (eqb-false _ _ e) in let s = spans_in text at md h in (s.0, r.0, ih r.1)
+rising_in (suc k) md text at h = grind (arith, nat_tests, moves_in text at md h, spans_in text at md h, rising_in k (next md (token_in md text at).kind) text (token_in md text at).end)
 
 pub rising : (md : Mode) (text : List ℕ) (at : ℕ) → at ≤ length text → Rising at (length text) (tokens_from md text at)
 unfolding tokens_from
 rising md text at h = rising_in (length text - at) md text at h
+
+-- for the code, which reads two tokens
+pub ruleset clauses = (same_told, spans-of)

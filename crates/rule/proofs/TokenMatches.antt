@@ -1,4 +1,5 @@
 -- Marks take the longest match; a byte of a text lies in a token exactly where it is no blank. Assumes nothing.
+use Rattle.std.proofs.lemmas.Bool.Decides.{nat_tests}
 use mathlib.Core.Path.{◌≡◌, refl, ap, sym, subst, ◌∙◌}
 use mathlib.Core.Logic.{◌⊎◌, inl, inr, ◌↔◌}
 use mathlib.Core.Bool.{Bool, true, false, ◌&&◌, cond}
@@ -12,7 +13,7 @@ use lib.ListN.{length, take, drop, get_or, length-drop}
 use lib.Seq.{get_or-drop}
 use Rattle.numbers.proofs.Bools.{true-false}
 use Rattle.rule.specs.Class.{letter, digit, blank, mark, foreign, point, among, one_byte_marks, class_of, span}
-use Rattle.rule.specs.Token.{end_kind, number_kind, decimal_kind, foreign_kind, word_kind, two_byte_mark, one_byte_mark, longest_mark, mark_width, fraction_of, token_kind, width_of, past, token_here, token_at}
+use Rattle.rule.specs.Token.{end_kind, decimal_kind, foreign_kind, two_byte_mark, one_byte_mark, longest_mark, mark_width, fraction_of, token_kind, width_of, past, token_here, token_at}
 use Rattle.rule.specs.Token.{Mode, declares, next, takes_points, token_in, tokens_in, tokens_from, tokens}
 use Rattle.rule.specs.Token.{Quoted, of_one_byte, arrow, bars, ampersands, unequal, at_most, at_least, LongestMatch, in_quoted, in_none, OfToken}
 use Rattle.rule.specs.declared.Token.{Token}
@@ -27,12 +28,7 @@ abbrev Two : ℕ → ℕ → ℕ → Type 0
 Two b n k = (k ≡ 0) ⊎ (Quoted (b ∷ n ∷ []) k × (mark_width k ≡ 2))
 
 two-or : {x y k z : ℕ} (b n : ℕ) → Quoted (x ∷ y ∷ []) k → mark_width k ≡ 2 → Two b n z → Two b n (cond (eqb b x && eqb n y) k z)
-two-or {x} {y} {k} {z} b n q w r = go (eqb b x) refl (eqb n y) refl
-  where
-    go : (t : Bool) → eqb b x ≡ t → (u : Bool) → eqb n y ≡ u → Two b n (cond (t && u) k z)
-    go true e true f = inr (rw (eqb-true b x e, eqb-true n y f) (q, w))
-    go true e false f = r
-    go false e u f = r
+two-or {x} {y} {k} {z} b n q w r = grind (arith, nat_tests)
 
 two : (b n : ℕ) → Two b n (two_byte_mark b n)
 unfolding mark_width
@@ -67,7 +63,7 @@ begins-two b (c ∷ bs) e = (ap (λ (l : List ℕ). get_or l 0 0) e, ap (λ (l :
 
 module _ (b : ℕ) (bs : List ℕ) where
   as_two : {x y : ℕ} → mark_width (longest_mark x y) ≡ 2 → take 2 (b ∷ bs) ≡ x ∷ y ∷ [] → 2 ≤ mark_width (longest_mark b (get_or bs 0 0))
-  as_two w e = let r = begins-two b bs e in rw (r.0, r.1, w) (omega arith)
+  as_two w e = grind (arith, begins-two b bs e)
 
   longest : (m : List ℕ) (j : ℕ) → Quoted m j → take (length m) (b ∷ bs) ≡ m → length m ≤ mark_width (longest_mark b (get_or bs 0 0))
   unfolding longest_mark mark_width
@@ -81,7 +77,7 @@ module _ (b : ℕ) (bs : List ℕ) where
 
   -- where neither one byte nor two are a mark
   no_two : {x y : ℕ} → (two_byte_mark x y ≡ 0 → ⊥) → two_byte_mark b (get_or bs 0 0) ≡ 0 → take 2 (b ∷ bs) ≡ x ∷ y ∷ [] → ⊥
-  no_two {x} {y} n z e = let r = begins-two b bs e in n (subst (λ (c : ℕ). two_byte_mark c y ≡ 0) r.0 (subst (λ (c : ℕ). two_byte_mark b c ≡ 0) r.1 z))
+  no_two n z e = grind (arith, begins-two b bs e)
 
   none-begins : two_byte_mark b (get_or bs 0 0) ≡ 0 → among one_byte_marks b ≡ false → (m : List ℕ) (j : ℕ) → Quoted m j → take (length m) (b ∷ bs) ≡ m → ⊥
   none-begins z o m j (of_one_byte c h) e =
@@ -96,24 +92,24 @@ module _ (b : ℕ) (bs : List ℕ) where
 
   -- two bytes that are a mark stand there
   both_stand : {k : ℕ} → Quoted (b ∷ get_or bs 0 0 ∷ []) k → take 2 (b ∷ bs) ≡ b ∷ get_or bs 0 0 ∷ []
-  both_stand = go bs
+  both_stand {k} q = go bs q
     where
-      go : (l : List ℕ) {k : ℕ} → Quoted (b ∷ get_or l 0 0 ∷ []) k → take 2 (b ∷ l) ≡ b ∷ get_or l 0 0 ∷ []
+      go : (l : List ℕ) → Quoted (b ∷ get_or l 0 0 ∷ []) k → take 2 (b ∷ l) ≡ b ∷ get_or l 0 0 ∷ []
       go [] q = absurd (second-some q refl)
       go (c ∷ l) q = refl
 
   is-long : (two_byte_mark b (get_or bs 0 0) ≡ 0 → ⊥) → longest_mark b (get_or bs 0 0) ≡ two_byte_mark b (get_or bs 0 0)
   unfolding longest_mark
-  is-long n = rw (ne_eqb (two_byte_mark b (get_or bs 0 0)) 0 n)
+  is-long n = grind (arith, nat_tests)
 
   is-short : two_byte_mark b (get_or bs 0 0) ≡ 0 → longest_mark b (get_or bs 0 0) ≡ one_byte_mark b
   unfolding longest_mark
-  is-short z = rw (eq-eqb (two_byte_mark b (get_or bs 0 0)) 0 z)
+  is-short z = grind (arith, nat_tests)
 
   -- a mark of that width is not 0
   wide-some : {k : ℕ} → mark_width k ≡ 2 → k ≡ 0 → ⊥
   unfolding mark_width
-  wide-some {k} w z = let y : mark_width 0 ≡ 2 = subst (λ (x : ℕ). mark_width x ≡ 2) z w in omega arith
+  wide-some w z = grind arith
 
   matches : Matches (b ∷ bs) (longest_mark b (get_or bs 0 0)) (mark_width (longest_mark b (get_or bs 0 0)))
   matches = by_two (two b (get_or bs 0 0))
@@ -184,14 +180,7 @@ second_class at_least e = refl
 
 -- none of a token's bytes is a blank, where its first is none
 mark-second : (b : ℕ) (bs : List ℕ) (j : ℕ) → suc j < mark_width (longest_mark b (get_or bs 0 0)) → class_of (get_or bs j 0) ≡ mark
-mark-second b bs j h = by_two (two b (get_or bs 0 0))
-  where
-    by_two : Two b (get_or bs 0 0) (two_byte_mark b (get_or bs 0 0)) → class_of (get_or bs j 0) ≡ mark
-    by_two (inl z) = absurd (omega (arith, ap mark_width (is-short b bs z), one_width b))
-    by_two (inr (q, w)) =
-        let n : mark_width (longest_mark b (get_or bs 0 0)) ≤ 2 = (width_some (longest_mark b (get_or bs 0 0))).1 in
-        let i : j ≡ 0 = omega arith in
-        rw i (second_class q refl)
+mark-second b bs j h = grind (arith, two b (get_or bs 0 0), is-short b bs, one_width b, width_some (longest_mark b (get_or bs 0 0)), second_class)
 
 point-foreign : class_of point ≡ foreign
 unfolding class_of
@@ -200,27 +189,12 @@ point-foreign = refl
 -- nor of a point and digits after digits
 fraction-solid : (points : Bool) (bs : List ℕ) (j : ℕ) → span digit bs ≤ j → j < span digit bs + fraction_of points bs → class_of (get_or bs j 0) ≡ blank → ⊥
 fraction-solid false bs j k h c = omega arith
-fraction-solid true bs j k h c =
-    let n : span digit bs + (j - span digit bs) ≡ j = omega arith in
-    go (j - span digit bs) (drop (span digit bs) bs) (rw (get_or-drop, n)) (fraction_told (drop (span digit bs) bs) (j - span digit bs) (omega arith))
-  where
-    go : (i : ℕ) (l : List ℕ) → get_or l i 0 ≡ get_or bs j 0 → ((i ≡ 0) × (get_or l 0 0 ≡ point) × (class_of (get_or l 1 0) ≡ digit)) ⊎ ((0 < i) × (class_of (get_or l i 0) ≡ digit)) → ⊥
-    go i l e (inl (z, p, d)) =
-        let f : point ≡ get_or bs j 0 = sym p ∙ (rw z at e) in
-        omega (arith, sym point-foreign ∙ (ap class_of f ∙ c))
-    go i l e (inr (z, d)) = omega (arith, sym d ∙ (ap class_of e ∙ c))
+fraction-solid true bs j k h c = grind (arith, get_or-drop (span digit bs) bs (j - span digit bs) 0, get_or-drop (span digit bs) bs 0 0, fraction_told (drop (span digit bs) bs) (j - span digit bs), point-foreign)
 
 solid : (points : Bool) (b : ℕ) (bs : List ℕ) → (class_of b ≡ blank → ⊥) → (j : ℕ) → j < width_of points b bs → class_of (get_or (b ∷ bs) j 0) ≡ blank → ⊥
 unfolding width_of
 solid points b bs n zero h c = n c
-solid points b bs n (suc j) h c = go (eqb (class_of b) letter) (eqb (class_of b) digit) (eqb (class_of b) mark) (ltb j (span digit bs)) refl h
-  where
-    go : (t u v w : Bool) → ltb j (span digit bs) ≡ w → suc j < cond t (1 + span letter bs) (cond u (1 + span digit bs + fraction_of points bs) (cond v (mark_width (longest_mark b (get_or bs 0 0))) 1)) → ⊥
-    go true u v w e l = omega (arith, sym (span_class letter bs j (omega arith)) ∙ c)
-    go false true v true e l = omega (arith, sym (span_class digit bs j (ltb-true j (span digit bs) e)) ∙ c)
-    go false true v false e l = fraction-solid points bs j (ltb-false j (span digit bs) e) (omega arith) c
-    go false false true w e l = omega (arith, sym (mark-second b bs j l) ∙ c)
-    go false false false w e l = omega arith
+solid points b bs n (suc j) h c = grind (arith, nat_tests, span_class letter bs j, span_class digit bs j, fraction-solid points bs j, mark-second b bs j)
 
 solid-here : (points : Bool) (s : ℕ) (l : List ℕ) → (class_of (get_or l 0 0) ≡ blank → ⊥) → (j : ℕ) → s + j < (token_here points s l).end → class_of (get_or l j 0) ≡ blank → ⊥
 unfolding token_here
@@ -230,31 +204,18 @@ solid-here points s (b ∷ bs) n j h c = solid points b bs n j (omega arith) c
 -- ---- a point is in a decimal, or a token by itself that no rule has
 module _ (points : Bool) (b : ℕ) (bs : List ℕ) where
   first-other : (c : ℕ) → (c ≡ foreign → ⊥) → class_of b ≡ c → b ≡ point → ⊥
-  first-other c n e p = n (sym e ∙ (ap class_of p ∙ point-foreign))
+  first-other c n e p = grind (arith, point-foreign)
 
   later-other : (c j : ℕ) → (c ≡ foreign → ⊥) → class_of (get_or bs j 0) ≡ c → get_or bs j 0 ≡ point → ⊥
-  later-other c j n e p = n (sym e ∙ (ap class_of p ∙ point-foreign))
+  later-other c j n e p = grind (arith, point-foreign)
 
   abbrev Point : ℕ → ℕ → ℕ → Type 0
   Point k w j = ((k ≡ foreign_kind) × (j ≡ 0) × (w ≡ 1)) ⊎ (k ≡ decimal_kind)
 
   point_told : (j : ℕ) → j < width_of points b bs → get_or (b ∷ bs) j 0 ≡ point → Point (token_kind points b bs) (width_of points b bs) j
   unfolding token_kind width_of
-  point_told j = go (eqb (class_of b) letter) refl (eqb (class_of b) digit) refl (eqb (class_of b) mark) refl (eqb (fraction_of points bs) 0) refl j
-    where
-      go : (t : Bool) → eqb (class_of b) letter ≡ t → (u : Bool) → eqb (class_of b) digit ≡ u → (v : Bool) → eqb (class_of b) mark ≡ v → (w : Bool) → eqb (fraction_of points bs) 0 ≡ w → (i : ℕ)
-          → i < cond t (1 + span letter bs) (cond u (1 + span digit bs + fraction_of points bs) (cond v (mark_width (longest_mark b (get_or bs 0 0))) 1))
-          → get_or (b ∷ bs) i 0 ≡ point
-          → Point (cond t (word_kind (b ∷ take (span letter bs) bs)) (cond u (cond w number_kind decimal_kind) (cond v (longest_mark b (get_or bs 0 0)) foreign_kind)))
-          (cond t (1 + span letter bs) (cond u (1 + span digit bs + fraction_of points bs) (cond v (mark_width (longest_mark b (get_or bs 0 0))) 1))) i
-      go true e u f v g w h zero l p = absurd (first-other letter (λ z. omega arith) (eqb-true _ _ e) p)
-      go true e u f v g w h (suc i) l p = absurd (later-other letter i (λ z. omega arith) (span_class letter bs i (omega arith)) p)
-      go false e true f v g true h zero l p = absurd (first-other digit (λ z. omega arith) (eqb-true _ _ f) p)
-      go false e true f v g true h (suc i) l p = absurd (later-other digit i (λ z. omega arith) (span_class digit bs i (omega (arith, eqb-true (fraction_of points bs) 0 h))) p)
-      go false e true f v g false h i l p = inr refl
-      go false e false f true g w h zero l p = absurd (first-other mark (λ z. omega arith) (eqb-true _ _ g) p)
-      go false e false f true g w h (suc i) l p = absurd (later-other mark i (λ z. omega arith) (mark-second b bs i l) p)
-      go false e false f false g w h i l p = inl (refl, omega arith, refl)
+  point_told zero = grind (arith, nat_tests, first-other letter (λ z. omega arith), first-other digit (λ z. omega arith), first-other mark (λ z. omega arith))
+  point_told (suc j) = grind (arith, nat_tests, later-other letter j (λ z. omega arith), later-other digit j (λ z. omega arith), later-other mark j (λ z. omega arith), span_class letter bs j, span_class digit bs j, mark-second b bs j)
 
 point-here : (points : Bool) (s : ℕ) (l : List ℕ) (j : ℕ) → s + j < (token_here points s l).end → get_or l j 0 ≡ point
     → (((token_here points s l).kind ≡ foreign_kind) × (j ≡ 0) × ((token_here points s l).end ≡ s + 1)) ⊎ ((token_here points s l).kind ≡ decimal_kind)

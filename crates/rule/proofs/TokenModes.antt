@@ -1,18 +1,18 @@
 -- Laws of the modes: a token that is not the clause's word is the next one with points or without; without the clause the tokens
 -- are those of the condition without points; and each token of a text is the next one at some place and mode. Assumes nothing.
+use Rattle.std.proofs.lemmas.Bool.Decides.{nat_tests}
 use mathlib.Core.Path.{◌≡◌, refl, ap, sym, subst, ◌∙◌}
 use mathlib.Core.Bool.{Bool, true, false, cond}
 use mathlib.Core.List.{List, [], ◌∷◌, Memᴰ}
 use Prim.Native.Nat.{ℕ, zero, suc, ◌-◌, ◌≤◌}
 use native.Mathlib.Omega.{arith}
-use borrow.Author.Tests.{ne_eqb, eqb-true, eqb-false}
+use borrow.Author.Tests.{eqb-false}
 use lib.Dec.{eqb}
-use lib.ListN.{length, take, drop, get_or}
-use Rattle.rule.specs.Class.{semicolon, letter, digit, mark, class_of, span, OfClass}
-use Rattle.rule.specs.Token.{end_kind, number_kind, decimal_kind, scale_kind, foreign_kind, word_kind, longest_mark, fraction_of, token_kind, past, token_here, token_at, spelling, IsWord, DecimalsBehind}
+use lib.ListN.{length, drop}
+use Rattle.rule.specs.Class.{letter, digit, OfClass}
+use Rattle.rule.specs.Token.{end_kind, number_kind, decimal_kind, scale_kind, token_kind, past, token_here, token_at, spelling, IsWord, DecimalsBehind}
 use Rattle.rule.specs.Token.{Mode, declares, clause, body, next, takes_points, clause_at, as_scale, token_in, tokens_in, tokens_from, tokens}
 use Rattle.rule.specs.declared.Token.{Token}
-use Rattle.numbers.proofs.Bools.{true-false}
 use Rattle.rule.proofs.TokenMarks.{mark_high}
 use Rattle.rule.proofs.TokenLists.{word-is, none_left, one_more_lem, moves_in}
 use Rattle.rule.proofs.TokenRuns.{word-letters, number_digits, decimal-digits}
@@ -20,14 +20,7 @@ use Rattle.rule.proofs.TokenRuns.{word-letters, number_digits, decimal-digits}
 -- ---- kinds that only a mode gives
 kind-low : (points : Bool) (b : ℕ) (bs : List ℕ) → token_kind points b bs ≡ scale_kind → ⊥
 unfolding token_kind
-kind-low points b bs = go (eqb (class_of b) letter) (eqb (class_of b) digit) (eqb (class_of b) mark) (eqb (fraction_of points bs) 0)
-  where
-    go : (t u v w : Bool) → cond t (word_kind (b ∷ take (span letter bs) bs)) (cond u (cond w number_kind decimal_kind) (cond v (longest_mark b (get_or bs 0 0)) foreign_kind)) ≡ scale_kind → ⊥
-    go true u v w q = omega (arith, (word-is (b ∷ take (span letter bs) bs)).1)
-    go false true v true q = omega arith
-    go false true v false q = omega arith
-    go false false true w q = omega (arith, mark_high b (get_or bs 0 0))
-    go false false false w q = omega arith
+kind-low points b bs = grind (arith, nat_tests, word-is, mark_high)
 
 here-low : (points : Bool) (s : ℕ) (l : List ℕ) → (token_here points s l).kind ≡ scale_kind → ⊥
 unfolding token_here
@@ -41,14 +34,10 @@ never-scale points text at = here-low points (past text at) (drop (past text at)
 module _ (text : List ℕ) (at : ℕ) where
   -- a token that is not the clause's word
   pub plain : (md : Mode) → ((token_in md text at).kind ≡ scale_kind → ⊥) → token_in md text at ≡ token_at (takes_points md) text at
-  plain (declares zero) = go (clause_at text at)
-    where
-      go : (q : Bool) → ((cond q (as_scale (token_at false text at)) (token_at false text at)).kind ≡ scale_kind → ⊥) → cond q (as_scale (token_at false text at)) (token_at false text at) ≡ token_at false text at
-      go true n = absurd (n refl)
-      go false n = refl
-  plain (declares (suc n)) = λ ne. refl
-  plain clause = λ ne. refl
-  plain (body points) = λ ne. refl
+  plain (declares zero) ne = grind arith
+  plain (declares (suc n)) ne = refl
+  plain clause ne = refl
+  plain (body points) ne = refl
 
   -- without the clause
   pub clause-none : clause_at text at ≡ false → token_in (declares 0) text at ≡ token_at false text at
@@ -58,17 +47,7 @@ module _ (text : List ℕ) (at : ℕ) where
   clause-some e = rw e
 
   pub no_clause : at ≤ length text → clause_at text at ≡ false → tokens_from (declares 0) text at ≡ tokens_from (body false) text at
-  no_clause h e = go (eqb (token_at false text at).kind end_kind) refl
-    where
-      go : (q : Bool) → eqb (token_at false text at).kind end_kind ≡ q → tokens_from (declares 0) text at ≡ tokens_from (body false) text at
-      go true f =
-          none_left (declares 0) text at (ap (λ (t : Token). t.kind) (clause-none e) ∙ eqb-true _ _ f)
-          ∙ sym (none_left (body false) text at (eqb-true _ _ f))
-      go false f =
-          let n = eqb-false _ _ f in
-          let o = one_more_lem (declares 0) text at h (λ z. n (sym (ap (λ (t : Token). t.kind) (clause-none e)) ∙ z)) in
-          (rw (clause-none e, ne_eqb (token_at false text at).kind scale_kind (never-scale false text at)) at o)
-          ∙ sym (one_more_lem (body false) text at h n)
+  no_clause h e = grind (arith, nat_tests, none_left (declares 0) text at, none_left (body false) text at, one_more_lem (declares 0) text at h, one_more_lem (body false) text at h, never-scale false text at)
 
 -- ---- a token of a text is the next one from some place on, at some mode
 pub record Found (text : List ℕ) (t : Token) : Type 0 where
@@ -116,34 +95,23 @@ Early clause = ⊥
 Early (body points) = points ≡ false
 
 early-next : (md : Mode) (k : ℕ) → Early md → (k ≡ scale_kind → ⊥) → Early (next md k)
-early-next (declares zero) k e ne = rw (ne_eqb k scale_kind ne) refl
-early-next (declares (suc n)) k e ne = go (eqb k semicolon)
-  where
-    go : (q : Bool) → Early (cond q (declares n) (declares (suc n)))
-    go true = tt
-    go false = tt
+early-next (declares zero) k e ne = grind (arith, nat_tests)
+early-next (declares (suc n)) k e ne = grind arith
 early-next clause k e ne = absurd e
 early-next (body points) k e ne = e
 
 early-points : (md : Mode) → Early md → takes_points md ≡ true → ⊥
-early-points (declares n) e q = true-false (sym q)
+early-points (declares n) e q = grind arith
 early-points clause e q = absurd e
-early-points (body points) e q = true-false (sym q ∙ e)
+early-points (body points) e q = grind arith
 
 early-none : (text : List ℕ) (at : ℕ) (md : Mode) → Early md → (token_in md text at).kind ≡ decimal_kind → ⊥
-early-none text at md e q =
-    let p = plain text at md (λ z. omega arith) in
-    early-points md e (decimal-digits (takes_points md) text at (sym (ap (λ (t : Token). t.kind) p) ∙ q)).0
+early-none text at md e q = grind (arith, plain text at md, early-points md e, decimal-digits (takes_points md) text at)
 
 behind_in : (k : ℕ) (md : Mode) (text : List ℕ) (at : ℕ) → Early md → DecimalsBehind (tokens_in k md text at)
 unfolding tokens_in
 behind_in zero md text at e = tt
-behind_in (suc k) md text at e = go (eqb (token_in md text at).kind end_kind) (λ ne. behind_in k (next md (token_in md text at).kind) text (token_in md text at).end (early-next md (token_in md text at).kind e ne))
-  where
-    go : (q : Bool) → (((token_in md text at).kind ≡ scale_kind → ⊥) → DecimalsBehind (tokens_in k (next md (token_in md text at).kind) text (token_in md text at).end))
-        → DecimalsBehind (cond q [] (token_in md text at ∷ tokens_in k (next md (token_in md text at).kind) text (token_in md text at).end))
-    go true ih = tt
-    go false ih = (early-none text at md e, ih)
+behind_in (suc k) md text at e = grind (arith, early-none text at md e, early-next md (token_in md text at).kind e, behind_in k (next md (token_in md text at).kind) text (token_in md text at).end)
 
 pub decimals-behind : (text : List ℕ) → DecimalsBehind (tokens text)
 unfolding tokens_from
@@ -152,5 +120,5 @@ decimals-behind text = behind_in (length text - 0) (declares 2) text 0 tt
 -- so where none is the clause's word, none is a decimal
 pub no_decimals : (ts : List Token) → DecimalsBehind ts → ((t : Token) → Memᴰ t ts → t.kind ≡ scale_kind → ⊥) → (t : Token) → Memᴰ t ts → t.kind ≡ decimal_kind → ⊥
 no_decimals [] b n t m = elim m [ ]
-no_decimals (u ∷ us) b n t (Memᴰ.head f) = λ e. b.0 (sym (ap (λ (x : Token). x.kind) f) ∙ e)
+no_decimals (u ∷ us) b n t (Memᴰ.head f) = grind (arith, b.0)
 no_decimals (u ∷ us) b n t (Memᴰ.tail d) = no_decimals us (b.1 (n u (Memᴰ.head refl))) (λ x i. n x (Memᴰ.tail i)) t d

@@ -1,16 +1,16 @@
 -- A word is a run of letters and a number a run of digits, each as long as can be. Assumes nothing.
-use mathlib.Core.Path.{◌≡◌, refl, ap, sym, ◌∙◌}
-use mathlib.Core.Bool.{Bool, true, false, ◌&&◌, ◌||◌, cond}
+use Rattle.std.proofs.lemmas.Bool.Decides.{nat_tests}
+use mathlib.Core.Path.{◌≡◌, refl, ap, ◌∙◌}
+use mathlib.Core.Bool.{Bool, true, false, ◌&&◌, cond}
 use mathlib.Core.List.{List, [], ◌∷◌}
 use Prim.Native.Nat.{ℕ, suc, ◌+◌, ◌-◌, ◌≤◌, ◌<◌}
 use native.Mathlib.Nat.{add-zero}
 use native.Mathlib.Omega.{arith}
-use borrow.Author.Tests.{eq-eqb, ne_eqb, eqb-true, eqb-false, leb-true}
+use borrow.Author.Tests.{eqb-true, leb-true}
 use lib.Dec.{eqb, leb}
 use lib.ListN.{length, take, drop, get_or, length-take, length-drop}
 use lib.Seq.{take-add, get_or-drop}
-use Rattle.numbers.specs.Range.{between}
-use Rattle.rule.specs.Class.{letter, digit, blank, mark, foreign, point, is_mark_byte, class_of, span, OfClass, Letters}
+use Rattle.rule.specs.Class.{letter, digit, blank, mark, foreign, point, class_of, span, OfClass, Letters}
 use Rattle.rule.specs.Token.{number_kind, decimal_kind, foreign_kind, word_kind, longest_mark, fraction, fraction_of, token_kind, width_of, past, token_here, token_at, spelling, IsWord, PointBetween}
 use Rattle.rule.proofs.TokenSpans.{span_le, span-stops}
 use Rattle.rule.proofs.TokenFractions.{fraction-stops, fraction-none}
@@ -20,11 +20,7 @@ use Rattle.rule.proofs.TokenLists.{word-is, here}
 run_class : (c : ℕ) (bs : List ℕ) → OfClass c (take (span c bs) bs)
 unfolding span
 run_class c [] = tt
-run_class c (b ∷ bs) = go (eqb (class_of b) c) refl (run_class c bs)
-  where
-    go : (t : Bool) → eqb (class_of b) c ≡ t → OfClass c (take (span c bs) bs) → OfClass c (take (cond t (suc (span c bs)) 0) (b ∷ bs))
-    go true e ih = (eqb-true _ _ e, ih)
-    go false e ih = tt
+run_class c (b ∷ bs) = grind (arith, nat_tests, run_class c bs)
 
 -- ---- the kind of a token tells the class of its first byte
 module _ (points : Bool) (b : ℕ) (bs : List ℕ) where
@@ -33,50 +29,29 @@ module _ (points : Bool) (b : ℕ) (bs : List ℕ) where
 
   word_class : IsWord (token_kind points b bs) → class_of b ≡ letter
   unfolding token_kind
-  word_class = go (eqb (class_of b) letter) refl (eqb (class_of b) digit) (eqb (class_of b) mark) (eqb (fraction_of points bs) 0)
-    where
-      go : (t : Bool) → eqb (class_of b) letter ≡ t → (u v w : Bool) → IsWord (kind t u v w) → class_of b ≡ letter
-      go true e u v w i = eqb-true _ _ e
-      go false e true v true i = absurd (i.2 refl)
-      go false e true v false i = absurd (omega (arith, i.1))
-      go false e false true w i = absurd (omega (arith, mark_high b (get_or bs 0 0), i.1))
-      go false e false false w i = absurd (omega (arith, i.1))
+  word_class = grind (arith, nat_tests, word-is, mark_high)
 
   -- a number has no fraction
   number_class : token_kind points b bs ≡ number_kind → (class_of b ≡ digit) × (fraction_of points bs ≡ 0)
   unfolding token_kind
-  number_class = go (eqb (class_of b) letter) (eqb (class_of b) digit) refl (eqb (class_of b) mark) (eqb (fraction_of points bs) 0) refl
-    where
-      go : (t u : Bool) → eqb (class_of b) digit ≡ u → (v w : Bool) → eqb (fraction_of points bs) 0 ≡ w → kind t u v w ≡ number_kind → (class_of b ≡ digit) × (fraction_of points bs ≡ 0)
-      go true u e v w f q = absurd ((word-is (b ∷ take (span letter bs) bs)).2 q)
-      go false true e v true f q = (eqb-true _ _ e, eqb-true _ _ f)
-      go false true e v false f q = absurd (omega arith)
-      go false false e true w f q = absurd (omega (arith, mark_high b (get_or bs 0 0)))
-      go false false e false w f q = absurd (omega arith)
+  number_class = grind (arith, nat_tests, word-is, mark_high)
 
   -- a decimal has one
   decimal_class : token_kind points b bs ≡ decimal_kind → (class_of b ≡ digit) × (fraction_of points bs ≡ 0 → ⊥)
   unfolding token_kind
-  decimal_class = go (eqb (class_of b) letter) (eqb (class_of b) digit) refl (eqb (class_of b) mark) (eqb (fraction_of points bs) 0) refl
-    where
-      go : (t u : Bool) → eqb (class_of b) digit ≡ u → (v w : Bool) → eqb (fraction_of points bs) 0 ≡ w → kind t u v w ≡ decimal_kind → (class_of b ≡ digit) × (fraction_of points bs ≡ 0 → ⊥)
-      go true u e v w f q = absurd (omega (arith, (word-is (b ∷ take (span letter bs) bs)).1))
-      go false true e v true f q = absurd (omega arith)
-      go false true e v false f q = (eqb-true _ _ e, eqb-false _ _ f)
-      go false false e true w f q = absurd (omega (arith, mark_high b (get_or bs 0 0)))
-      go false false e false w f q = absurd (omega arith)
+  decimal_class = grind (arith, nat_tests, word-is, mark_high)
 
   -- ---- and that of its width
   word_width : class_of b ≡ letter → width_of points b bs ≡ suc (span letter bs)
   unfolding width_of
-  word_width q = rw (eq-eqb (class_of b) letter q) (omega arith)
+  word_width q = grind (arith, nat_tests)
 
   digits-width : class_of b ≡ digit → width_of points b bs ≡ suc (span digit bs + fraction_of points bs)
   unfolding width_of
-  digits-width q = rw (ne_eqb (class_of b) letter (λ p. omega (arith, sym p ∙ q)), eq-eqb (class_of b) digit q) (omega arith)
+  digits-width q = grind (arith, nat_tests)
 
   number-width : token_kind points b bs ≡ number_kind → width_of points b bs ≡ suc (span digit bs)
-  number-width e = let r = number_class e in omega (arith, digits-width r.0)
+  number-width e = grind (arith, number_class e, digits-width)
 
 -- ---- a token that begins with a byte of the class c, and has the bytes of its run
 module _ (points : Bool) (c b : ℕ) (bs : List ℕ) (first : class_of b ≡ c) (wide : width_of points b bs ≡ suc (span c bs)) where
@@ -128,17 +103,13 @@ fraction-spelt (b ∷ bs) ne = go (eqb b point) refl (leb 1 (span digit bs)) ref
 
 module _ (points : Bool) (b : ℕ) (bs : List ℕ) (k : token_kind points b bs ≡ decimal_kind) where
   decimal-points : points ≡ true
-  decimal-points = go points (decimal_class points b bs k).1
-    where
-      go : (q : Bool) → (fraction_of q bs ≡ 0 → ⊥) → q ≡ true
-      go true n = refl
-      go false n = absurd (n refl)
+  decimal-points = grind (arith, decimal_class points b bs k)
 
   decimal-width : width_of points b bs ≡ suc (span digit bs + fraction (drop (span digit bs) bs))
-  decimal-width = digits-width points b bs (decimal_class points b bs k).0 ∙ rw decimal-points
+  decimal-width = grind (arith, digits-width points b bs, decimal_class points b bs k, decimal-points)
 
   decimal-fraction : fraction (drop (span digit bs) bs) ≡ 0 → ⊥
-  decimal-fraction = rw decimal-points at (decimal_class points b bs k).1
+  decimal-fraction = grind (arith, decimal_class points b bs k, decimal-points)
 
   decimal-all : (s : ℕ) → PointBetween (take (s + width_of points b bs - s) (b ∷ bs))
   decimal-all s =
@@ -252,12 +223,7 @@ other false false false q = omega arith
 
 letter-byte : (b : ℕ) → class_of b ≡ letter → (97 ≤ b) × (b ≤ 122)
 unfolding class_of
-letter-byte b = go (leb 97 b) refl (leb b 122) refl (between 48 57 b) (eqb b 32 || eqb b 10) (is_mark_byte b)
-  where
-    go : (t : Bool) → leb 97 b ≡ t → (u : Bool) → leb b 122 ≡ u → (v w x : Bool) → cond (t && u) letter (cond v digit (cond w blank (cond x mark foreign))) ≡ letter → (97 ≤ b) × (b ≤ 122)
-    go true e true f v w x q = (leb-true 97 b e, leb-true b 122 f)
-    go true e false f v w x q = absurd (other v w x q)
-    go false e u f v w x q = absurd (other v w x q)
+letter-byte b q = grind (arith, nat_tests)
 
 pub letters : (bs : List ℕ) → OfClass letter bs → Letters bs
 letters [] l = tt

@@ -1,71 +1,83 @@
 -- Laws of `same`: two words are the same exactly if they are one list. Assumes nothing.
-use mathlib.Core.Path.{◌≡◌, refl, ap, ap₂}
+use mathlib.Core.Path.{◌≡◌, refl}
 use mathlib.Core.Logic.{◌↔◌}
-use mathlib.Core.Bool.{Bool, true, false, ◌&&◌, cond}
+use mathlib.Core.Bool.{Bool, true, ◌&&◌, cond}
 use mathlib.Core.List.{List, [], ◌∷◌}
-use Prim.Native.Nat.{ℕ, suc, ◌+◌, ◌≤◌, ◌<◌}
-use native.Mathlib.Numerals.{add-one}
+use Prim.Native.Nat.{ℕ, suc}
 use native.Mathlib.Omega.{arith}
-use borrow.Author.Tests.{eq-eqb, ne_eqb, eqb-true}
+use borrow.Author.Tests.{ne_eqb}
 use lib.Dec.{eqb}
-use lib.ListN.{length, drop, get_or, drop_of_length-le}
-use lib.Seq.{drop-cons}
+use lib.ListN.{length, get_or}
+use Rattle.std.proofs.Common.{rules, Decides}
+use Rattle.std.specs.Cmp.Lexicographic.{pointwise}
+use Rattle.std.proofs.lemmas.Slice.Eq.{compares_Decides}
+use Rattle.std.proofs.Math.Dec.{eqb-suc-suc, eqb-suc-zero, eqb-zero-suc}
+use Rattle.std.proofs.lemmas.Bool.Decides.{nat_tests}
 use Rattle.rule.specs.Token.{name_kind, events_kind, notes_kind, index_kind, abs_kind, events_word, notes_word, index_word, abs_word, same, word_kind}
 
--- words of two lengths differ
-pub same-longer : (a b : List ℕ) → (length a ≡ length b → ⊥) → same a b ≡ false
+-- the bytes of p stand in w, from index i on
+abbrev pub reads : List ℕ → ℕ → List ℕ → Bool
+reads w i [] = true
+reads w i (c ∷ p) = eqb (get_or w i 0) c && reads w (suc i) p
+
+reads-cons : (x : ℕ) (w : List ℕ) (i : ℕ) (p : List ℕ) → reads (x ∷ w) (suc i) p ≡ reads w i p
+reads-cons x w i [] = refl
+reads-cons x w i (c ∷ p) = rw (reads-cons x w (suc i) p)
+
+-- two words are the same exactly if they have one length, and the bytes of one stand in the other
+pub same_reads : (w p : List ℕ) → same w p ≡ (eqb (length w) (length p) && reads w 0 p)
 unfolding same
-same-longer [] [] ne = absurd (ne refl)
-same-longer [] (y ∷ ys) ne = refl
-same-longer (x ∷ xs) [] ne = refl
-same-longer (x ∷ xs) (y ∷ ys) ne = go (eqb x y) (same-longer xs ys (λ e. ne (ap suc e)))
-  where
-    go : (t : Bool) → same xs ys ≡ false → (t && same xs ys) ≡ false
-    go true e = e
-    go false e = refl
+same_reads [] [] = refl
+same_reads [] (c ∷ p) = rw (eqb-zero-suc (length p))
+same_reads (x ∷ w) [] = rw (eqb-suc-zero (length w))
+same_reads (x ∷ w) (c ∷ p) = rw (eqb-suc-suc (length w) (length p), reads-cons x w 0 p) (grind (arith, same_reads w p))
 
-module _ (a b : List ℕ) (i : ℕ) where
-  -- past the ends nothing differs
-  pub same_end : length a ≤ i → length b ≤ i → same (drop i a) (drop i b) ≡ true
-  unfolding same
-  same_end h k = rw (drop_of_length-le a h, drop_of_length-le b k)
+-- `==` on slices tells the same
+pub same_told : (a b : List ℕ) → same a b ≡ pointwise eqb a b
+unfolding same
+same_told [] [] = refl
+same_told [] (y ∷ ys) = refl
+same_told (x ∷ xs) [] = refl
+same_told (x ∷ xs) (y ∷ ys) = rw (same_told xs ys)
 
-  module _ (h : i < length a) (k : i < length b) where
-    pub same_more : get_or a i 0 ≡ get_or b i 0 → same (drop i a) (drop i b) ≡ same (drop (i + 1) a) (drop (i + 1) b)
-    unfolding same
-    same_more e = rw (add-one, drop-cons a i 0, drop-cons b i 0, eq-eqb _ _ e)
-
-    pub same-differ : (get_or a i 0 ≡ get_or b i 0 → ⊥) → same (drop i a) (drop i b) ≡ false
-    unfolding same
-    same-differ ne = rw (drop-cons a i 0, drop-cons b i 0, ne_eqb _ _ ne)
+same_decides : (a b : List ℕ) → Decides (same a b) (a ≡ b)
+unfolding same
+same_decides = compares_Decides same (search rules)
 
 pub same_refl : (a : List ℕ) → same a a ≡ true
-unfolding same
-same_refl [] = refl
-same_refl (x ∷ xs) = rw (eq-eqb x x refl, same_refl xs)
+same_refl a = (same_decides a a).1 refl
 
 pub same_eq : (a b : List ℕ) → same a b ≡ true → a ≡ b
-unfolding same
-same_eq [] [] e = refl
-same_eq [] (y ∷ ys) e = absurd (let z : ◌≡◌ {A = ℕ} 0 1 = cc in omega arith)
-same_eq (x ∷ xs) [] e = absurd (let z : ◌≡◌ {A = ℕ} 0 1 = cc in omega arith)
-same_eq (x ∷ xs) (y ∷ ys) e = go (eqb x y) refl (λ q. same_eq xs ys q) e
-  where
-    go : (t : Bool) → eqb x y ≡ t → (same xs ys ≡ true → xs ≡ ys) → (t && same xs ys) ≡ true → x ∷ xs ≡ y ∷ ys
-    go true q ih p = ap₂ (λ (h : ℕ) (t : List ℕ). h ∷ t) (eqb-true x y q) (ih p)
-    go false q ih p = absurd (let z : ◌≡◌ {A = ℕ} 0 1 = cc in omega arith)
+same_eq a b = (same_decides a b).0
 
 -- ---- the reserved words
+
+-- by its length a word can be one of them at most
+pub kind_of_one : (w : List ℕ) → length w ≡ 1 → word_kind w ≡ cond (reads w 0 index_word) index_kind name_kind
+unfolding word_kind
+kind_of_one w h = rw (same_reads w events_word, same_reads w notes_word, same_reads w index_word, same_reads w abs_word, h)
+
+pub kind_of_three : (w : List ℕ) → length w ≡ 3 → word_kind w ≡ cond (reads w 0 abs_word) abs_kind name_kind
+unfolding word_kind
+kind_of_three w h = rw (same_reads w events_word, same_reads w notes_word, same_reads w index_word, same_reads w abs_word, h)
+
+pub kind_of_five : (w : List ℕ) → length w ≡ 5 → word_kind w ≡ cond (reads w 0 notes_word) notes_kind name_kind
+unfolding word_kind
+kind_of_five w h = rw (same_reads w events_word, same_reads w notes_word, same_reads w index_word, same_reads w abs_word, h)
+
+pub kind_of_six : (w : List ℕ) → length w ≡ 6 → word_kind w ≡ cond (reads w 0 events_word) events_kind name_kind
+unfolding word_kind
+kind_of_six w h = rw (same_reads w events_word, same_reads w notes_word, same_reads w index_word, same_reads w abs_word, h)
+
+pub kind_of_other : (w : List ℕ) → (length w ≡ 6 → ⊥) → (length w ≡ 5 → ⊥) → (length w ≡ 1 → ⊥) → (length w ≡ 3 → ⊥) → word_kind w ≡ name_kind
+unfolding word_kind
+kind_of_other w a b c d = rw (same_reads w events_word, same_reads w notes_word, same_reads w index_word, same_reads w abs_word, ne_eqb _ 6 a, ne_eqb _ 5 b, ne_eqb _ 1 c, ne_eqb _ 3 d)
 
 abbrev kind : Bool → Bool → Bool → Bool → ℕ
 kind a b c d = cond a events_kind (cond b notes_kind (cond c index_kind (cond d abs_kind name_kind)))
 
 kind_tells : (a b c d : Bool) → (kind a b c d ≡ events_kind → a ≡ true) × (kind a b c d ≡ notes_kind → b ≡ true) × (kind a b c d ≡ index_kind → c ≡ true) × (kind a b c d ≡ abs_kind → d ≡ true)
-kind_tells true b c d = (λ e. refl, λ e. absurd (omega arith), λ e. absurd (omega arith), λ e. absurd (omega arith))
-kind_tells false true c d = (λ e. absurd (omega arith), λ e. refl, λ e. absurd (omega arith), λ e. absurd (omega arith))
-kind_tells false false true d = (λ e. absurd (omega arith), λ e. absurd (omega arith), λ e. refl, λ e. absurd (omega arith))
-kind_tells false false false true = (λ e. absurd (omega arith), λ e. absurd (omega arith), λ e. absurd (omega arith), λ e. refl)
-kind_tells false false false false = (λ e. absurd (omega arith), λ e. absurd (omega arith), λ e. absurd (omega arith), λ e. absurd (omega arith))
+kind_tells a b c d = (grind arith, grind arith, grind arith, grind arith)
 
 -- each has its own kind, and no other word has it
 pub reserved : (w : List ℕ) → ((word_kind w ≡ events_kind) ↔ (w ≡ events_word)) × ((word_kind w ≡ notes_kind) ↔ (w ≡ notes_word)) × ((word_kind w ≡ index_kind) ↔ (w ≡ index_word)) × ((word_kind w ≡ abs_kind) ↔ (w ≡ abs_word))
@@ -77,3 +89,6 @@ reserved w =
       (λ e. same_eq w index_word (t.2 e), λ e. rw e),
       (λ e. same_eq w abs_word (t.3 e), λ e. rw e),
     )
+
+-- for the code, which matches the word
+pub ruleset word_kinds = (kind_of_one, kind_of_three, kind_of_five, kind_of_six, kind_of_other, nat_tests)

@@ -13,6 +13,7 @@ pub mod Measure
 pub mod Spelling
 pub mod Tree
 pub mod Meaning
+pub mod Refusal
 pub mod CheckTold
 pub mod ReadTold
 pub mod Opening
@@ -27,6 +28,7 @@ pub mod References
 pub mod Order
 pub mod Sizes
 pub mod Stack
+pub mod Magnitudes
 pub mod Build
 pub mod Check
 pub mod Reading

@@ -1,6 +1,6 @@
 -- What the reader remembers, and what each act does to it. A place is kept plus 1, 0 for none. Assumes nothing: definitions.
 use Rattle.std.specs.Prelude.{ℕ, zero, suc, ◌+◌, ◌-◌, ◌*◌, ◌/◌, ◌%◌, min, Bool, true, false, cond, List, []}
-use Rattle.std.specs.Prelude.{◌∷◌, ◌++◌, length, get_or, set, ltb, leb, eqb}
+use Rattle.std.specs.Prelude.{◌∷◌, ◌++◌, length, get_or, set, ltb, leb, eqb, Option, Some, None}
 use Rattle.rule.specs.Limits.{event_limit, note_limit, frame_limit, frame_bytes, decimal_limit}
 use Rattle.rule.specs.ReadLimits.{depth_limit}
 use Rattle.rule.specs.Frames.{Source, Kind, kind_byte, scale_byte}
@@ -21,7 +21,7 @@ use Rattle.rule.specs.declared.parts.Multiple.TheVariants.{Once, Times}
 use Rattle.rule.specs.declared.parts.Shift.{Shift}
 use Rattle.rule.specs.declared.parts.Shift.TheVariants.{Unshifted, By}
 use Rattle.rule.specs.declared.memory.Registers.{Registers}
-use Rattle.rule.specs.declared.memory.Fields.{Fields}
+use Rattle.rule.specs.declared.memory.RawFrame.{RawFrame}
 
 -- frames so far, at most 65; whether a depth was over 16; the first bad number, the first of too many decimals and the first bad
 -- name; the names declared; the bytes
@@ -104,7 +104,7 @@ negated v = (4294967296 - v) % 4294967296
 
 -- the fields of a frame put at its place among 64 frames: 0 kind, 1 event or decimals, 2 note, 3 factor, 4 to 7 the word,
 -- big-endian
-unfoldable pub put : List ℕ → ℕ → Fields → List ℕ
+unfoldable pub put : List ℕ → ℕ → RawFrame → List ℕ
 put b k f =
     cond (ltb k frame_limit)
     (set (set (set (set (set (set (set (set b
@@ -119,7 +119,7 @@ put b k f =
     b
 
 -- a frame is counted, up to 65, and put
-abbrev pub with_frame : Fields → Mem → Mem
+abbrev pub with_frame : RawFrame → Mem → Mem
 with_frame f m =
     record {
       count = cond (ltb m.count frame_limit) (m.count + 1) (suc frame_limit);
@@ -145,7 +145,7 @@ module _ (code value decimals : Place → ℕ) where
   offset_of (By Minus p) = negated (value p)
 
   -- the fields of a frame, with E the declared events and N the notes
-  abbrev pub fields : List ℕ → List ℕ → Draft → Fields
+  abbrev pub fields : List ℕ → List ℕ → Draft → RawFrame
   fields E N (head p) = record { kind = scale_byte; event = value p % 256; note = 0; factor = 0; word = 0 }
   fields E N (lit p) =
       record {
@@ -243,15 +243,20 @@ unfoldable pub listed : List ℕ → ℕ → ℕ → List ℕ
 listed tb from zero = []
 listed tb from (suc n) = get_or tb from 0 ∷ listed tb (suc from) n
 
+-- a first place as a memory keeps it: plus 1, 0 for none
+abbrev pub spot : Option ℕ → ℕ
+spot None = 0
+spot (Some at) = at + 1
+
 -- the memory that the registers t, the table tb and the buffer b are
 unfoldable pub mem : Registers → List ℕ → List ℕ → Mem
 mem t tb b =
     record {
       count = t.count;
       deep = t.deep;
-      number = t.number;
-      decimals = t.decimals;
-      name = t.name;
+      number = spot t.number;
+      decimals = spot t.decimals;
+      name = spot t.name;
       events = listed tb 0 (min event_limit t.events);
       notes = listed tb event_limit (min note_limit t.notes);
       bytes = b;

@@ -1,19 +1,19 @@
 -- What `read` answers to a text, and what the lent buffer holds then: refusals 1 to 5, 18 and 6 to 8 in this order.
 -- From document 01, "From rule text to frames" and "What is turned down", and document 02, point 1. Assumes nothing: definitions.
-use Rattle.std.specs.Prelude.{ℕ, ◌*◌, false, cond, List, ltb, eqb, length, take, replicate}
+use Rattle.std.specs.Prelude.{ℕ, ◌*◌, cond, List, ltb, eqb, length, take, replicate, Result, Ok, Err}
 use Rattle.rule.specs.Limits.{frame_bytes, buffer_bytes}
 use Rattle.rule.specs.ReadLimits.{text_limit}
 use Rattle.rule.specs.Token.{tokens}
 use Rattle.rule.specs.Machine.{start, MachineAnswer, accepted, refused, run}
-use Rattle.rule.specs.Memory.{Mem, fresh, memory_answer, acts, mem}
+use Rattle.rule.specs.Memory.{Mem, fresh, memory_answer, acts}
 use Rattle.rule.specs.Check.{checked_of}
 use Rattle.rule.specs.CheckTold.{CheckAnswer}
 use Rattle.rule.specs.CheckTold as checking
 use Rattle.rule.specs.ReadTold.{ReadAnswer}
 use Rattle.rule.specs.ReadTold as reading
-use Rattle.rule.specs.declared.memory.Registers.{Registers}
-use Rattle.rule.specs.declared.memory.Step.{Step}
-use Rattle.rule.specs.declared.memory.Step.TheVariants.{Go, No}
+use Rattle.rule.specs.ReadsPart.{remembered}
+use Rattle.rule.specs.declared.text.Unexpected.{Unexpected}
+use Rattle.rule.specs.declared.text.Reader.{Reader}
 
 -- the machine's answer to the whole text, with all bytes zero at first
 unfoldable pub judged : List ℕ → MachineAnswer Mem
@@ -45,11 +45,7 @@ read_of text b =
     (reading.refused 1 0, b)
 
 -- ---- for the code's own contracts
--- the registers at first
-abbrev pub unread : Registers
-unread = record { count = 0; deep = false; number = 0; decimals = 0; name = 0; events = 0; notes = 0 }
-
--- what the reader of a whole text answered, with the names tb and the buffer b
-abbrev pub reader_answer : Step → List ℕ → List ℕ → MachineAnswer Mem
-reader_answer (Go a t) tb b = accepted (mem t tb b)
-reader_answer (No p) tb b = refused p
+-- what the reader of a whole text answered, and left
+abbrev pub reader_answer : Reader → Result Unit Unexpected → MachineAnswer Mem
+reader_answer x (Ok u) = accepted (remembered x)
+reader_answer x (Err e) = refused e.at

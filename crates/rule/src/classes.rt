@@ -2,6 +2,7 @@
 ghost use Rattle.std.specs.Prelude.{◌≡◌};
 ghost use Rattle.rule.specs.Class.{class_of};
 
+// Numbers, no enum: document 01 says that the class comes from a constant table of 256 numbers.
 pub const LETTER: u8 = 1;
 
 pub const DIGIT: u8 = 2;

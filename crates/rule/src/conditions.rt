@@ -1,265 +1,140 @@
-// Readers of conditions: cond, disj, conj and unit. Each takes its part off the stack of specs/Machine.
-ghost use Rattle.std.specs.Prelude.{◌≡◌, ◌∷◌, ◌+◌, ◌≤◌, length};
+// Readers of conditions: cond, disj, conj and unit. Each takes its part off the stack of specs/Machine. `ors` and `ands`, as `muls`
+// of sums.rt, stay a function each: each is of one symbol there, and document 01 names the readers that call each other.
+ghost use Rattle.std.specs.Prelude.{◌≡◌, ◌∷◌};
 ghost use Rattle.rule.specs.Class.{close_brace};
-ghost use Rattle.rule.specs.Token.{body};
 ghost use Rattle.rule.specs.Machine.{want, rel, unit, ands, ors, arrow, conj, sum, condition};
-ghost use Rattle.rule.specs.Memory.{mem};
-ghost use Rattle.rule.specs.ReadsPart.{rel_byte, ReadsPart};
+ghost use Rattle.rule.specs.ReadsPart.{rel_byte, Takes};
 
-use crate::emit::emit_kind;
-use crate::expect::expect;
 use crate::kinds;
-use crate::memory::{Registers, Step, deeper, entered};
-use crate::sums::sum;
+use crate::text::{Reader, Unexpected};
 use crate::tokens::{
-    AMPERSANDS_KIND, ARROW_KIND, AT_LEAST_KIND, AT_MOST_KIND, BARS_KIND, UNEQUAL_KIND, token_at,
+    AMPERSANDS_KIND, ARROW_KIND, AT_LEAST_KIND, AT_MOST_KIND, BARS_KIND, UNEQUAL_KIND,
 };
 
-// The kind of frame of a relation, 0 of any other token.
-fn rel_kind(k: u8) -> u8
+// The kind of frame of a relation.
+#[tactic(auto, unfolding(crate::specs::ReadsPart::rel_byte))]
+fn rel_kind(k: u8) -> Option<u8>
     ensures { result ≡ rel_byte k }
 {
-    if k == b'=' {
-        return kinds::EQUAL_BYTE;
-    }
-    if k == UNEQUAL_KIND {
-        return kinds::UNEQUAL_BYTE;
-    }
-    if k == b'<' {
-        return kinds::LESS_BYTE;
-    }
-    if k == AT_MOST_KIND {
-        return kinds::AT_MOST_BYTE;
-    }
-    if k == b'>' {
-        return kinds::MORE_BYTE;
-    }
-    if k == AT_LEAST_KIND {
-        kinds::AT_LEAST_BYTE
-    } else {
-        0
+    match k {
+        b'=' => Some(kinds::EQUAL_BYTE),
+        UNEQUAL_KIND => Some(kinds::UNEQUAL_BYTE),
+        b'<' => Some(kinds::LESS_BYTE),
+        AT_MOST_KIND => Some(kinds::AT_MOST_BYTE),
+        b'>' => Some(kinds::MORE_BYTE),
+        AT_LEAST_KIND => Some(kinds::AT_LEAST_BYTE),
+        _ => None,
     }
 }
 
-// rel sum, and the frame of the relation.
-fn compare(
-    text: &[u8],
-    names: &[u64; 12],
-    at: usize,
-    d: usize,
-    m: Registers,
-    buf: &mut [u8; 512],
-    points: bool,
-) -> Step
-    requires { at ≤ length text.now }
-    ensures { ReadsPart (body points) (body points) (λ s. rel d ∷ s) text.now at (at + 1)
-        (mem m names.now buf.old) result names.now buf.new }
-{
-    let t = token_at(text, at, points);
-    let kind = rel_kind(t.kind);
-    if kind == 0 {
-        return Step::No(t.start);
+impl<'a> Reader<'a> {
+    // rel sum, and the frame of the relation.
+    fn compare(&mut self, d: usize) -> Result<(), Unexpected>
+        ensures { Takes 1 (λ s. rel d ∷ s) self.old self.new result }
+    {
+        let t = self.take();
+        let Some(kind) = rel_kind(t.kind) else {
+            return Err(Unexpected::from(t));
+        };
+        self.sum(d)?;
+        self.emit_kind(kind);
+        Ok(())
     }
-    match sum(text, names, t.end, d, m, buf, points) {
-        Step::No(q) => Step::No(q),
-        Step::Go(a, n) => Step::Go(a, emit_kind(buf, n, kind)),
-    }
-}
 
-// sum rel sum
-fn relation(
-    text: &[u8],
-    names: &[u64; 12],
-    at: usize,
-    d: usize,
-    m: Registers,
-    buf: &mut [u8; 512],
-    points: bool,
-) -> Step
-    requires { at ≤ length text.now }
-    ensures { ReadsPart (body points) (body points) (λ s. sum d (rel d ∷ s)) text.now at (at + 1)
-        (mem m names.now buf.old) result names.now buf.new }
-{
-    match sum(text, names, at, d, m, buf, points) {
-        Step::No(q) => Step::No(q),
-        Step::Go(a, n) => compare(text, names, a, d, n, buf, points),
+    // sum rel sum
+    fn relation(&mut self, d: usize) -> Result<(), Unexpected>
+        ensures { Takes 1 (λ s. sum d (rel d ∷ s)) self.old self.new result }
+    {
+        self.sum(d)?;
+        self.compare(d)
     }
-}
 
-// cond "}", the rest of a group.
-#[cycle(ands_arrow_braces_condition_conj_ors_unit)]
-fn braces(
-    text: &[u8],
-    names: &[u64; 12],
-    at: usize,
-    d: usize,
-    m: Registers,
-    buf: &mut [u8; 512],
-    points: bool,
-) -> Step
-    requires { at ≤ length text.now }
-    ensures { ReadsPart (body points) (body points) (λ s. condition d (want close_brace ∷ s))
-        text.now at (at + 1)
-        (mem m names.now buf.old) result names.now buf.new }
-{
-    match condition(text, names, at, d, m, buf, points) {
-        Step::No(q) => Step::No(q),
-        Step::Go(a, n) => expect(text, a, n, b'}', points),
+    // cond "}", the rest of a group.
+    #[cycle(ands_arrow_braces_condition_conj_ors_unit)]
+    fn braces(&mut self, d: usize) -> Result<(), Unexpected>
+        ensures { Takes 1 (λ s. condition d (want close_brace ∷ s)) self.old self.new result }
+    {
+        self.condition(d)?;
+        self.expect(b'}')
     }
-}
 
-// cond: disj ["->" cond]; disj: conj {"||" conj}
-#[cycle(ands_arrow_braces_condition_conj_ors_unit)]
-pub fn condition(
-    text: &[u8],
-    names: &[u64; 12],
-    at: usize,
-    d: usize,
-    m: Registers,
-    buf: &mut [u8; 512],
-    points: bool,
-) -> Step
-    requires { at ≤ length text.now }
-    ensures { ReadsPart (body points) (body points) (λ s. condition d s) text.now at (at + 1)
-        (mem m names.now buf.old) result names.now buf.new }
-{
-    match conj(text, names, at, d, m, buf, points) {
-        Step::No(q) => Step::No(q),
-        Step::Go(a, n) => match ors(text, names, a, d, n, buf, points) {
-            Step::No(q) => Step::No(q),
-            Step::Go(z, l) => arrow(text, names, z, d, l, buf, points),
-        },
+    // cond: disj ["->" cond]; disj: conj {"||" conj}
+    #[cycle(ands_arrow_braces_condition_conj_ors_unit)]
+    pub fn condition(&mut self, d: usize) -> Result<(), Unexpected>
+        ensures { Takes 1 (λ s. condition d s) self.old self.new result }
+    {
+        self.conj(d)?;
+        self.ors(d)?;
+        self.arrow(d)
     }
-}
 
-// ["->" cond]
-#[cycle(ands_arrow_braces_condition_conj_ors_unit)]
-fn arrow(
-    text: &[u8],
-    names: &[u64; 12],
-    at: usize,
-    d: usize,
-    m: Registers,
-    buf: &mut [u8; 512],
-    points: bool,
-) -> Step
-    requires { at ≤ length text.now }
-    ensures { ReadsPart (body points) (body points) (λ s. arrow d ∷ s) text.now at at
-        (mem m names.now buf.old) result names.now buf.new }
-{
-    let t = token_at(text, at, points);
-    if t.kind != ARROW_KIND {
-        return Step::Go(at, m);
-    }
-    let e = deeper(d);
-    match condition(text, names, t.end, e, entered(e, m), buf, points) {
-        Step::No(q) => Step::No(q),
-        Step::Go(a, n) => Step::Go(a, emit_kind(buf, n, kinds::IMPLIES_BYTE)),
-    }
-}
-
-// {"||" conj}
-#[cycle(ands_arrow_braces_condition_conj_ors_unit)]
-fn ors(
-    text: &[u8],
-    names: &[u64; 12],
-    at: usize,
-    d: usize,
-    m: Registers,
-    buf: &mut [u8; 512],
-    points: bool,
-) -> Step
-    requires { at ≤ length text.now }
-    ensures { ReadsPart (body points) (body points) (λ s. ors d ∷ s) text.now at at
-        (mem m names.now buf.old) result names.now buf.new }
-{
-    let t = token_at(text, at, points);
-    if t.kind != BARS_KIND {
-        return Step::Go(at, m);
-    }
-    match conj(text, names, t.end, d, m, buf, points) {
-        Step::No(q) => Step::No(q),
-        Step::Go(a, n) => {
-            let k = emit_kind(buf, n, kinds::OR_BYTE);
-            ors(text, names, a, d, k, buf, points)
+    // ["->" cond]
+    #[cycle(ands_arrow_braces_condition_conj_ors_unit)]
+    fn arrow(&mut self, d: usize) -> Result<(), Unexpected>
+        ensures { Takes 0 (λ s. arrow d ∷ s) self.old self.new result }
+    {
+        if !self.eat(ARROW_KIND) {
+            return Ok(());
         }
+        let e = self.enter(d);
+        self.condition(e)?;
+        self.emit_kind(kinds::IMPLIES_BYTE);
+        Ok(())
     }
-}
 
-// conj: unit {"&&" unit}
-#[cycle(ands_arrow_braces_condition_conj_ors_unit)]
-fn conj(
-    text: &[u8],
-    names: &[u64; 12],
-    at: usize,
-    d: usize,
-    m: Registers,
-    buf: &mut [u8; 512],
-    points: bool,
-) -> Step
-    requires { at ≤ length text.now }
-    ensures { ReadsPart (body points) (body points) (λ s. conj d s) text.now at (at + 1)
-        (mem m names.now buf.old) result names.now buf.new }
-{
-    match unit(text, names, at, d, m, buf, points) {
-        Step::No(q) => Step::No(q),
-        Step::Go(a, n) => ands(text, names, a, d, n, buf, points),
-    }
-}
-
-// {"&&" unit}
-#[cycle(ands_arrow_braces_condition_conj_ors_unit)]
-fn ands(
-    text: &[u8],
-    names: &[u64; 12],
-    at: usize,
-    d: usize,
-    m: Registers,
-    buf: &mut [u8; 512],
-    points: bool,
-) -> Step
-    requires { at ≤ length text.now }
-    ensures { ReadsPart (body points) (body points) (λ s. ands d ∷ s) text.now at at
-        (mem m names.now buf.old) result names.now buf.new }
-{
-    let t = token_at(text, at, points);
-    if t.kind != AMPERSANDS_KIND {
-        return Step::Go(at, m);
-    }
-    match unit(text, names, t.end, d, m, buf, points) {
-        Step::No(q) => Step::No(q),
-        Step::Go(a, n) => {
-            let k = emit_kind(buf, n, kinds::AND_BYTE);
-            ands(text, names, a, d, k, buf, points)
+    // {"||" conj}
+    #[cycle(ands_arrow_braces_condition_conj_ors_unit)]
+    fn ors(&mut self, d: usize) -> Result<(), Unexpected>
+        ensures { Takes 0 (λ s. ors d ∷ s) self.old self.new result }
+    {
+        if !self.eat(BARS_KIND) {
+            return Ok(());
         }
+        self.conj(d)?;
+        self.emit_kind(kinds::OR_BYTE);
+        self.ors(d)
     }
-}
 
-// unit: "!" unit, or "{" cond "}", or sum rel sum
-#[cycle(ands_arrow_braces_condition_conj_ors_unit)]
-fn unit(
-    text: &[u8],
-    names: &[u64; 12],
-    at: usize,
-    d: usize,
-    m: Registers,
-    buf: &mut [u8; 512],
-    points: bool,
-) -> Step
-    requires { at ≤ length text.now }
-    ensures { ReadsPart (body points) (body points) (λ s. unit d ∷ s) text.now at (at + 1)
-        (mem m names.now buf.old) result names.now buf.new }
-{
-    let t = token_at(text, at, points);
-    let e = deeper(d);
-    if t.kind == b'{' {
-        return braces(text, names, t.end, e, entered(e, m), buf, points);
+    // conj: unit {"&&" unit}
+    #[cycle(ands_arrow_braces_condition_conj_ors_unit)]
+    fn conj(&mut self, d: usize) -> Result<(), Unexpected>
+        ensures { Takes 1 (λ s. conj d s) self.old self.new result }
+    {
+        self.unit(d)?;
+        self.ands(d)
     }
-    if t.kind != b'!' {
-        return relation(text, names, at, d, m, buf, points);
+
+    // {"&&" unit}
+    #[cycle(ands_arrow_braces_condition_conj_ors_unit)]
+    fn ands(&mut self, d: usize) -> Result<(), Unexpected>
+        ensures { Takes 0 (λ s. ands d ∷ s) self.old self.new result }
+    {
+        if !self.eat(AMPERSANDS_KIND) {
+            return Ok(());
+        }
+        self.unit(d)?;
+        self.emit_kind(kinds::AND_BYTE);
+        self.ands(d)
     }
-    match unit(text, names, t.end, e, entered(e, m), buf, points) {
-        Step::No(q) => Step::No(q),
-        Step::Go(a, n) => Step::Go(a, emit_kind(buf, n, kinds::NOT_BYTE)),
+
+    // unit: "!" unit, or "{" cond "}", or sum rel sum
+    #[cycle(ands_arrow_braces_condition_conj_ors_unit)]
+    fn unit(&mut self, d: usize) -> Result<(), Unexpected>
+        ensures { Takes 1 (λ s. unit d ∷ s) self.old self.new result }
+    {
+        let t = self.peek(); // once for both marks: `eat` would read the token again
+        if t.kind == b'{' {
+            self.at = t.end;
+            let e = self.enter(d);
+            return self.braces(e);
+        }
+        if t.kind != b'!' {
+            return self.relation(d);
+        }
+        self.at = t.end;
+        let e = self.enter(d);
+        self.unit(e)?;
+        self.emit_kind(kinds::NOT_BYTE);
+        Ok(())
     }
 }

@@ -1,7 +1,8 @@
 // A frame's fields: decoding, and which a kind may have.
-ghost use Rattle.std.specs.Prelude.{◌≡◌, ◌+◌, ◌*◌, ◌≤◌, leb, eqb, nat_abs, length};
-ghost use Rattle.rule.specs.Limits.{frame_bytes, offset_limit};
-ghost use Rattle.rule.specs.Frames.{kind_of, frame_at, unused, literal_fields, reference_fields, bare_fields, fields_of};
+ghost use Rattle.std.specs.Prelude.{◌≡◌, ◌+◌, ◌*◌, ◌≤◌, length};
+ghost use Rattle.rule.specs.Limits.{frame_bytes};
+ghost use Rattle.rule.specs.Frames.{kind_of, frame_at, literal_fields, reference_fields, bare_fields, fields_of};
+ghost use Rattle.rule.specs.Scale.{head_fields};
 
 use crate::{Frame, kinds, limits};
 
@@ -26,56 +27,47 @@ pub fn frame_at(frames: &[u8], k: usize) -> Frame
     }
 }
 
-// Event, note and factor are 0.
-fn no_operand(x: Frame) -> bool
-    ensures { result ≡ unused x }
-{
-    (x.event == 0) & (x.note == 0) & (x.factor == 0)
-}
+impl Frame {
+    // The fields of a literal with at most so many decimals, of a reference, and of any other kind.
+    fn literal_fields(self, most: u8) -> bool
+        ensures { result ≡ literal_fields most self }
+    {
+        self.event <= most
+            && self.note == 0
+            && self.factor == 0
+            && limits::LEAST_LITERAL <= self.value
+    }
 
-// Whether a value is 0.
-pub fn zero(v: i32) -> bool
-    ensures { result ≡ eqb (nat_abs v) 0 }
-{
-    v == 0
-}
+    fn reference_fields(self) -> bool
+        ensures { result ≡ reference_fields self }
+    {
+        self.event < limits::EVENT_LIMIT
+            && self.note < limits::NOTE_LIMIT
+            && (1..=limits::FACTOR_LIMIT).contains(&self.factor)
+            && self.value.unsigned_abs() <= limits::OFFSET_NUMBER_LIMIT
+    }
 
-// An offset within its limit.
-fn near(v: i32) -> bool
-    ensures { result ≡ leb (nat_abs v) offset_limit }
-{
-    (-limits::OFFSET_LIMIT <= v) & (v <= limits::OFFSET_LIMIT)
-}
+    fn bare_fields(self) -> bool
+        ensures { result ≡ bare_fields self }
+    {
+        self.event == 0 && self.note == 0 && self.factor == 0 && self.value == 0
+    }
 
-// The fields of a literal with at most so many decimals, of a reference, and of any other kind.
-fn of_literal(x: Frame, most: u8) -> bool
-    ensures { result ≡ literal_fields most x }
-{
-    ((x.event <= most) & ((x.note == 0) & (x.factor == 0))) & (limits::LEAST_LITERAL <= x.value)
-}
+    // The fields of a head.
+    pub(crate) fn head_fields(self) -> bool
+        ensures { result ≡ head_fields self }
+    {
+        self.event <= limits::DECIMAL_LIMIT && self.note == 0 && self.factor == 0 && self.value == 0
+    }
 
-fn of_reference(x: Frame) -> bool
-    ensures { result ≡ reference_fields x }
-{
-    ((x.event < limits::EVENT_LIMIT) & (x.note < limits::NOTE_LIMIT))
-        & ((1 <= x.factor) & (x.factor <= limits::FACTOR_LIMIT))
-        & near(x.value)
-}
-
-fn of_bare(x: Frame) -> bool
-    ensures { result ≡ bare_fields x }
-{
-    no_operand(x) & zero(x.value)
-}
-
-// Whether a frame's fields are those of its kind, where a literal has at most so many decimals.
-pub fn fields(x: Frame, most: u8) -> bool
-    ensures { result ≡ fields_of most (kind_of x.kind) x }
-{
-    let kind = x.kind;
-    match kind {
-        kinds::LITERAL_BYTE => of_literal(x, most),
-        kinds::REFERENCE_BYTE => of_reference(x),
-        _ => of_bare(x),
+    // Whether a frame's fields are those of its kind, where a literal has at most so many decimals.
+    pub(crate) fn fields_fit(self, most: u8) -> bool
+        ensures { result ≡ fields_of most (kind_of self.kind) self }
+    {
+        match self.kind {
+            kinds::LITERAL_BYTE => self.literal_fields(most),
+            kinds::REFERENCE_BYTE => self.reference_fields(),
+            _ => self.bare_fields(),
+        }
     }
 }

@@ -1,4 +1,5 @@
-// The kinds of frames: the byte of each, as specs/Frames has it.
+// The kinds of frames: the byte of each, as specs/Frames has it. Bytes, no enum: document 01 says that evaluation and frame
+// checking decide over the kind byte.
 
 // Operands: a literal, i, a reference.
 pub const LITERAL_BYTE: u8 = 0x01;

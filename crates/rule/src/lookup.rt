@@ -1,36 +1,15 @@
-// Declared names: a table of 12 numbers of names, events from 0 on and notes from 8 on.
-ghost use Rattle.std.specs.Prelude.{◌≡◌, true, cond, List, ℕ, ◌+◌, ◌≤◌, min, leb, length};
+// Declared names: their places in the table, and what declaring and using them does.
+ghost use Rattle.std.specs.Prelude.{◌≡◌, ◌≤◌, true, cond, leb, length};
 ghost use Rattle.rule.specs.Name.{long_name};
 ghost use Rattle.rule.specs.Spelling.{room};
 ghost use Rattle.rule.specs.Machine.{declare, uses};
-ghost use Rattle.rule.specs.Memory.{table, position, acts, listed, mem, is_declared};
-ghost use Rattle.rule.specs.ReadsPart.{Inside};
+ghost use Rattle.rule.specs.Memory.{table, position, is_declared};
+ghost use Rattle.rule.specs.ReadsPart.{Inside, Acts, remembered};
 
 use crate::limits;
-use crate::memory::{Registers, blamed, name_at};
-use crate::names::LONG_NAME;
+use crate::names::{LONG_NAME, name_code};
 use crate::parts::{Place, Role};
-
-fn least(a: u8, b: u8) -> u8
-    ensures { result ≡ min a b }
-{
-    if a <= b { a } else { b }
-}
-
-// The first of the `n` names from `from` on that has the number `c`, or `n`.
-fn find(names: &[u64; 12], from: u8, n: u8, c: u64) -> u8
-    requires { from + n ≤ 12 }
-    ensures { result ≡ position c (listed names.now from n) }
-{
-    let mut j: u8 = 0;
-    while j < n {
-        if names[(from + j) as usize] == c {
-            return j;
-        }
-        j += 1;
-    }
-    j
-}
+use crate::text::Reader;
 
 // How many names may be declared in a role.
 fn most(role: Role) -> u8
@@ -42,122 +21,81 @@ fn most(role: Role) -> u8
     }
 }
 
-// How many names are declared in a role.
-fn held(role: Role, m: Registers) -> u8
-    ensures { (tb b : List ℕ) → result ≡ length (table role (mem m tb b)) }
-{
-    match role {
-        Role::Event => least(limits::EVENT_LIMIT, m.events),
-        Role::Note => least(limits::NOTE_LIMIT, m.notes),
+impl<'a> Reader<'a> {
+    // The names that are declared in a role.
+    fn declared(&self, role: Role) -> &[u64]
+        ensures names { result.now ≡ table role (remembered self.now) }
+        ensures few { length result.now ≤ 8 }
+    {
+        match role {
+            Role::Event => &self.names[..limits::EVENT_LIMIT.min(self.memory.events) as usize],
+            Role::Note => {
+                let notes = &self.names[limits::EVENT_LIMIT as usize..];
+                &notes[..limits::NOTE_LIMIT.min(self.memory.notes) as usize]
+            }
+        }
     }
-}
 
-// The place of a name among those declared in its role; how many there are if it is none of them.
-pub fn lookup(names: &[u64; 12], role: Role, c: u64, m: Registers) -> u8
-    ensures { (b : List ℕ) → result ≡ position c (table role (mem m names.now b)) }
-{
-    match role {
-        Role::Event => find(names, 0, least(limits::EVENT_LIMIT, m.events), c),
-        Role::Note => find(
-            names,
-            limits::EVENT_LIMIT,
-            least(limits::NOTE_LIMIT, m.notes),
-            c,
-        ),
+    // The place of a name among those declared in its role; how many there are if it is none of them, and no None, since `position`
+    // of specs/Memory is that number.
+    pub fn lookup(&self, role: Role, code: u64) -> u8
+        ensures { result ≡ position code (table role (remembered self.now)) }
+    {
+        let declared = self.declared(role);
+        declared
+            .iter()
+            .position(|&c| c == code)
+            .unwrap_or(declared.len()) as u8
     }
-}
 
-// Whether a name is declared in a role.
-fn declared(names: &[u64; 12], role: Role, c: u64, m: Registers) -> bool
-    ensures { (b : List ℕ) → result ≡ is_declared c (table role (mem m names.now b)) }
-{
-    lookup(names, role, c, m) < held(role, m)
-}
+    // Whether a name is declared in a role.
+    fn is_declared(&self, role: Role, code: u64) -> bool
+        ensures { result ≡ is_declared code (table role (remembered self.now)) }
+    {
+        self.declared(role).contains(&code)
+    }
 
-// After the use of the name at `p`.
-pub fn named(text: &[u8], names: &[u64; 12], role: Role, p: Place, m: Registers) -> Registers
-    requires { Inside (length text.now) p }
-    ensures { (b : List ℕ) → mem result names.now b
-        ≡ acts text.now (uses role p) (mem m names.now b) }
-{
-    let c = name_at(text, p);
-    if declared(names, role, c, m) {
-        return m;
+    // Notes the use of the name at `p`.
+    pub fn named(&mut self, role: Role, p: Place)
+        requires { Inside (length self.old.text.now) p }
+        ensures { Acts (uses role p) self.old self.new }
+    {
+        let code = name_code(self.letters(p));
+        if !self.is_declared(role, code) {
+            self.blame(p);
+        }
     }
-    blamed(p, m)
-}
 
-// Whether a declaration is bad: over 12 letters, declared already, or one too many.
-fn misnamed(names: &[u64; 12], role: Role, c: u64, m: Registers) -> bool
-    ensures { (b : List ℕ) → result ≡ cond (leb long_name c) true
-        (cond (is_declared c (table role (mem m names.now b))) true
-        (leb (room role) (length (table role (mem m names.now b))))) }
-{
-    if LONG_NAME <= c {
-        return true;
+    // Whether a declaration is bad: over 12 letters, declared already, or one too many.
+    fn misnamed(&self, role: Role, code: u64) -> bool
+        ensures { result ≡ cond (leb long_name code) true
+            (cond (is_declared code (table role (remembered self.now))) true
+            (leb (room role) (length (table role (remembered self.now))))) }
+    {
+        LONG_NAME <= code
+            || self.is_declared(role, code)
+            || most(role) as usize <= self.declared(role).len()
     }
-    if declared(names, role, c, m) {
-        return true;
-    }
-    most(role) <= held(role, m)
-}
 
-// After the declaration of an event.
-fn declare_event(text: &[u8], names: &mut [u64; 12], p: Place, m: Registers) -> Registers
-    requires { Inside (length text.now) p × (length names.old ≡ 12) }
-    ensures { ((b : List ℕ) → mem result names.new b
-        ≡ acts text.now (declare Role.Event p) (mem m names.old b))
-        × (length names.new ≡ 12) }
-{
-    let c = name_at(text, p);
-    if misnamed(names, Role::Event, c, m) {
-        return blamed(p, m);
-    }
-    let n = m.events;
-    names[n as usize] = c;
-    Registers {
-        count: m.count,
-        deep: m.deep,
-        number: m.number,
-        decimals: m.decimals,
-        name: m.name,
-        events: n + 1,
-        notes: m.notes,
-    }
-}
-
-// After the declaration of a note.
-fn declare_note(text: &[u8], names: &mut [u64; 12], p: Place, m: Registers) -> Registers
-    requires { Inside (length text.now) p × (length names.old ≡ 12) }
-    ensures { ((b : List ℕ) → mem result names.new b
-        ≡ acts text.now (declare Role.Note p) (mem m names.old b))
-        × (length names.new ≡ 12) }
-{
-    let c = name_at(text, p);
-    if misnamed(names, Role::Note, c, m) {
-        return blamed(p, m);
-    }
-    let n = m.notes;
-    names[(limits::EVENT_LIMIT + n) as usize] = c;
-    Registers {
-        count: m.count,
-        deep: m.deep,
-        number: m.number,
-        decimals: m.decimals,
-        name: m.name,
-        events: m.events,
-        notes: n + 1,
-    }
-}
-
-// After the declaration of the name at `p`.
-pub fn declare(text: &[u8], names: &mut [u64; 12], role: Role, p: Place, m: Registers) -> Registers
-    requires { Inside (length text.now) p × (length names.old ≡ 12) }
-    ensures { ((b : List ℕ) → mem result names.new b
-        ≡ acts text.now (declare role p) (mem m names.old b)) × (length names.new ≡ 12) }
-{
-    match role {
-        Role::Event => declare_event(text, names, p, m),
-        Role::Note => declare_note(text, names, p, m),
+    // Declares the name at `p`.
+    pub fn declare(&mut self, role: Role, p: Place)
+        requires { Inside (length self.old.text.now) p }
+        ensures { Acts (declare role p) self.old self.new }
+    {
+        let code = name_code(self.letters(p));
+        if self.misnamed(role, code) {
+            self.blame(p);
+            return;
+        }
+        match role {
+            Role::Event => {
+                self.names[self.memory.events as usize] = code;
+                self.memory.events += 1;
+            }
+            Role::Note => {
+                self.names[(limits::EVENT_LIMIT + self.memory.notes) as usize] = code;
+                self.memory.notes += 1;
+            }
+        }
     }
 }

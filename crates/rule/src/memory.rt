@@ -1,32 +1,33 @@
-// What the reader remembers while it reads a text, and what depths and numbers do to that.
-ghost use Rattle.std.specs.Prelude.{◌≡◌, cond, List, ℕ, ◌+◌, ◌<◌, length};
+// What the reader remembers while it reads a text, and what depths, names and numbers do to that.
+ghost use Rattle.std.specs.Prelude.{◌≡◌, cond, length};
 ghost use Rattle.rule.specs.Spelling.{beyond};
-ghost use Rattle.rule.specs.Machine.{deeper, enter, sized};
 ghost use Rattle.rule.specs.Measure.{sized_by};
-ghost use Rattle.rule.specs.Memory.{first, blame, many-decimals, code_at, value_at, decimals_at, acts, mem};
-ghost use Rattle.rule.specs.ReadsPart.{Inside};
+ghost use Rattle.rule.specs.Machine.{deeper, enter, sized};
+ghost use Rattle.rule.specs.Memory.{spot, first, blame, many-decimals, code_at, value_at, decimals_at};
+ghost use Rattle.rule.specs.ReadsPart.{Inside, Acts, Recalls, remembered};
 
 use crate::limits;
-use crate::names::name_code;
 use crate::numerals::{decimals, number_value};
 use crate::parts::{Limit, Place};
+use crate::text::Reader;
 
-// Registers: frames so far, at most 65; whether a depth was over 16; the first bad number's place plus 1, that of the first of too
-// many decimals, and the first bad name's, 0 for none; how many events and notes are declared.
-#[derive(Clone, Copy)]
+// Registers: frames so far, at most 65; whether a depth was over 16; where the first bad number, the first of too many decimals
+// and the first bad name start; how many events and notes are declared.
+#[derive(Clone, Copy, Default)]
 pub struct Registers {
     pub count: usize,
     pub deep: bool,
-    pub number: usize,
-    pub decimals: usize,
-    pub name: usize,
+    pub number: Option<usize>,
+    pub decimals: Option<usize>,
+    pub name: Option<usize>,
     pub events: u8,
     pub notes: u8,
 }
 
-// A frame's bytes; `word` has the last four, big-endian.
-#[derive(Clone, Copy)]
-pub struct Fields {
+// A frame's bytes before they are written; `word` has the last four, big-endian. No `Frame`: `put` and `offset_of` of
+// specs/Memory are over the word, and `Frame` has a signed number.
+#[derive(Clone, Copy, Default)]
+pub struct RawFrame {
     pub kind: u8,
     pub event: u8,
     pub note: u8,
@@ -34,90 +35,25 @@ pub struct Fields {
     pub word: u32,
 }
 
-// A reader of a part went on to a place, or stopped at a token that no rule has there.
-#[derive(Clone, Copy)]
-pub enum Step {
-    Go(usize, Registers),
-    No(usize),
-}
-
 // One level further in; 17 stands for every depth over 16.
-pub fn deeper(d: usize) -> usize
+fn deeper(d: usize) -> usize
     ensures { result ≡ deeper d }
 {
     if d <= limits::DEPTH_LIMIT { d + 1 } else { d }
 }
 
-// After entering depth `d`.
-pub fn entered(d: usize, m: Registers) -> Registers
-    ensures { (text tb b : List ℕ) → mem result tb b ≡ acts text (enter d) (mem m tb b) }
+// A first place, if there was none.
+fn first(kept: Option<usize>, p: Place) -> Option<usize>
+    ensures { spot result ≡ first (spot kept) p }
 {
-    if d <= limits::DEPTH_LIMIT {
-        return m;
-    }
-    Registers {
-        count: m.count,
-        deep: true,
-        number: m.number,
-        decimals: m.decimals,
-        name: m.name,
-        events: m.events,
-        notes: m.notes,
-    }
+    kept.or(Some(p.start))
 }
 
-// A first place, plus 1, if there was none.
-fn first(z: usize, p: Place) -> usize
-    requires { p.start < p.end }
-    ensures { result ≡ first z p }
+// A first place, if what stands at `p` is bad and there was none.
+fn noted(bad: bool, kept: Option<usize>, p: Place) -> Option<usize>
+    ensures { spot result ≡ cond bad (first (spot kept) p) (spot kept) }
 {
-    if z == 0 { p.start + 1 } else { z }
-}
-
-// After a bad name at `p`.
-pub fn blamed(p: Place, m: Registers) -> Registers
-    requires { p.start < p.end }
-    ensures { (tb b : List ℕ) → mem result tb b ≡ blame p (mem m tb b) }
-{
-    Registers {
-        count: m.count,
-        deep: m.deep,
-        number: m.number,
-        decimals: m.decimals,
-        name: first(m.name, p),
-        events: m.events,
-        notes: m.notes,
-    }
-}
-
-// The number of the name at `p`.
-pub fn name_at(text: &[u8], p: Place) -> u64
-    requires { Inside (length text.now) p }
-    ensures { result ≡ code_at text.now p }
-{
-    let s = p.start;
-    let e = p.end;
-    name_code(&text[s..e])
-}
-
-// The value of the number at `p`.
-pub fn number_at(text: &[u8], p: Place) -> u32
-    requires { Inside (length text.now) p }
-    ensures { result ≡ value_at text.now p }
-{
-    let s = p.start;
-    let e = p.end;
-    number_value(&text[s..e])
-}
-
-// How many decimals the number at `p` has.
-pub fn decimals_at(text: &[u8], p: Place) -> usize
-    requires { Inside (length text.now) p }
-    ensures { result ≡ decimals_at text.now p }
-{
-    let s = p.start;
-    let e = p.end;
-    decimals(&text[s..e])
+    if bad { first(kept, p) } else { kept }
 }
 
 // Whether a number is beyond its limit.
@@ -127,51 +63,52 @@ fn over(limit: Limit, v: u32) -> bool
     match limit {
         Limit::OfClause => false,
         Limit::OfLiteral => limits::LITERAL_LIMIT < v,
-        Limit::OfFactor => if v == 0 {
-            true
-        } else {
-            limits::FACTOR_NUMBER_LIMIT < v
-        },
+        Limit::OfFactor => v == 0 || limits::FACTOR_NUMBER_LIMIT < v,
         Limit::OfOffset => limits::OFFSET_NUMBER_LIMIT < v,
     }
 }
 
-// Whether the number at `p` stands for or has more than 6 decimals: the clause's, and a literal.
-fn many_decimals(text: &[u8], limit: Limit, p: Place) -> bool
-    requires { Inside (length text.now) p }
-    ensures { result ≡ many-decimals (code_at text.now) (value_at text.now)
-        (decimals_at text.now) (sized_by limit p) }
-{
-    match limit {
-        Limit::OfClause => (limits::DECIMAL_LIMIT as u32) < number_at(text, p),
-        Limit::OfLiteral => (limits::DECIMAL_LIMIT as usize) < decimals_at(text, p),
-        Limit::OfFactor => false,
-        Limit::OfOffset => false,
+impl<'a> Reader<'a> {
+    // Enters one level further in than `d`.
+    pub fn enter(&mut self, d: usize) -> usize
+        ensures level { result ≡ deeper d }
+        ensures entered { Acts (enter (deeper d)) self.old self.new }
+    {
+        let e = deeper(d);
+        if limits::DEPTH_LIMIT < e {
+            self.memory.deep = true;
+        }
+        e
     }
-}
 
-// A first place, plus 1, if what stands at `p` is bad and there was none.
-fn noted(bad: bool, z: usize, p: Place) -> usize
-    requires { p.start < p.end }
-    ensures { result ≡ cond bad (first z p) z }
-{
-    if bad { first(z, p) } else { z }
-}
+    // Notes a bad name at `p`.
+    pub fn blame(&mut self, p: Place)
+        ensures { Recalls (blame p (remembered self.old)) self.old self.new }
+    {
+        self.memory.name = first(self.memory.name, p);
+    }
 
-// After the number at `p`, whose limit is `limit`.
-pub fn sized(text: &[u8], limit: Limit, p: Place, m: Registers) -> Registers
-    requires { Inside (length text.now) p }
-    ensures { (tb b : List ℕ) → mem result tb b ≡ acts text.now (sized limit p) (mem m tb b) }
-{
-    let number = noted(over(limit, number_at(text, p)), m.number, p);
-    let decimals = noted(many_decimals(text, limit, p), m.decimals, p);
-    Registers {
-        count: m.count,
-        deep: m.deep,
-        number,
-        decimals,
-        name: m.name,
-        events: m.events,
-        notes: m.notes,
+    // Whether the number at `p` stands for or has more than 6 decimals: the clause's, and a literal.
+    fn many_decimals(&self, limit: Limit, p: Place) -> bool
+        requires { Inside (length self.now.text.now) p }
+        ensures { result ≡ many-decimals (code_at self.now.text.now) (value_at self.now.text.now)
+            (decimals_at self.now.text.now) (sized_by limit p) }
+    {
+        match limit {
+            Limit::OfClause => (limits::DECIMAL_LIMIT as u32) < number_value(self.letters(p)),
+            Limit::OfLiteral => (limits::DECIMAL_LIMIT as usize) < decimals(self.letters(p)),
+            Limit::OfFactor => false,
+            Limit::OfOffset => false,
+        }
+    }
+
+    // Notes the number at `p`, whose limit is `limit`, if it is beyond that or has too many decimals.
+    pub fn sized(&mut self, limit: Limit, p: Place)
+        requires { Inside (length self.old.text.now) p }
+        ensures { Acts (sized limit p) self.old self.new }
+    {
+        let bad = over(limit, number_value(self.letters(p)));
+        self.memory.number = noted(bad, self.memory.number, p);
+        self.memory.decimals = noted(self.many_decimals(limit, p), self.memory.decimals, p);
     }
 }

@@ -1,123 +1,110 @@
 // Refusal 10: frames that are no rule in postfix order, with the place of the first. One pass; it counts the references too.
-ghost use Rattle.std.specs.Prelude.{◌≡◌, cond, ◌+◌, ◌^◌, ◌<◌, eqb};
+ghost use Rattle.std.specs.Prelude.{◌≡◌, ◌^◌, ◌<◌};
 ghost use Rattle.rule.specs.Frames.{kind_of};
-ghost use Rattle.rule.specs.References.{reference_byte, reference_count};
+ghost use Rattle.rule.specs.References.{reference_count};
 ghost use Rattle.rule.specs.Order.{step_by, frame_step, order_of};
 
 use crate::{Frame, frames, kinds, limits};
+use std::marker::Model;
 
-// The counts of conditions and of sums, or no rule.
+// The frame at a place begins no rule with those before it; past the last one, the end is wrong.
 #[derive(Clone, Copy)]
-pub enum Shape {
-    Good(usize, usize),
-    Bad,
+pub struct Misplaced {
+    pub at: usize,
 }
 
-// A rule with so many references, or the place of the first frame that begins none.
+// Clauses see the place.
+impl Model for Misplaced {
+    ghost use Rattle.std.specs.Prelude.{ℕ};
+
+    ghost Value = { ℕ };
+
+    ghost view = { λ m. m.at };
+
+    ghost inverse = { λ p. record { at = p } };
+}
+
+// What the frames so far have made: so many conditions below so many sums.
 #[derive(Clone, Copy)]
-pub enum Ordered {
-    Fine(usize),
-    At(usize),
+pub struct Shape {
+    pub conditions: usize,
+    pub sums: usize,
 }
 
-// One frame more, by its kind: the counts, from fewer frames than 2^63. Called by frame_step.
-fn step(kind: u8, c: usize, k: usize) -> Shape
-    requires { (c < 2 ^ 63) × (k < 2 ^ 63) }
-    ensures { result ≡ step_by (kind_of kind) c k }
-{
-    match kind {
-        kinds::LITERAL_BYTE..=kinds::REFERENCE_BYTE => Shape::Good(c, k + 1),
-        kinds::ADD_BYTE..=kinds::MULTIPLY_BYTE => {
-            if 2 <= k {
-                Shape::Good(c, k - 1)
-            } else {
-                Shape::Bad
+impl Shape {
+    // With one frame more, by its kind; none where that begins no rule. From fewer frames than 2^63. Called by with_frame.
+    #[tactic(auto, using(crate::proofs::KindEffects::effects))]
+    fn with_kind(self, kind: u8) -> Option<Shape>
+        requires conditions_few { self.conditions < 2 ^ 63 }
+        requires sums_few { self.sums < 2 ^ 63 }
+        ensures { result ≡ step_by (kind_of kind) self.conditions self.sums }
+    {
+        let Shape { conditions, sums } = self;
+        match kind {
+            kinds::LITERAL_BYTE..=kinds::REFERENCE_BYTE => Some(Shape {
+                conditions,
+                sums: sums + 1,
+            }),
+            kinds::ADD_BYTE..=kinds::MULTIPLY_BYTE if 2 <= sums => Some(Shape {
+                conditions,
+                sums: sums - 1,
+            }),
+            kinds::ABSOLUTE_BYTE if 1 <= sums => Some(self),
+            kinds::EQUAL_BYTE..=kinds::AT_LEAST_BYTE if sums == 2 => Some(Shape {
+                conditions: conditions + 1,
+                sums: 0,
+            }),
+            kinds::NOT_BYTE if 1 <= conditions && sums == 0 => Some(self),
+            kinds::AND_BYTE..=kinds::IMPLIES_BYTE if 2 <= conditions && sums == 0 => {
+                Some(Shape {
+                    conditions: conditions - 1,
+                    sums: 0,
+                })
             }
+            _ => None,
         }
-        kinds::ABSOLUTE_BYTE => {
-            if 1 <= k {
-                Shape::Good(c, k)
-            } else {
-                Shape::Bad
-            }
+    }
+
+    // The same by its fields too, where a literal has at most so many decimals. Called by order.
+    fn with_frame(self, x: Frame, most: u8) -> Option<Shape>
+        requires conditions_few { self.conditions < 2 ^ 63 }
+        requires sums_few { self.sums < 2 ^ 63 }
+        ensures { result ≡ frame_step most x self.conditions self.sums }
+    {
+        if x.fields_fit(most) {
+            self.with_kind(x.kind)
+        } else {
+            None
         }
-        kinds::EQUAL_BYTE..=kinds::AT_LEAST_BYTE => {
-            if k == 2 {
-                Shape::Good(c + 1, 0)
-            } else {
-                Shape::Bad
-            }
-        }
-        kinds::NOT_BYTE => {
-            if (1 <= c) & (k == 0) {
-                Shape::Good(c, 0)
-            } else {
-                Shape::Bad
-            }
-        }
-        kinds::AND_BYTE..=kinds::IMPLIES_BYTE => {
-            if (2 <= c) & (k == 0) {
-                Shape::Good(c - 1, 0)
-            } else {
-                Shape::Bad
-            }
-        }
-        _ => Shape::Bad,
     }
 }
 
-// The same by its fields too, where a literal has at most so many decimals. Called by order.
-fn frame_step(x: Frame, most: u8, c: usize, k: usize) -> Shape
-    requires { (c < 2 ^ 63) × (k < 2 ^ 63) }
-    ensures { result ≡ frame_step most x c k }
-{
-    if frames::fields(x, most) {
-        step(x.kind, c, k)
-    } else {
-        Shape::Bad
-    }
-}
-
-// One reference more, where the kind is a reference's. Called by the two passes below.
-fn counted(kind: u8, m: usize) -> usize
-    requires { m < 2 ^ 63 }
-    ensures { result ≡ cond (eqb kind reference_byte) (m + 1) m }
-{
-    if kind == kinds::REFERENCE_BYTE {
-        m + 1
-    } else {
-        m
-    }
-}
-
-// Whether the frames behind the head are a rule: after i of them, c conditions, k sums, and m references on the way.
-pub fn order(frames: &[u8], most: u8) -> Ordered
+// How many references frames behind the head have, where they are a rule; else the place of the first that begins none.
+#[tactic(auto, using(crate::proofs::FrameOrder::order_laws))]
+pub fn order(frames: &[u8], most: u8) -> Result<usize, Misplaced>
     ensures { result ≡ order_of most frames.now }
 {
     let n = frames.len() / limits::FRAME_BYTES;
-    let mut i = 0;
-    let mut c = 0;
-    let mut k = 0;
-    let mut m = 0;
-    while i < n {
+    // No `Shape::default()`: the proof of the loop's invariant did not close with it.
+    let mut made = Shape {
+        conditions: 0,
+        sums: 0,
+    };
+    let mut references = 0;
+    for i in 0..n {
         let x = frames::frame_at(frames, i);
-        let next = frame_step(x, most, c, k);
-        match next {
-            Shape::Good(c2, k2) => {
-                c = c2;
-                k = k2;
-            }
-            Shape::Bad => {
-                return Ordered::At(i);
-            }
+        let Some(next) = made.with_frame(x, most) else {
+            return Err(Misplaced { at: i });
+        };
+        made = next;
+        if x.kind == kinds::REFERENCE_BYTE {
+            references += 1;
         }
-        m = counted(x.kind, m);
-        i += 1;
     }
-    if (c == 1) & (k == 0) {
-        Ordered::Fine(m)
+    if made.conditions == 1 && made.sums == 0 {
+        Ok(references)
     } else {
-        Ordered::At(n)
+        Err(Misplaced { at: n })
     }
 }
 
@@ -125,12 +112,8 @@ pub fn order(frames: &[u8], most: u8) -> Ordered
 pub fn reference_count(frames: &[u8]) -> usize
     ensures { result ≡ reference_count frames.now }
 {
-    let n = frames.len() / limits::FRAME_BYTES;
-    let mut m = 0;
-    let mut i = 0;
-    while i < n {
-        m = counted(frames[i * limits::FRAME_BYTES], m);
-        i += 1;
-    }
-    m
+    frames
+        .chunks_exact(limits::FRAME_BYTES)
+        .filter(|frame| frame[0] == kinds::REFERENCE_BYTE)
+        .count()
 }

@@ -1,217 +1,125 @@
 // Readers of sums: sum, prod and factor. Each takes its part off the stack of specs/Machine.
-ghost use Rattle.std.specs.Prelude.{◌≡◌, ◌∷◌, ◌+◌, ◌≤◌, length};
+ghost use Rattle.std.specs.Prelude.{◌≡◌, ◌∷◌};
 ghost use Rattle.rule.specs.Frames.{Kind};
 ghost use Rattle.rule.specs.Class.{open_paren, close_paren};
 ghost use Rattle.rule.specs.Draft.{alone};
-ghost use Rattle.rule.specs.Token.{body};
 ghost use Rattle.rule.specs.Machine.{out, doing, want, factor, muls, adds, prod, sum};
-ghost use Rattle.rule.specs.Memory.{mem};
-ghost use Rattle.rule.specs.ReadsPart.{sign_byte, ReadsPart};
+ghost use Rattle.rule.specs.ReadsPart.{sign_byte, Takes};
 
-use crate::emit::{emit_instance, emit_kind, emit_literal};
-use crate::expect::expect;
 use crate::kinds;
-use crate::lookup::named;
-use crate::memory::{Registers, Step, deeper, entered};
 use crate::parts::{Place, Role};
-use crate::references::reference;
-use crate::tokens::{ABS_KIND, DECIMAL_KIND, INDEX_KIND, NAME_KIND, NUMBER_KIND, token_at};
+use crate::text::{Reader, Unexpected};
+use crate::tokens::{ABS_KIND, DECIMAL_KIND, INDEX_KIND, NAME_KIND, NUMBER_KIND};
 
-// The kind of frame of "+" and "-", 0 of any other token.
-fn sign_kind(k: u8) -> u8
+// The kind of frame of "+" and "-".
+#[tactic(auto, unfolding(crate::specs::ReadsPart::sign_byte))]
+fn sign_kind(k: u8) -> Option<u8>
     ensures { result ≡ sign_byte k }
 {
-    if k == b'+' {
-        return kinds::ADD_BYTE;
-    }
-    if k == b'-' { kinds::SUBTRACT_BYTE } else { 0 }
-}
-
-// sum ")", the rest of a group.
-#[cycle(absolute_adds_factor_muls_parens_prod_sum)]
-fn parens(
-    text: &[u8],
-    names: &[u64; 12],
-    at: usize,
-    d: usize,
-    m: Registers,
-    buf: &mut [u8; 512],
-    points: bool,
-) -> Step
-    requires { at ≤ length text.now }
-    ensures { ReadsPart (body points) (body points) (λ s. sum d (want close_paren ∷ s)) text.now at (at + 1)
-        (mem m names.now buf.old) result names.now buf.new }
-{
-    match sum(text, names, at, d, m, buf, points) {
-        Step::No(q) => Step::No(q),
-        Step::Go(a, n) => expect(text, a, n, b')', points),
+    match k {
+        b'+' => Some(kinds::ADD_BYTE),
+        b'-' => Some(kinds::SUBTRACT_BYTE),
+        _ => None,
     }
 }
 
-// sum: prod {("+" or "-") prod}
-#[cycle(absolute_adds_factor_muls_parens_prod_sum)]
-pub fn sum(
-    text: &[u8],
-    names: &[u64; 12],
-    at: usize,
-    d: usize,
-    m: Registers,
-    buf: &mut [u8; 512],
-    points: bool,
-) -> Step
-    requires { at ≤ length text.now }
-    ensures { ReadsPart (body points) (body points) (λ s. sum d s) text.now at (at + 1)
-        (mem m names.now buf.old) result names.now buf.new }
-{
-    match prod(text, names, at, d, m, buf, points) {
-        Step::No(q) => Step::No(q),
-        Step::Go(a, n) => adds(text, names, a, d, n, buf, points),
+impl<'a> Reader<'a> {
+    // sum ")", the rest of a group.
+    #[cycle(absolute_adds_factor_muls_parens_prod_sum)]
+    fn parens(&mut self, d: usize) -> Result<(), Unexpected>
+        ensures { Takes 1 (λ s. sum d (want close_paren ∷ s)) self.old self.new result }
+    {
+        self.sum(d)?;
+        self.expect(b')')
     }
-}
 
-// {("+" or "-") prod}
-#[cycle(absolute_adds_factor_muls_parens_prod_sum)]
-fn adds(
-    text: &[u8],
-    names: &[u64; 12],
-    at: usize,
-    d: usize,
-    m: Registers,
-    buf: &mut [u8; 512],
-    points: bool,
-) -> Step
-    requires { at ≤ length text.now }
-    ensures { ReadsPart (body points) (body points) (λ s. adds d ∷ s) text.now at at
-        (mem m names.now buf.old) result names.now buf.new }
-{
-    let t = token_at(text, at, points);
-    let kind = sign_kind(t.kind);
-    if kind == 0 {
-        return Step::Go(at, m);
+    // sum: prod {("+" or "-") prod}
+    #[cycle(absolute_adds_factor_muls_parens_prod_sum)]
+    pub fn sum(&mut self, d: usize) -> Result<(), Unexpected>
+        ensures { Takes 1 (λ s. sum d s) self.old self.new result }
+    {
+        self.prod(d)?;
+        self.adds(d)
     }
-    match prod(text, names, t.end, d, m, buf, points) {
-        Step::No(q) => Step::No(q),
-        Step::Go(a, n) => {
-            let k = emit_kind(buf, n, kind);
-            adds(text, names, a, d, k, buf, points)
+
+    // {("+" or "-") prod}
+    #[cycle(absolute_adds_factor_muls_parens_prod_sum)]
+    fn adds(&mut self, d: usize) -> Result<(), Unexpected>
+        ensures { Takes 0 (λ s. adds d ∷ s) self.old self.new result }
+    {
+        let t = self.peek();
+        let Some(kind) = sign_kind(t.kind) else {
+            return Ok(());
+        };
+        self.at = t.end;
+        self.prod(d)?;
+        self.emit_kind(kind);
+        self.adds(d)
+    }
+
+    // prod: factor {"*" factor}
+    #[cycle(absolute_adds_factor_muls_parens_prod_sum)]
+    fn prod(&mut self, d: usize) -> Result<(), Unexpected>
+        ensures { Takes 1 (λ s. prod d s) self.old self.new result }
+    {
+        self.factor(d)?;
+        self.muls(d)
+    }
+
+    // {"*" factor}
+    #[cycle(absolute_adds_factor_muls_parens_prod_sum)]
+    fn muls(&mut self, d: usize) -> Result<(), Unexpected>
+        ensures { Takes 0 (λ s. muls d ∷ s) self.old self.new result }
+    {
+        if !self.eat(b'*') {
+            return Ok(());
+        }
+        self.factor(d)?;
+        self.emit_kind(kinds::MULTIPLY_BYTE);
+        self.muls(d)
+    }
+
+    // "(" sum ")" and the frame of abs, after "abs".
+    #[cycle(absolute_adds_factor_muls_parens_prod_sum)]
+    fn absolute(&mut self, d: usize) -> Result<(), Unexpected>
+        ensures { Takes 0 (λ s. want open_paren ∷ sum d (want close_paren ∷ doing (out (alone Kind.absolute)) ∷ s))
+            self.old self.new result }
+    {
+        self.expect(b'(')?;
+        self.parens(d)?;
+        self.emit_kind(kinds::ABSOLUTE_BYTE);
+        Ok(())
+    }
+
+    // factor: number, decimal, "i", "(" sum ")", "abs" "(" sum ")", or reference
+    #[cycle(absolute_adds_factor_muls_parens_prod_sum)]
+    fn factor(&mut self, d: usize) -> Result<(), Unexpected>
+        ensures { Takes 1 (λ s. factor d ∷ s) self.old self.new result }
+    {
+        let t = self.take();
+        let p = Place::from(t);
+        match t.kind {
+            NUMBER_KIND | DECIMAL_KIND => {
+                self.emit_literal(p);
+                Ok(())
+            }
+            INDEX_KIND => {
+                self.emit_kind(kinds::INSTANCE_BYTE);
+                Ok(())
+            }
+            NAME_KIND => {
+                self.named(Role::Note, p);
+                self.reference(p)
+            }
+            b'(' => {
+                let e = self.enter(d);
+                self.parens(e)
+            }
+            ABS_KIND => {
+                let e = self.enter(d);
+                self.absolute(e)
+            }
+            _ => Err(Unexpected::from(t)),
         }
     }
-}
-
-// prod: factor {"*" factor}
-#[cycle(absolute_adds_factor_muls_parens_prod_sum)]
-fn prod(
-    text: &[u8],
-    names: &[u64; 12],
-    at: usize,
-    d: usize,
-    m: Registers,
-    buf: &mut [u8; 512],
-    points: bool,
-) -> Step
-    requires { at ≤ length text.now }
-    ensures { ReadsPart (body points) (body points) (λ s. prod d s) text.now at (at + 1)
-        (mem m names.now buf.old) result names.now buf.new }
-{
-    match factor(text, names, at, d, m, buf, points) {
-        Step::No(q) => Step::No(q),
-        Step::Go(a, n) => muls(text, names, a, d, n, buf, points),
-    }
-}
-
-// {"*" factor}
-#[cycle(absolute_adds_factor_muls_parens_prod_sum)]
-fn muls(
-    text: &[u8],
-    names: &[u64; 12],
-    at: usize,
-    d: usize,
-    m: Registers,
-    buf: &mut [u8; 512],
-    points: bool,
-) -> Step
-    requires { at ≤ length text.now }
-    ensures { ReadsPart (body points) (body points) (λ s. muls d ∷ s) text.now at at
-        (mem m names.now buf.old) result names.now buf.new }
-{
-    let t = token_at(text, at, points);
-    if t.kind != b'*' {
-        return Step::Go(at, m);
-    }
-    match factor(text, names, t.end, d, m, buf, points) {
-        Step::No(q) => Step::No(q),
-        Step::Go(a, n) => {
-            let k = emit_kind(buf, n, kinds::MULTIPLY_BYTE);
-            muls(text, names, a, d, k, buf, points)
-        }
-    }
-}
-
-// "(" sum ")" and the frame of abs, after "abs".
-#[cycle(absolute_adds_factor_muls_parens_prod_sum)]
-fn absolute(
-    text: &[u8],
-    names: &[u64; 12],
-    at: usize,
-    d: usize,
-    m: Registers,
-    buf: &mut [u8; 512],
-    points: bool,
-) -> Step
-    requires { at ≤ length text.now }
-    ensures { ReadsPart (body points) (body points)
-        (λ s. want open_paren ∷ sum d (want close_paren ∷ doing (out (alone Kind.absolute)) ∷ s))
-        text.now at at (mem m names.now buf.old) result names.now buf.new }
-{
-    match expect(text, at, m, b'(', points) {
-        Step::No(q) => Step::No(q),
-        Step::Go(a, n) => match parens(text, names, a, d, n, buf, points) {
-            Step::No(q) => Step::No(q),
-            Step::Go(z, l) => Step::Go(z, emit_kind(buf, l, kinds::ABSOLUTE_BYTE)),
-        },
-    }
-}
-
-// factor: number, decimal, "i", "(" sum ")", "abs" "(" sum ")", or reference
-#[cycle(absolute_adds_factor_muls_parens_prod_sum)]
-fn factor(
-    text: &[u8],
-    names: &[u64; 12],
-    at: usize,
-    d: usize,
-    m: Registers,
-    buf: &mut [u8; 512],
-    points: bool,
-) -> Step
-    requires { at ≤ length text.now }
-    ensures { ReadsPart (body points) (body points) (λ s. factor d ∷ s) text.now at (at + 1)
-        (mem m names.now buf.old) result names.now buf.new }
-{
-    let t = token_at(text, at, points);
-    let z = t.end;
-    let p = Place {
-        start: t.start,
-        end: t.end,
-    };
-    if t.kind == NUMBER_KIND {
-        return Step::Go(z, emit_literal(text, buf, m, p));
-    }
-    if t.kind == INDEX_KIND {
-        return Step::Go(z, emit_instance(buf, m));
-    }
-    if t.kind == NAME_KIND {
-        let n = named(text, names, Role::Note, p, m);
-        return reference(text, names, z, p, n, buf, points);
-    }
-    let e = deeper(d);
-    if t.kind == b'(' {
-        return parens(text, names, z, e, entered(e, m), buf, points);
-    }
-    if t.kind == ABS_KIND {
-        return absolute(text, names, z, e, entered(e, m), buf, points);
-    }
-    if t.kind == DECIMAL_KIND {
-        return Step::Go(z, emit_literal(text, buf, m, p));
-    }
-    Step::No(t.start)
 }

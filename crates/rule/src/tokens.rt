@@ -1,12 +1,13 @@
 // Tokens: words, numbers and marks, by longest match.
-ghost use Rattle.std.specs.Prelude.{◌≡◌, cond, ◌+◌, ◌≤◌, length, drop, get_or};
+ghost use Rattle.std.specs.Option.{unwrap_or};
+ghost use Rattle.std.specs.Prelude.{◌≡◌, ℕ, cond, ◌+◌, ◌≤◌, length};
 ghost use Rattle.rule.specs.Class.{span};
-ghost use Rattle.rule.specs.Token.{same, word_kind, longest_mark, mark_width, fraction, digits_kind, token_at, clause_at};
+ghost use Rattle.rule.specs.Token.{word_kind, longest_mark, mark_width, fraction, token_here, token_at, clause_at};
 
 use crate::Token;
 use crate::classes::{BLANK, DIGIT, LETTER, MARK, class_of};
 
-// Kinds of tokens; a mark of one byte has that byte for its kind.
+// Kinds of tokens; a mark of one byte has that byte for its kind. They stay numbers: `Quoted` and the theorems on it say so.
 pub const END_KIND: u8 = 0;
 
 pub const NAME_KIND: u8 = 1;
@@ -40,186 +41,120 @@ pub const AT_LEAST_KIND: u8 = 135;
 
 const FOREIGN_KIND: u8 = 255;
 
-// Where the run of bytes of one class that begins at `at` ends.
-fn run_end(text: &[u8], at: usize, class: u8) -> usize
-    requires { at ≤ length text.now }
-    ensures { (result ≡ at + span class (drop at text.now)) × (result ≤ length text.now) }
+// How many bytes at the front have the class.
+fn run(bytes: &[u8], class: u8) -> usize
+    ensures value { result ≡ span class bytes.now }
+    ensures within { result ≤ length bytes.now }
 {
-    let mut i = at;
-    while i < text.len() {
-        if class_of(text[i]) != class {
-            return i;
-        }
-        i += 1;
-    }
-    i
-}
-
-// The byte at `at`, or 0 past the end.
-fn byte_at(text: &[u8], at: usize) -> u8
-    ensures { result ≡ get_or text.now at 0 }
-{
-    if at < text.len() { text[at] } else { 0 }
-}
-
-// Whether two words have the same letters.
-fn same_bytes(a: &[u8], b: &[u8]) -> bool
-    ensures { result ≡ same a.now b.now }
-{
-    if a.len() != b.len() {
-        return false;
-    }
-    let mut i = 0;
-    while i < a.len() {
-        if a[i] != b[i] {
-            return false;
-        }
-        i += 1;
-    }
-    true
+    bytes.iter().take_while(|b| class_of(**b) == class).count()
 }
 
 // The kind of a word: one of the four reserved ones, or a name.
+#[tactic(auto, using(crate::proofs::TokenWords::word_kinds))]
 fn word_kind(word: &[u8]) -> u8
     ensures { result ≡ word_kind word.now }
 {
-    if same_bytes(word, b"events") {
-        return EVENTS_KIND;
+    match word {
+        b"events" => EVENTS_KIND,
+        b"notes" => NOTES_KIND,
+        b"i" => INDEX_KIND,
+        b"abs" => ABS_KIND,
+        _ => NAME_KIND,
     }
-    if same_bytes(word, b"notes") {
-        return NOTES_KIND;
-    }
-    if same_bytes(word, b"i") {
-        return INDEX_KIND;
-    }
-    if same_bytes(word, b"abs") {
-        return ABS_KIND;
-    }
-    NAME_KIND
 }
 
-// The kind of the mark that begins with `b`, with `n` after it: the longest match.
-fn mark_of(b: u8, n: u8) -> u8
-    ensures { result ≡ longest_mark b n }
+// The kind of the mark that begins with `b`, with `n` after it, if that is not the end: the longest match.
+#[tactic(auto, using(std::proofs::lemmas::Bool::Decides::nat_tests), unfolding(crate::specs::Token::longest_mark))]
+fn mark_of(b: u8, n: Option<u8>) -> u8
+    ensures { result ≡ longest_mark b (unwrap_or n 0) }
 {
-    match b {
-        b'-' => if n == b'>' { ARROW_KIND } else { b },
-        b'|' => if n == b'|' { BARS_KIND } else { FOREIGN_KIND },
-        b'&' => if n == b'&' {
-            AMPERSANDS_KIND
-        } else {
-            FOREIGN_KIND
-        },
-        b'!' => if n == b'=' { UNEQUAL_KIND } else { b },
-        b'<' => if n == b'=' { AT_MOST_KIND } else { b },
-        b'>' => if n == b'=' { AT_LEAST_KIND } else { b },
+    match (b, n) {
+        (b'-', Some(b'>')) => ARROW_KIND,
+        (b'|', Some(b'|')) => BARS_KIND,
+        (b'&', Some(b'&')) => AMPERSANDS_KIND,
+        (b'!', Some(b'=')) => UNEQUAL_KIND,
+        (b'<', Some(b'=')) => AT_MOST_KIND,
+        (b'>', Some(b'=')) => AT_LEAST_KIND,
+        (b'|' | b'&', _) => FOREIGN_KIND,
         _ => if class_of(b) == MARK { b } else { FOREIGN_KIND },
     }
 }
 
 // How many bytes a mark has.
+#[tactic(auto, using(std::proofs::lemmas::Bool::Decides::nat_tests), unfolding(crate::specs::Token::mark_width))]
 fn mark_width(kind: u8) -> usize
     ensures { result ≡ mark_width kind }
 {
-    if kind < ARROW_KIND {
-        return 1;
+    match kind {
+        ARROW_KIND..=AT_LEAST_KIND => 2,
+        _ => 1,
     }
-    if kind <= AT_LEAST_KIND { 2 } else { 1 }
 }
 
-// Where a point and digits after a run of digits end; `at` where there are none.
-fn fraction_end(text: &[u8], at: usize) -> usize
-    requires { at ≤ length text.now }
-    ensures { (result ≡ at + fraction (drop at text.now)) × (result ≤ length text.now) }
+// How many bytes a point and digits after a run of digits have; 0 where there are none, or no points are taken.
+#[tactic(auto, using(crate::proofs::TokenFractions::fractions))]
+fn fraction(bytes: &[u8], points: bool) -> usize
+    ensures value { result ≡ cond points (fraction bytes.now) 0 }
+    ensures within { result ≤ length bytes.now }
 {
-    if text.len() <= at {
-        return at;
+    match bytes {
+        [b'.', rest @ ..] if points => match run(rest, DIGIT) {
+            0 => 0,
+            n => n + 1,
+        },
+        _ => 0,
     }
-    if text[at] != b'.' {
-        return at;
-    }
-    let e = run_end(text, at + 1, DIGIT);
-    if e == at + 1 { at } else { e }
 }
 
-// The same, where points are taken; else `at`.
-fn point_end(text: &[u8], at: usize, points: bool) -> usize
-    requires { at ≤ length text.now }
-    ensures { (result ≡ at + cond points (fraction (drop at text.now)) 0)
-        × (result ≤ length text.now) }
+// The kind of the token that these bytes begin with, and how many of them it has; of no bytes it is the end.
+#[tactic(auto, using(crate::proofs::TokenNext::nexts), unfolding(crate::specs::Token::token_kind, crate::specs::Token::width_of))]
+fn kind_and_width(bytes: &[u8], points: bool) -> (u8, usize)
+    ensures { (s : ℕ) → token_here points s bytes.now
+        ≡ record { kind = result.0; start = s; end = s + result.1 } }
 {
-    if points { fraction_end(text, at) } else { at }
-}
-
-// The kind of a run of digits with so many bytes of a point and digits after it.
-fn digits_kind(width: usize) -> u8
-    ensures { result ≡ digits_kind width }
-{
-    if width == 0 {
-        NUMBER_KIND
-    } else {
-        DECIMAL_KIND
+    let [b, rest @ ..] = bytes else {
+        return (END_KIND, 0);
+    };
+    match class_of(*b) {
+        LETTER => {
+            let n = 1 + run(rest, LETTER);
+            (word_kind(&bytes[..n]), n)
+        }
+        DIGIT => {
+            let n = run(rest, DIGIT);
+            let w = fraction(&rest[n..], points);
+            (if w == 0 { NUMBER_KIND } else { DECIMAL_KIND }, 1 + n + w)
+        }
+        MARK => {
+            let kind = mark_of(*b, rest.first().copied());
+            (kind, mark_width(kind))
+        }
+        _ => (FOREIGN_KIND, 1),
     }
 }
 
 // The next token from `at` on, where digits, a point and digits are one if points are taken; past the last one, the end.
+#[tactic(auto, using(std::proofs::lemmas::List::take_rest), unfolding(crate::specs::Token::token_at))]
 pub fn token_at(text: &[u8], at: usize, points: bool) -> Token
     requires { at ≤ length text.now }
     ensures { result ≡ token_at points text.now at }
 {
-    let s = run_end(text, at, BLANK);
-    if text.len() <= s {
-        return Token {
-            kind: END_KIND,
-            start: s,
-            end: s,
-        };
-    }
-    let b = text[s];
-    let c = class_of(b);
-    if c == LETTER {
-        let e = run_end(text, s + 1, LETTER);
-        return Token {
-            kind: word_kind(&text[s..e]),
-            start: s,
-            end: e,
-        };
-    }
-    if c == DIGIT {
-        let e = run_end(text, s + 1, DIGIT);
-        let f = point_end(text, e, points);
-        return Token {
-            kind: digits_kind(f - e),
-            start: s,
-            end: f,
-        };
-    }
-    if c == MARK {
-        let k = mark_of(b, byte_at(text, s + 1));
-        return Token {
-            kind: k,
-            start: s,
-            end: s + mark_width(k),
-        };
-    }
+    let start = at + run(&text[at..], BLANK);
+    let (kind, width) = kind_and_width(&text[start..], points);
     Token {
-        kind: FOREIGN_KIND,
-        start: s,
-        end: s + 1,
+        kind,
+        start,
+        end: start + width,
     }
 }
 
 // Whether the word of the clause stands there: `scale`, and a number after it.
+#[tactic(auto, using(crate::proofs::TokenLists::clauses), unfolding(crate::specs::Token::clause_at))]
 pub fn clause_at(text: &[u8], at: usize) -> bool
     requires { at ≤ length text.now }
     ensures { result ≡ clause_at text.now at }
 {
     let t = token_at(text, at, false);
-    let s = t.start;
-    let e = t.end;
-    if same_bytes(&text[s..e], b"scale") {
-        let n = token_at(text, e, false);
-        return n.kind == NUMBER_KIND;
-    }
-    false
+    let n = token_at(text, t.end, false);
+    &text[t.start..t.end] == b"scale".as_slice() && n.kind == NUMBER_KIND
 }

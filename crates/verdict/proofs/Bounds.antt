@@ -15,20 +15,21 @@ use Rattle.rule.specs.Frames.{Source, literal, instance, reference, Arithmetic, 
 use Rattle.rule.specs.Decimals.{Term, term, greater, brought, left_side, right_side}
 use Rattle.rule.specs.Tree.{Reference, Sum, grown, magnitude, decimals}
 use Rattle.rule.specs.Tree as tree
-use Rattle.rule.specs.Order.{step_by, Prefix, viable, stuck, order_at, order_next, prefix_at, InOrder}
+use Rattle.std.specs.Prelude.{Option, None}
+use Rattle.rule.specs.Order.{good, step_by, Prefix, viable, stuck, order_at, order_next, prefix_at, InOrder}
 use Rattle.rule.specs.Sizes.{Sizes, fits, over, pushed, topped, sides_fit, compared, operand_size, sizes_after, size_next, size_at, is_fits, sizes_fit}
 use Rattle.rule.specs.Build.{top1, top2}
 use Rattle.rule.specs.Stack.{Bounded, all_decimals}
 use Rattle.rule.specs.declared.Frame.{Frame}
 use Rattle.rule.specs.declared.order.Shape.{Shape}
-use Rattle.rule.specs.declared.order.Shape.TheVariants.{Good, Bad}
 use Rattle.rule.proofs.Laws.{Live, sums_of, conds_of, live, BoundedIn, sizes_in, fits-at, sizes-length, few-decimals}
 use Rattle.verdict.specs.Found.{instance_limit, Given}
 use Rattle.verdict.specs.Kleene.{not_k, connected}
 use Rattle.verdict.specs.Value.{times_z, computed, size_of, note_of, value_s}
-use Rattle.verdict.specs.Pass.{Pass, pass_by, operand_by, pass_at}
+use Rattle.verdict.specs.Pass.{pass_by, operand_by, pass_at}
 use Rattle.verdict.specs.Stacks.{Small, SmallSides, SidesFor}
 use Rattle.verdict.specs.declared.Truth.{Truth}
+use Rattle.verdict.specs.declared.evaluate.Pass.{Pass}
 use Rattle.verdict.proofs.Built.{length-one, length_two}
 use Rattle.verdict.proofs.Numbers.{nat_abs_times, add-within, sub_within, mul_within}
 
@@ -237,7 +238,7 @@ abbrev SameC : Prefix → List Truth → Type 0
 SameC (stuck p) cs = Unit {0}
 SameC (viable c k) cs = length cs ≡ c
 
-same_cond : (i : ℕ) (t : Bool) (h : Shape) (cs : List Truth) → (T t → SameC (order_at i h) cs) → SameC (order_at i (cond t h Bad)) cs
+same_cond : (i : ℕ) (t : Bool) (h : Option Shape) (cs : List Truth) → (T t → SameC (order_at i h) cs) → SameC (order_at i (cond t h None)) cs
 same_cond i true h cs f = f tt
 same_cond i false h cs f = tt
 
@@ -248,15 +249,15 @@ module _ (scale : ℕ) (x : Frame) (i mark : ℕ) (note : ℤ) (p : Pass) (at c 
   same_operand reference = h
 
   same_by : (o : Kind) → SameC (order_at at (step_by o c k)) (pass_by scale o x i mark note p).conds
-  same_by (operand s) = same_cond at (leb 0 k) (Good c (k - 0 + 1)) (operand_by scale s x i mark note p).conds (λ t. same_operand s)
-  same_by (arithmetic o) = same_cond at (leb 2 k) (Good c (k - 2 + 1)) p.conds (λ t. h)
-  same_by absolute = same_cond at (leb 1 k) (Good c (k - 1 + 1)) p.conds (λ t. h)
-  same_by (relation r) = same_cond at (eqb k 2) (Good (c + 1) 0) (pass_by scale (relation r) x i mark note p).conds (λ t. omega arith)
+  same_by (operand s) = same_cond at (leb 0 k) (good c (k - 0 + 1)) (operand_by scale s x i mark note p).conds (λ t. same_operand s)
+  same_by (arithmetic o) = same_cond at (leb 2 k) (good c (k - 2 + 1)) p.conds (λ t. h)
+  same_by absolute = same_cond at (leb 1 k) (good c (k - 1 + 1)) p.conds (λ t. h)
+  same_by (relation r) = same_cond at (eqb k 2) (good (c + 1) 0) (pass_by scale (relation r) x i mark note p).conds (λ t. omega arith)
   same_by negation =
-      same_cond at (leb 1 c && eqb k 0) (Good (c - 1 + 1) 0) (top1 not_k p.conds)
+      same_cond at (leb 1 c && eqb k 0) (good (c - 1 + 1) 0) (top1 not_k p.conds)
       (λ t. length-one not_k p.conds c (leb→le 1 c (and_l (leb 1 c) (eqb k 0) t)) h)
   same_by (connective j) =
-      same_cond at (leb 2 c && eqb k 0) (Good (c - 2 + 1) 0) (top2 (connected j) p.conds)
+      same_cond at (leb 2 c && eqb k 0) (good (c - 2 + 1) 0) (top2 (connected j) p.conds)
       (λ t. length_two (connected j) p.conds c (leb→le 2 c (and_l (leb 2 c) (eqb k 0) t)) h)
   same_by none = tt
 

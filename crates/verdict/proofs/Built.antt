@@ -9,17 +9,17 @@ use lib.ListN.{length}
 use Rattle.numbers.proofs.Bools.{and_l, and_r}
 use Rattle.rule.specs.Frames.{Relation, Kind, operand, absolute, negation, none, kind_of, frame_at, fields_of}
 use Rattle.rule.specs.Tree.{Sum, arithmetic, abs, Cond, connective}
+use Rattle.std.specs.Prelude.{Option, None}
 use Rattle.rule.specs.Order.{step_by, Prefix, viable, stuck, order_at, order_next, prefix_at}
 use Rattle.rule.specs.Build.{Trees, trees, top1, top2, related, built_by, built, trees_at}
 use Rattle.rule.specs.declared.Frame.{Frame}
 use Rattle.rule.specs.declared.order.Shape.{Shape}
-use Rattle.rule.specs.declared.order.Shape.TheVariants.{Bad}
 
 abbrev pub AsMany : Prefix → Trees → Type 0
 AsMany (stuck p) z = Unit {0}
 AsMany (viable c k) (trees cs ss) = (length cs ≡ c) × (length ss ≡ k)
 
-many-cond : (i : ℕ) (t : Bool) (h : Shape) (z : Trees) → (T t → AsMany (order_at i h) z) → AsMany (order_at i (cond t h Bad)) z
+many-cond : (i : ℕ) (t : Bool) (h : Option Shape) (z : Trees) → (T t → AsMany (order_at i h) z) → AsMany (order_at i (cond t h None)) z
 many-cond i true h z f = f tt
 many-cond i false h z f = tt
 

@@ -17,7 +17,7 @@ use Rattle.verdict.specs.Settled.{settled, judgement}
 use Rattle.verdict.specs.Later.{Gains, with_found, GainsIn, Sharpens, MoreLines}
 use Rattle.verdict.specs.Marks.{TellAll}
 use Rattle.verdict.specs.Pass.{judgement_of}
-use Rattle.verdict.specs.declared.Judgement.TheVariants.{Unsettled}
+use Rattle.std.specs.Prelude.{None}
 use Rattle.verdict.proofs.Own
 use Rattle.verdict.proofs.Stays
 use Rattle.verdict.proofs.Bounds
@@ -54,7 +54,7 @@ pub lines_gain : (lines lines' : ℕ → List (List ℤ)) → MoreLines lines li
 lines_gain = Stays.lines_gain
 
 -- so more accepted lines leave what is said of an instance that is settled
-pub lines_stay : (i : ℕ) (lines lines' : ℕ → List (List ℤ)) (t : RuleTree) → MoreLines lines lines' → (judgement (given_in lines i) t ≡ Unsettled → ⊥)
+pub lines_stay : (i : ℕ) (lines lines' : ℕ → List (List ℤ)) (t : RuleTree) → MoreLines lines lines' → (judgement (given_in lines i) t ≡ None → ⊥)
     → judgement (given_in lines' i) t ≡ judgement (given_in lines i) t
 lines_stay = Stays.lines_stay
 

@@ -23,8 +23,9 @@ use Rattle.verdict.specs.Kleene.{not_k, connected, truth}
 use Rattle.verdict.specs.Value.{computed, size_of, note_of, compared, value_s, value_c}
 use Rattle.verdict.specs.Settled.{judged_by}
 use Rattle.verdict.specs.Marks.{present_mark, pending_mark, Tells, TellAll}
-use Rattle.verdict.specs.Pass.{Pass, relation_truth, operand_by, pass_by, pass_at, first_t, body_judgement}
+use Rattle.verdict.specs.Pass.{relation_truth, operand_by, pass_by, pass_at, first_t, body_judgement}
 use Rattle.verdict.specs.declared.Truth.{Truth}
+use Rattle.verdict.specs.declared.evaluate.Pass.{Pass}
 use Rattle.verdict.specs.declared.Truth.TheVariants.{Unknown}
 use Rattle.verdict.proofs.Own.{or_left, or_right}
 use Rattle.verdict.proofs.Built.{AsMany, as_many}

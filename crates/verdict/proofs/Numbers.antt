@@ -1,20 +1,15 @@
 -- Laws of the integers: the size of a sum and of a product, what fits 64 bits, what the machine compares. Assumes nothing.
-use mathlib.Core.Path.{◌≡◌, refl, sym, ap, ◌∙◌}
+use mathlib.Core.Path.{◌≡◌, refl, sym, ap}
 use mathlib.Core.Bool.{Bool, true, false, cond}
-use Prim.Native.Nat.{ℕ, zero, suc, ◌+◌, ◌-◌, ◌*◌, ◌^◌, ◌≤◌, ◌<◌, zero-le}
-use native.Mathlib.Nat.{le_refl, mul-le-mul, mul-le-mul_right, mul-one, zero-mul, pow-le-pow_right}
+use Prim.Native.Nat.{ℕ, zero, suc, ◌+◌, ◌-◌, ◌*◌, ◌^◌, ◌≤◌, ◌<◌}
+use native.Mathlib.Nat.{le_refl, mul-le-mul, mul-le-mul_right, zero-mul, pow-le-pow_right}
 use native.Mathlib.Omega.{arith}
-use native.Mathlib.Decide.{ℕ_discrete}
-use lib.Dec.{ltb, eqb}
-use borrow.Author.Tests.{eq-eqb, ne_eqb, le-leb}
+use lib.Dec.{ltb}
 use lib.IntN.{ℤ, pos, negsuc, neg_ℤ, nat_abs, sub_ℕ, ◌+ℤ◌, ◌-ℤ◌, ◌*ℤ◌}
-use lib.Signed.{le_z}
 use mir.Syntax.{w64}
-use mir.Val.{SFits, of_z}
-use Rattle.numbers.proofs.Bools.{true-false}
+use mir.Val.{SFits}
 use Rattle.numbers.proofs.Ints.{mag_nat_abs, nat_abs_neg, nat_abs_zero}
 use Rattle.rule.specs.Limits.{magnitude_limit}
-use Rattle.verdict.specs.Value.{eq_z}
 
 nat_abs_mul : (a b : ℤ) → nat_abs (a *ℤ b) ≡ nat_abs a * nat_abs b
 nat_abs_mul (pos a) (pos b) = refl
@@ -52,26 +47,7 @@ module _ (a b : ℤ) (m n : ℕ) (h : nat_abs a ≤ m) (k : nat_abs b ≤ n) whe
 pub small-fits : (z : ℤ) → nat_abs z ≤ magnitude_limit → SFits w64 z
 small-fits z h = record { sfits = omega (arith, mag_nat_abs z) }
 
-pub negative : (z : ℤ) → le_z (pos 0) z ≡ false → neg_ℤ z ≡ pos (nat_abs z)
-negative (pos n) e = absurd (true-false (sym (le-leb 0 n zero-le) ∙ e))
-negative (negsuc n) e = refl
-
--- ---- equal numbers have equal bits
-same_test : (m n p q : ℕ) → (m ≡ n → p ≡ q) → (p ≡ q → m ≡ n) → eqb m n ≡ eqb p q
-same_test m n p q f g = elim (ℕ_discrete m n) [ yes e ↦ eq-eqb m n e ∙ sym (eq-eqb p q (f e)) | no k ↦ ne_eqb m n k ∙ sym (ne_eqb p q (λ e. k (g e))) ]
-
-pub equal_bits : (a b : ℤ) → SFits w64 a → SFits w64 b → eqb (of_z w64 a) (of_z w64 b) ≡ eq_z a b
-equal_bits (pos a) (pos b) f g = refl
-equal_bits (pos a) (negsuc b) f g = ne_eqb a (2 ^ 64 - suc b) (λ e. omega (arith, f.sfits, g.sfits))
-equal_bits (negsuc a) (pos b) f g = ne_eqb (2 ^ 64 - suc a) b (λ e. omega (arith, f.sfits, g.sfits))
-equal_bits (negsuc a) (negsuc b) f g =
-    same_test (2 ^ 64 - suc a) (2 ^ 64 - suc b) a b (λ e. omega (arith, f.sfits, g.sfits)) (λ e. omega arith)
-
 -- ---- powers of ten
-pub times-one : (a : ℤ) → a *ℤ pos 1 ≡ a
-times-one (pos n) = ap pos (mul-one n)
-times-one (negsuc n) = rw (mul-one (suc n))
-
 pub ten-fits : (e : ℕ) → e ≤ 18 → 10 ^ e ≤ 10 ^ 18
 ten-fits e h = pow-le-pow_right (omega arith) h
 

@@ -12,11 +12,11 @@ use Rattle.numbers.proofs.Bools.{true-false}
 use Rattle.verdict.specs.Found.{Found, Given, is_missing, is_pending, is_present, some_of}
 use Rattle.verdict.specs.Kleene.{not_k, connected, truth}
 use Rattle.verdict.specs.Value.{computed, size_of, note_of, compared, value_s, value_c, value}
-use Rattle.verdict.specs.Settled.{settled_by, verdict_of, verdict, settled, judgement}
+use Rattle.verdict.specs.Settled.{settled_by, verdict_of, settled, judgement}
 use Rattle.verdict.specs.Later.{with_found}
 use Rattle.verdict.specs.declared.Truth.{Truth}
 use Rattle.verdict.specs.declared.Truth.TheVariants.{Unknown}
-use Rattle.verdict.specs.declared.Judgement.TheVariants.{Unsettled}
+use Rattle.std.specs.Prelude.{Some, None}
 
 -- both say the same of each of the references
 abbrev pub SameOn : List Reference → (Reference → Found) → (Reference → Found) → Type 0
@@ -61,7 +61,7 @@ module _ (g : Given) (found : Reference → Found) where
 
   pub judgement-own : (t : RuleTree) → SameOn (references t) g.found found → judgement g t ≡ judgement (with_found g found) t
   judgement-own t h =
-      ap₂ (λ (b : Bool) (v : Truth). cond b (verdict (verdict_of v)) Unsettled) (settled-own t h) (value-own t h)
+      ap₂ (λ (b : Bool) (v : Truth). cond b (Some (verdict_of v)) None) (settled-own t h) (value-own t h)
 
 -- where none is so, each is not
 pub or_left : (a b : Bool) → (a || b) ≡ false → a ≡ false

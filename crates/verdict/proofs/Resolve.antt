@@ -6,24 +6,12 @@ use Prim.Native.Nat.{ℕ, suc, ◌+◌, ◌*◌, ◌-◌, ◌≤◌, ◌<◌}
 use native.Mathlib.Omega.{arith}
 use lib.Dec.{ltb}
 use lib.IntN.{ℤ, pos, negsuc, nat_abs, ◌+ℤ◌}
-use lib.Signed.{lt_z}
 use borrow.Author.Tests.{ltb-true, lt-ltb, le-ltb}
-use Rattle.numbers.proofs.Bools.{true-false}
 use Rattle.rule.specs.Tree.{Reference}
 use Rattle.verdict.specs.Found.{meant_by, present, pending, Lookup, found_at, found_by, resolve}
 use Rattle.verdict.specs.Later.{Gains}
-use Rattle.verdict.specs.declared.Meant.{Meant}
-use Rattle.verdict.specs.declared.Meant.TheVariants.{Void, At}
+use Rattle.std.specs.Prelude.{Option, Some, None}
 use Rattle.verdict.specs.declared.Occurrence.{Occurrence}
-
--- ---- the occurrence that a number means
-pub meant-void : (z : ℤ) → lt_z z (pos 0) ≡ true → Void ≡ meant_by z
-meant-void (pos n) e = absurd (let h : n < 0 = ltb-true n 0 e in omega arith)
-meant-void (negsuc n) e = refl
-
-pub meant-at : (z : ℤ) → lt_z z (pos 0) ≡ false → At (record { 0 = nat_abs z }) ≡ meant_by z
-meant-at (pos n) e = refl
-meant-at (negsuc n) e = absurd (true-false e)
 
 -- ---- an occurrence in two lookups, with the counts c and d and the values y and z
 at_same : (c d : ℕ) (y z : ℤ) (k : ℕ) → c ≡ d → (k < d → y ≡ z) → found_at c y k ≡ found_at d z k
@@ -43,17 +31,17 @@ at-gains c d y z k h = go (ltb k c) refl
 -- ---- a reference in two lookups
 module _ (l l' : Lookup) (e n : ℕ) where
   -- the same where as many lines are accepted, with the same note at the occurrence that is meant
-  pub found-same : l.count e ≡ l'.count e → (m : Meant)
-      → ((k : Occurrence) → m ≡ At k → k.0 < l'.count e → l.note_at e n k.0 ≡ l'.note_at e n k.0)
+  pub found-same : l.count e ≡ l'.count e → (m : Option Occurrence)
+      → ((k : Occurrence) → m ≡ Some k → k.0 < l'.count e → l.note_at e n k.0 ≡ l'.note_at e n k.0)
       → found_by l e n m ≡ found_by l' e n m
-  found-same c Void h = refl
-  found-same c (At k) h = at_same (l.count e) (l'.count e) (l.note_at e n k.0) (l'.note_at e n k.0) k.0 c (h k refl)
+  found-same c None h = refl
+  found-same c (Some k) h = at_same (l.count e) (l'.count e) (l.note_at e n k.0) (l'.note_at e n k.0) k.0 c (h k refl)
 
   -- the same or it was pending, where the lines of one are among the other's
-  pub found-gains : ((k : ℕ) → k < l.count e → (k < l'.count e) × (l.note_at e n k ≡ l'.note_at e n k)) → (m : Meant)
+  pub found-gains : ((k : ℕ) → k < l.count e → (k < l'.count e) × (l.note_at e n k ≡ l'.note_at e n k)) → (m : Option Occurrence)
       → Gains (found_by l e n m) (found_by l' e n m)
-  found-gains h Void = inl refl
-  found-gains h (At k) = at-gains (l.count e) (l'.count e) (l.note_at e n k.0) (l'.note_at e n k.0) k.0 (h k.0)
+  found-gains h None = inl refl
+  found-gains h (Some k) = at-gains (l.count e) (l'.count e) (l.note_at e n k.0) (l'.note_at e n k.0) k.0 (h k.0)
 
 -- ---- an instance so late that its occurrence has not come
 late-at : (l : Lookup) (e n : ℕ) (z : ℤ) (a : ℕ) → l.count e + nat_abs z ≤ a → found_by l e n (meant_by (pos a +ℤ z)) ≡ pending

@@ -15,11 +15,11 @@ use Rattle.numbers.proofs.Bools.{true-false}
 use Rattle.verdict.specs.Found.{meant, Found, pending, by_lists, found_in, Given, given_in, is_missing, is_pending, is_present, some_of}
 use Rattle.verdict.specs.Kleene.{truth, is_known}
 use Rattle.verdict.specs.Value.{compared, value_s, value_c, value}
-use Rattle.verdict.specs.Settled.{settled_by, verdict_of, verdict, settled, judgement}
+use Rattle.verdict.specs.Settled.{settled_by, verdict_of, settled, judgement}
 use Rattle.verdict.specs.Later.{Gains, with_found, GainsIn, Sharpens, MoreLines}
 use Rattle.verdict.specs.declared.Truth.{Truth}
 use Rattle.verdict.specs.declared.Truth.TheVariants.{Unknown}
-use Rattle.verdict.specs.declared.Judgement.TheVariants as judgements
+use Rattle.std.specs.Prelude.{Some, None}
 use Rattle.verdict.proofs.Tables.{not_sharpens, connected_sharpens}
 use Rattle.verdict.proofs.Resolve.{found-gains}
 use Rattle.verdict.proofs.Own.{SameOn, cond-own, value-own, settled-own, none_so}
@@ -92,12 +92,12 @@ module _ (g : Given) (found' : Reference → Found) where
     pub settled-stays : settled g t ≡ true → (settled (with_found g found') t ≡ true) × (value (with_found g found') t ≡ value g t)
     settled-stays h = both_stay (some_of is_pending g.found (references t)) (some_of is_present g.found (references t)) refl refl h
 
-    judged : (b : Bool) → settled g t ≡ b → (cond b (verdict (verdict_of (value g t))) judgements.Unsettled ≡ judgements.Unsettled → ⊥)
-        → judgement (with_found g found') t ≡ cond b (verdict (verdict_of (value g t))) judgements.Unsettled
-    judged true e h = let q = settled-stays e in ap₂ (λ (b : Bool) (v : Truth). cond b (verdict (verdict_of v)) judgements.Unsettled) q.0 q.1
+    judged : (b : Bool) → settled g t ≡ b → (cond b (Some (verdict_of (value g t))) None ≡ None → ⊥)
+        → judgement (with_found g found') t ≡ cond b (Some (verdict_of (value g t))) None
+    judged true e h = let q = settled-stays e in ap₂ (λ (b : Bool) (v : Truth). cond b (Some (verdict_of v)) None) q.0 q.1
     judged false e h = absurd (h refl)
 
-    pub judgement-stays : (judgement g t ≡ judgements.Unsettled → ⊥) → judgement (with_found g found') t ≡ judgement g t
+    pub judgement-stays : (judgement g t ≡ None → ⊥) → judgement (with_found g found') t ≡ judgement g t
     judgement-stays h = judged (settled g t) refl h
 
 -- ---- lines
@@ -114,6 +114,6 @@ lines_gain lines lines' m i r =
     found-gains (by_lists lines) (by_lists lines') r.event r.note
     (more_still (lines r.event) (lines' r.event) q.0 q.1 r.note) (meant i r)
 
-pub lines_stay : (i : ℕ) (lines lines' : ℕ → List (List ℤ)) (t : RuleTree) → MoreLines lines lines' → (judgement (given_in lines i) t ≡ judgements.Unsettled → ⊥)
+pub lines_stay : (i : ℕ) (lines lines' : ℕ → List (List ℤ)) (t : RuleTree) → MoreLines lines lines' → (judgement (given_in lines i) t ≡ None → ⊥)
     → judgement (given_in lines' i) t ≡ judgement (given_in lines i) t
 lines_stay i lines lines' t m = judgement-stays (given_in lines i) (found_in lines' i) t (λ r w. lines_gain lines lines' m i r)

@@ -67,24 +67,3 @@ pub connected_sharpens : (j : Connective) (a a' b b' : Truth) → Sharpens a a' 
 connected_sharpens and a a' b b' p q = table_sharpens and_k and-unknown and_comm a a' b b' p q
 connected_sharpens or a a' b b' p q = table_sharpens or_k or-unknown or_comm a a' b b' p q
 connected_sharpens implies a a' b b' p q = table_sharpens or_k or-unknown or_comm (not_k a) (not_k a') b b' (not_sharpens a a' p) q
-
--- ---- a known side
-pub true-and : (q : Truth) → and_k True q ≡ q
-true-and True = refl
-true-and False = refl
-true-and Unknown = refl
-
-pub false-and : (q : Truth) → and_k False q ≡ False
-false-and True = refl
-false-and False = refl
-false-and Unknown = refl
-
-pub true-or : (q : Truth) → or_k True q ≡ True
-true-or True = refl
-true-or False = refl
-true-or Unknown = refl
-
-pub false-or : (q : Truth) → or_k False q ≡ q
-false-or True = refl
-false-or False = refl
-false-or Unknown = refl

@@ -1,10 +1,9 @@
 -- References at an instance: which occurrence each means, and what is found there.
 -- From document 01, "Verdicts". Assumes nothing: definitions.
 use Rattle.std.specs.Prelude.{Bool, true, false, cond, ◌||◌, List, [], ◌∷◌, ℕ, ◌*◌, ltb, ℤ, pos, negsuc}
-use Rattle.std.specs.Prelude.{◌+ℤ◌, length, get_or}
+use Rattle.std.specs.Prelude.{◌+ℤ◌, length, get_or, Option, Some, None}
 use Rattle.rule.specs.Tree.{Reference}
-use Rattle.verdict.specs.declared.Meant.{Meant}
-use Rattle.verdict.specs.declared.Meant.TheVariants.{Void, At}
+use Rattle.verdict.specs.declared.Occurrence.{Occurrence}
 
 -- 12: "p over 1,009,999" is refused, so no instance number is larger
 abbrev pub instance_limit : ℕ
@@ -16,12 +15,12 @@ abbrev pub occurrence : ℕ → ℤ → ℕ → ℤ
 occurrence factor offset i = pos (factor * i) +ℤ offset
 
 -- "It is void below 0": the code's answer for such a number
-abbrev pub meant_by : ℤ → Meant
-meant_by (negsuc k) = Void
-meant_by (pos k) = At (record { 0 = k })
+abbrev pub meant_by : ℤ → Option Occurrence
+meant_by (negsuc k) = None
+meant_by (pos k) = Some (record { 0 = k })
 
 -- "A reference of instance i means occurrence factor × i + offset. It is void below 0": the occurrence that it means, if any
-abbrev pub meant : ℕ → Reference → Meant
+abbrev pub meant : ℕ → Reference → Option Occurrence
 meant i r = meant_by (occurrence r.factor r.offset i)
 
 -- ---- what is found there
@@ -41,9 +40,9 @@ abbrev pub found_at : ℕ → ℤ → ℕ → Found
 found_at c z k = cond (ltb k c) (present z) pending
 
 -- "It is void below 0, pending if not yet accepted, else present": note n of event e, at the occurrence that is meant
-abbrev pub found_by : Lookup → ℕ → ℕ → Meant → Found
-found_by l e n Void = void
-found_by l e n (At k) = found_at (l.count e) (l.note_at e n k.0) k.0
+abbrev pub found_by : Lookup → ℕ → ℕ → Option Occurrence → Found
+found_by l e n None = void
+found_by l e n (Some k) = found_at (l.count e) (l.note_at e n k.0) k.0
 
 -- "A reference of instance i": what it is, by a lookup
 abbrev pub resolve : Lookup → ℕ → Reference → Found

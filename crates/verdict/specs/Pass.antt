@@ -1,6 +1,7 @@
 -- The evaluator's pass over the frames: what its contract says for every array of marks and of notes.
 -- That it is the value of the rule's tree is proved (Main, judge_accepted). Assumes nothing: definitions.
-use Rattle.std.specs.Prelude.{Bool, false, cond, not, ◌||◌, List, [], ◌∷◌, ℕ, zero, suc, eqb, ℤ, pos, get_or, drop}
+use Rattle.std.specs.Prelude.{Bool, false, cond, not, ◌||◌, List, [], ◌∷◌, ℕ, zero, suc, eqb, ℤ, pos}
+use Rattle.std.specs.Prelude.{get_or, drop, Option}
 use Rattle.rule.specs.Frames.{Source, literal, instance, reference, Relation, kind_of, frame_at, frame_count}
 use Rattle.rule.specs.Frames.{Kind, operand, arithmetic, absolute, relation, negation, connective, none}
 use Rattle.rule.specs.Scale.{note_decimals, head_frames, scale_of, body}
@@ -13,16 +14,8 @@ use Rattle.verdict.specs.Settled.{judged_by}
 use Rattle.verdict.specs.Marks.{present_mark, pending_mark}
 use Rattle.verdict.specs.declared.Truth.{Truth}
 use Rattle.verdict.specs.declared.Truth.TheVariants.{Unknown}
-use Rattle.verdict.specs.declared.Judgement.{Judgement}
-
--- after some frames "in postfix order": the sums' values and the conditions' truth values, the last first; whether a reference
--- since the last relation is missing; whether a reference is pending, and whether one is present
-pub record Pass : Type 0 where
-  pub sums : List (Term ℤ)
-  pub missing : Bool
-  pub conds : List Truth
-  pub pending : Bool
-  pub present : Bool
+use Rattle.verdict.specs.declared.Verdict.{Verdict}
+use Rattle.verdict.specs.declared.evaluate.Pass.{Pass}
 
 -- before the first of the frames "in postfix order"
 abbrev pub at_start : Pass
@@ -94,12 +87,12 @@ module _ (scale : ℕ) where
     pass_at (suc k) = pass_by (kind_of (frame_at s k).kind) (frame_at s k) i (get_or marks k 0) (get_or notes k (pos 0)) (pass_at k)
 
     -- "The verdict of a settled instance is the rule's value"
-    unfoldable pub body_judgement : Judgement
+    unfoldable pub body_judgement : Option Verdict
     body_judgement =
         judged_by (pass_at (frame_count s)).pending (pass_at (frame_count s)).present (first_t (pass_at (frame_count s)).conds)
 
 -- what judge answers: of the frames behind the head, by the scale that it carries
-unfoldable pub judgement_of : List ℕ → ℕ → List ℕ → List ℤ → Judgement
+unfoldable pub judgement_of : List ℕ → ℕ → List ℕ → List ℤ → Option Verdict
 judgement_of s i marks notes =
     body_judgement (note_decimals (scale_of s)) (body s) i (drop (head_frames (scale_of s)) marks)
     (drop (head_frames (scale_of s)) notes)

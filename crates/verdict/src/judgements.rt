@@ -1,18 +1,20 @@
 // Which instances are settled, and their verdicts.
 ghost use Rattle.std.specs.Prelude.{◌≡◌};
 ghost use Rattle.verdict.specs.Kleene.{is_known};
-ghost use Rattle.verdict.specs.Settled.{settled_by, verdict_of, verdict, judged_by};
+ghost use Rattle.verdict.specs.Settled.{settled_by, verdict_of, judged_by};
 
-use crate::{Judgement, Truth};
+use crate::{Truth, Verdict};
 
-// True or false.
-fn known(t: Truth) -> bool
-    ensures { result ≡ is_known t }
-{
-    match t {
-        Truth::True => true,
-        Truth::False => true,
-        Truth::Unknown => false,
+// The verdict of a settled instance.
+impl From<Truth> for Verdict {
+    ghost from_gives = { λ t v. v ≡ verdict_of t };
+
+    fn from(t: Truth) -> Verdict {
+        match t {
+            Truth::True => Verdict::True,
+            Truth::False => Verdict::False,
+            Truth::Unknown => Verdict::Unknown,
+        }
     }
 }
 
@@ -20,27 +22,12 @@ fn known(t: Truth) -> bool
 fn settled(pending: bool, present: bool, t: Truth) -> bool
     ensures { result ≡ settled_by pending present t }
 {
-    !pending | (present & known(t))
+    !pending || present && t != Truth::Unknown
 }
 
-// The verdict of a settled instance.
-fn verdict_of(t: Truth) -> Judgement
-    ensures { result ≡ verdict (verdict_of t) }
-{
-    match t {
-        Truth::True => Judgement::True,
-        Truth::False => Judgement::False,
-        Truth::Unknown => Judgement::Unknown,
-    }
-}
-
-// What is said of an instance, from whether a reference is pending, whether one is present, and the rule's value.
-pub fn judged(pending: bool, present: bool, t: Truth) -> Judgement
+// The verdict of an instance, if it is settled, from whether a reference is pending, whether one is present, and the rule's value.
+pub fn judged(pending: bool, present: bool, t: Truth) -> Option<Verdict>
     ensures { result ≡ judged_by pending present t }
 {
-    if settled(pending, present, t) {
-        verdict_of(t)
-    } else {
-        Judgement::Unsettled
-    }
+    settled(pending, present, t).then_some(Verdict::from(t))
 }

@@ -3,18 +3,13 @@ ghost use Rattle.std.specs.Prelude.{◌≡◌, ◌≤◌, nat_abs};
 ghost use Rattle.rule.specs.Limits.{factor_limit, offset_limit};
 ghost use Rattle.verdict.specs.Found.{instance_limit, occurrence, meant_by};
 
-use crate::{Instance, Meant, Occurrence};
+use crate::{Instance, Occurrence};
 
 // Factor × i + offset, void below 0. Called by crate checker, on the references of accepted frames.
-pub fn occurrence_of(i: Instance, factor: u8, offset: i32) -> Meant
+pub fn occurrence_of(i: Instance, factor: u8, offset: i32) -> Option<Occurrence>
     requires { (i.0 ≤ instance_limit) × ((factor ≤ factor_limit) × (nat_abs offset ≤ offset_limit)) }
     ensures { result ≡ meant_by (occurrence factor offset i.0) }
 {
-    let product = factor as u32 * i.0;
-    let at = product as i64 + offset as i64;
-    if at < 0 {
-        Meant::Void
-    } else {
-        Meant::At(Occurrence(at as u32))
-    }
+    let product = u32::from(factor) * i.0;
+    product.checked_add_signed(offset).map(Occurrence)
 }

@@ -592,9 +592,9 @@ fn a_last_line_without_lf() {
 #[test]
 fn the_buffers_are_the_programs() {
     for (file, text) in [
-        ("main.rt", format!("let mut buf = [0u8; {BUFFER}];")),
-        ("main.rt", format!("let mut out = [0u8; {BUFFER}];")),
-        ("step.rt", format!("const ROOMY: usize = {ROOMY};")),
+        ("chunks.rt", format!("let mut buf = [0; {BUFFER}];")),
+        ("output.rt", format!("bytes: [u8; {BUFFER}],")),
+        ("output.rt", format!("const ROOMY: usize = {ROOMY};")),
     ] {
         let path = Path::new(crate::TOP).join("crates/bench/src").join(file);
         assert!(std::fs::read_to_string(path).unwrap().contains(&text));

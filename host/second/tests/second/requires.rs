@@ -6,10 +6,11 @@ use crate::TOP;
 use std::collections::BTreeSet;
 use std::path::Path;
 
-/// A function of src/.
+/// A function of src/; a method with the type of its `impl`.
 struct Function {
     crate_name: String,
     module: String,
+    within: Option<String>,
     name: String,
     public: bool,
     requires: bool,
@@ -38,9 +39,16 @@ fn functions() -> Vec<Function> {
 /// Those of a file's text.
 fn functions_of(crate_name: &str, module: &str, text: &str) -> Vec<Function> {
     let mut found = Vec::new();
+    let mut within = None;
     let mut lines = text.lines();
     while let Some(line) = lines.next() {
-        let Some(name) = function(line) else { continue };
+        if line.starts_with('}') {
+            within = None;
+        }
+        within = implemented(line).or(within);
+        let Some(name) = function(line, within.is_some()) else {
+            continue;
+        };
         // Its contract: up to the line where its code begins, a brace alone if there are clauses.
         let mut requires = false;
         let mut next = Some(line);
@@ -52,8 +60,9 @@ fn functions_of(crate_name: &str, module: &str, text: &str) -> Vec<Function> {
         found.push(Function {
             crate_name: crate_name.into(),
             module: module.into(),
+            within: within.clone(),
             name,
-            public: line.starts_with("pub "),
+            public: line.trim_start().starts_with("pub "),
             requires,
         });
     }
@@ -72,9 +81,26 @@ fn is_clause(line: &str) -> bool {
     name.starts_with(' ') && name.trim().chars().all(|c| c.is_alphanumeric() || c == '_')
 }
 
-/// The function that a line begins.
-fn function(line: &str) -> Option<String> {
+/// The type of the `impl` that a line begins, without its parameters.
+fn implemented(line: &str) -> Option<String> {
+    let rest = line.strip_prefix("impl")?;
+    let rest = match rest.strip_prefix('<') {
+        Some(rest) => rest.split_once("> ")?.1,
+        None => rest.strip_prefix(' ')?,
+    };
+    let of = rest.rsplit(" for ").next()?;
+    Some(of.split(['<', ' ']).next()?.into())
+}
+
+/// The function that a line begins, or the method, which stands further to the right.
+fn function(line: &str, in_impl: bool) -> Option<String> {
+    let line = if in_impl {
+        line.strip_prefix("    ")?
+    } else {
+        line
+    };
     let line = line.strip_prefix("pub ").unwrap_or(line);
+    let line = line.strip_prefix("pub(crate) ").unwrap_or(line);
     let line = line.strip_prefix("extern \"C\" ").unwrap_or(line);
     let rest = line.strip_prefix("fn ")?;
     Some(rest.split(['(', '<']).next()?.into())
@@ -142,7 +168,7 @@ fn the_table_names_each_and_no_other() {
         .map(|[cell, _, _]| named(cell))
         .collect();
     let all: Vec<Function> = functions().into_iter().filter(|f| f.requires).collect();
-    assert!(all.len() > 100, "{}", all.len());
+    assert!(all.len() > 80, "{}", all.len());
     for Function {
         crate_name,
         module,
@@ -186,7 +212,8 @@ fn those_of_other_crates_are_the_ones_it_says() {
     let exported = |f: &Function| {
         let lib = Path::new(TOP).join(format!("crates/{}/src/lib.rt", f.crate_name));
         let lib = std::fs::read_to_string(lib).unwrap_or_default();
-        (f.module == "lib" && f.public) || exports(&lib, &f.module, &f.name)
+        let item = f.within.as_ref().unwrap_or(&f.name);
+        f.public && (f.module == "lib" || exports(&lib, &f.module, item))
     };
     let found: BTreeSet<&str> = all
         .iter()
@@ -271,22 +298,52 @@ pub fn only_ensures(requires: u8)
         2
     };
 }
+
+impl<'a> Reader<'a> {
+    // A method.
+    pub fn next(&mut self) -> u8
+        requires { self.old.at < 2 }
+    {
+        let f = fn_of(self);
+    }
+
+    fn plain(&self) {
+        requires(self)
+    }
+
+    pub(crate) fn inner(&self)
+        requires { ⊤ }
+    {
+    }
+}
+
+fn last()
+    requires { ⊤ }
+{
+}
 ";
-    let found: Vec<(String, bool, bool)> = functions_of("c", "m", text)
+    let found: Vec<(Option<String>, String, bool, bool)> = functions_of("c", "m", text)
         .into_iter()
-        .map(|f| (f.name, f.public, f.requires))
+        .map(|f| (f.within, f.name, f.public, f.requires))
         .collect();
     let expected = [
-        ("plain", false, false),
-        ("short", false, true),
-        ("named", true, true),
-        ("starred", false, true),
-        ("only_ensures", true, false),
+        (None, "plain", false, false),
+        (None, "short", false, true),
+        (None, "named", true, true),
+        (None, "starred", false, true),
+        (None, "only_ensures", true, false),
+        (Some("Reader"), "next", true, true),
+        (Some("Reader"), "plain", false, false),
+        (Some("Reader"), "inner", false, true),
+        (None, "last", false, true),
     ];
     assert_eq!(
         found,
-        expected.map(|(name, public, requires)| (name.into(), public, requires))
+        expected.map(|(within, name, public, requires)| {
+            (within.map(str::to_string), name.into(), public, requires)
+        })
     );
+    assert_eq!(implemented("impl From<A> for B<'_> {").unwrap(), "B");
 }
 
 #[test]

@@ -17,13 +17,14 @@ pub enum Owner {
     Definition(Vec<usize>),
 }
 
-/// A function of src/.
+/// A function of src/, a method with the name of its `impl`.
 struct Function {
     file: String,
+    within: String,
     name: String,
     text: String,
-    /// The folder of its proof.
-    proof: String,
+    /// The folders that its proof may have.
+    proofs: Vec<String>,
     /// How its facts begin, where functions that call one another share a proof.
     prefix: String,
 }
@@ -43,9 +44,9 @@ pub struct Sources {
     definitions: Vec<Definition>,
 }
 
-/// An item of a file of src/.
+/// An item of a file of src/; a function with the name of its `impl`, empty outside one.
 enum Item {
-    Function(String),
+    Function(String, String),
     Constant(String),
     Other,
 }
@@ -55,8 +56,11 @@ impl Sources {
         let files: BTreeMap<String, String> = files.into_iter().collect();
         let below =
             |part: &'static str| files.iter().filter(move |(file, _)| file.starts_with(part));
+        let types: BTreeMap<String, String> = below("src/")
+            .flat_map(|(file, text)| types(text).map(|name| (name, folder(file))))
+            .collect();
         let functions = below("src/")
-            .flat_map(|(file, text)| functions(file, text))
+            .flat_map(|(file, text)| functions(file, text, &types))
             .collect();
         let definitions = below("specs/").flat_map(|(file, text)| {
             declarations(text)
@@ -98,11 +102,11 @@ impl Sources {
             .find(|&(start, _)| start < end)?
             .1
         {
-            Item::Function(name) => {
-                let is_it = |f: &Function| f.file == *file && f.name == name;
+            Item::Function(within, name) => {
+                let is_it = |f: &Function| f.file == *file && f.within == within && f.name == name;
                 let k = self.functions.iter().position(is_it)?;
                 let own = &self.functions[k].text;
-                let body = text.find(own)? + own.find("\n{").or_else(|| own.find(" {\n"))?;
+                let body = text.find(own)? + body(own)?;
                 Some(if place < body {
                     Owner::Contract(k)
                 } else {
@@ -173,7 +177,8 @@ impl Sources {
 
 impl Function {
     fn proved_by(&self, fact: &Fact) -> bool {
-        fact.file.starts_with(&self.proof) && fact.name.starts_with(&self.prefix)
+        let mut proofs = self.proofs.iter();
+        proofs.any(|proof| fact.file.starts_with(proof)) && fact.name.starts_with(&self.prefix)
     }
 
     fn uses_constant(&self, file: &str, name: &str) -> bool {
@@ -187,12 +192,28 @@ impl Function {
     }
 }
 
-/// The functions of a file of src/.
-fn functions(file: &str, text: &str) -> Vec<Function> {
-    let folder = match file.trim_start_matches("src/").trim_end_matches(".rt") {
+/// The folder of the proofs of a file of src/.
+fn folder(file: &str) -> String {
+    match file.trim_start_matches("src/").trim_end_matches(".rt") {
         "lib" | "main" => "proofs/".to_string(),
         module => format!("proofs/{module}/"),
-    };
+    }
+}
+
+/// The types that a file of src/ declares.
+fn types(text: &str) -> impl Iterator<Item = String> + '_ {
+    text.lines().filter_map(|line| {
+        let line = line.strip_prefix("pub ").unwrap_or(line);
+        let rest = ["struct ", "enum "]
+            .iter()
+            .find_map(|kind| line.strip_prefix(kind))?;
+        Some(words(rest).first()?.clone())
+    })
+}
+
+/// The functions of a file of src/, where the types of a crate have these folders. A method's proof lies by its type, that of a
+/// trait's method by the file of the `impl`.
+fn functions(file: &str, text: &str, types: &BTreeMap<String, String>) -> Vec<Function> {
     let items = items(text);
     let ends: Vec<usize> = items
         .iter()
@@ -202,13 +223,19 @@ fn functions(file: &str, text: &str) -> Vec<Function> {
         .collect();
     let mut all = Vec::new();
     for ((start, item), end) in items.into_iter().zip(ends) {
-        if let Item::Function(name) = item {
-            let (proof, prefix) = proof_of(text, start, &folder, &name);
+        if let Item::Function(within, name) = item {
+            let folder = match (within.as_str(), types.get(&within)) {
+                ("", _) => folder(file),
+                (within, Some(of_type)) => format!("{of_type}{within}/"),
+                (within, None) => format!("{}{within}/", folder(file)),
+            };
+            let (proofs, prefix) = proofs_of(text, start, &folder, &name);
             all.push(Function {
                 file: file.to_string(),
+                within,
                 name,
                 text: text[start..end].to_string(),
-                proof,
+                proofs,
                 prefix,
             });
         }
@@ -216,25 +243,78 @@ fn functions(file: &str, text: &str) -> Vec<Function> {
     all
 }
 
-/// The folder of a function's proof, and how its facts begin: `+NAME` is of all functions under `#[cycle(NAME)]`, and where these are
-/// more than one, the facts of `f` begin with `f-`.
-fn proof_of(text: &str, start: usize, folder: &str, name: &str) -> (String, String) {
+/// Where a function's code begins: at a brace alone, as far to the right as the function, or behind its head.
+fn body(function: &str) -> Option<usize> {
+    let indent = &function[..function.len() - function.trim_start().len()];
+    function
+        .find(&format!("\n{indent}{{"))
+        .or_else(|| function.find(" {\n"))
+}
+
+/// The name that proofs have for an `impl`, from its first line: its type's, as `Stack+Magnitude` where it has arguments, and behind
+/// that of a trait the trait's with its arguments, as `LostFromBadLine` of `impl<'a> From<BadLine> for Lost<'a>`; the impl's own
+/// parameters are left out.
+fn impl_name(line: &str) -> Option<String> {
+    let rest = line.strip_prefix("impl")?;
+    let (own, rest) = match rest.strip_prefix('<') {
+        Some(rest) => rest.split_once("> ")?,
+        None => ("", rest.strip_prefix(' ')?),
+    };
+    let own: Vec<String> = words(own);
+    let named = |text: &str| -> Vec<String> {
+        let words = words(text).into_iter().filter(|word| !own.contains(word));
+        words
+            .map(|word| word[..1].to_uppercase() + &word[1..])
+            .collect()
+    };
+    let head = rest.trim_end().trim_end_matches('{');
+    Some(match head.split_once(" for ") {
+        Some((of_trait, of_type)) => named(of_type).concat() + &named(of_trait).concat(),
+        None => named(head).join("+"),
+    })
+}
+
+/// The names in a text, without lifetimes; `&`, `()` and the brackets of an array count as the words Ref, Unit and Array.
+fn words(text: &str) -> Vec<String> {
+    let text = text
+        .replace('&', " Ref ")
+        .replace("()", " Unit ")
+        .replace('[', " Array ");
+    let inside = |c: char| c.is_alphanumeric() || c == '_' || c == '\'';
+    let words = text.split(|c: char| !inside(c));
+    words
+        .filter(|word| !word.is_empty() && !word.starts_with('\''))
+        .map(str::to_string)
+        .collect()
+}
+
+/// The folders that a function's proof may have, and how its facts begin: `+NAME` is of all functions under `#[cycle(NAME)]`, and
+/// where these are more than one, the facts of `f` begin with `f-`; `+f` is of a function that only calls itself.
+fn proofs_of(text: &str, start: usize, folder: &str, name: &str) -> (Vec<String>, String) {
     let mut above = text[..start]
         .lines()
         .rev()
+        .map(str::trim_start)
         .take_while(|line| line.starts_with("#["));
     let cycle = above.find(|line| line.starts_with("#[cycle("));
     match cycle.map(|line| (line, &line["#[cycle(".len()..line.len() - ")]".len()])) {
         Some((line, cycle)) => {
-            let is_shared = text.lines().filter(|other| *other == line).count() > 1;
+            let is_shared = text
+                .lines()
+                .filter(|other| other.trim_start() == line)
+                .count()
+                > 1;
             let prefix = if is_shared {
                 format!("{name}-")
             } else {
                 String::new()
             };
-            (format!("{folder}+{cycle}/"), prefix)
+            (vec![format!("{folder}+{cycle}/")], prefix)
         }
-        None => (format!("{folder}{name}/"), String::new()),
+        None => {
+            let own = ["", "+"].map(|sign| format!("{folder}{sign}{name}/"));
+            (own.to_vec(), String::new())
+        }
     }
 }
 
@@ -242,10 +322,19 @@ fn proof_of(text: &str, start: usize, folder: &str, name: &str) -> (String, Stri
 fn items(text: &str) -> Vec<(usize, Item)> {
     let mut all = vec![(0, Item::Other)];
     let mut start = 0;
+    let mut within = String::new();
     for line in text.split_inclusive('\n') {
+        if let Some(name) = impl_name(line) {
+            within = name;
+        } else if line.starts_with('}') {
+            within.clear();
+        }
+        // Within an `impl` a comment before a method.
+        let is_comment = line.starts_with("//") || !within.is_empty() && line.starts_with("    //");
         let words = line
             .trim_start()
             .trim_start_matches("pub ")
+            .trim_start_matches("pub(crate) ")
             .trim_start_matches("extern \"C\" ");
         let name = |rest: &str| {
             rest.chars()
@@ -253,10 +342,10 @@ fn items(text: &str) -> Vec<(usize, Item)> {
                 .collect()
         };
         if let Some(rest) = words.strip_prefix("fn ") {
-            all.push((start, Item::Function(name(rest))));
+            all.push((start, Item::Function(within.clone(), name(rest))));
         } else if let Some(rest) = words.strip_prefix("const ") {
             all.push((start, Item::Constant(name(rest))));
-        } else if line.starts_with("//") || line.starts_with("ghost use ") {
+        } else if is_comment || line.starts_with("ghost use ") {
             all.push((start, Item::Other));
         }
         start += line.len();
@@ -331,4 +420,69 @@ fn has_word(text: &str, name: &str) -> bool {
         );
         !before.is_some_and(inside) && !after.is_some_and(inside)
     })
+}
+
+#[cfg(test)]
+mod tests {
+    use super::*;
+
+    const METHODS: &str = "// Words.\npub struct R<'a> {\n    at: &'a [u8],\n}\n\nimpl<'a> R<'a> {\n    // One.\n    pub(crate) fn f(&self) -> u8\n        \
+        ensures { result ≡ 1 }\n    {\n        1\n    }\n\n    // Two.\n    #[cycle(round)]\n    fn g(&self) {\n        2\n    }\n\n    \
+        #[cycle(round)]\n    fn h(&self) {\n        4\n    }\n}\n\nimpl From<u8> for R<'_> {\n    fn from(x: u8) -> Self {\n        x\n    }\n}\n\nimpl P {\n    \
+        fn p() {\n        5\n    }\n}\n\nfn f() {\n    3\n}\n";
+
+    fn owner(old: &str) -> Option<(String, String, bool)> {
+        let other = "pub struct P {\n}\n";
+        let files = [("src/a.rt", METHODS), ("src/b.rt", other)];
+        let sources = Sources::new("c", files.map(|(file, text)| (file.into(), text.into())));
+        let change = Change {
+            file: "src/a.rt".to_string(),
+            old: old.to_string(),
+            new: String::new(),
+        };
+        let (k, is_code) = match sources.owner(&change)? {
+            Owner::Function(k) => (k, true),
+            Owner::Contract(k) => (k, false),
+            _ => return None,
+        };
+        let it = &sources.functions[k];
+        Some((it.proofs[0].clone(), it.prefix.clone(), is_code))
+    }
+
+    #[test]
+    fn a_method_is_of_its_impl() {
+        let of = |proof: &str, prefix: &str, is_code| {
+            Some((proof.to_string(), prefix.to_string(), is_code))
+        };
+        assert_eq!(owner("result ≡ 1"), of("proofs/a/R/f/", "", false));
+        assert_eq!(owner("        1\n"), of("proofs/a/R/f/", "", true));
+        assert_eq!(owner("        2\n"), of("proofs/a/R/+round/", "g-", true));
+        assert_eq!(owner("        x\n"), of("proofs/a/RFromU8/from/", "", true));
+        assert_eq!(owner("        5\n"), of("proofs/b/P/p/", "", true));
+        assert_eq!(owner("    3\n"), of("proofs/a/f/", "", true));
+        assert_eq!(owner("    at: &'a [u8],"), None);
+    }
+
+    #[test]
+    fn an_impl_has_a_name() {
+        let name = |line| impl_name(line).unwrap();
+        assert_eq!(name("impl Stack {\n"), "Stack");
+        assert_eq!(name("impl<const N: usize> Line<N> {\n"), "Line");
+        assert_eq!(name("impl Stack<Magnitude> {\n"), "Stack+Magnitude");
+        assert_eq!(name("impl<T: Copy> Stack<T> {\n"), "Stack");
+        assert_eq!(name("impl Rank for &u8 {\n"), "RefU8Rank");
+        assert_eq!(
+            name("impl<'a> From<BadLine> for Lost<'a> {\n"),
+            "LostFromBadLine"
+        );
+        assert_eq!(
+            name("impl From<Result<[u8; 34], a::Lost>> for Told {\n"),
+            "ToldFromResultArrayU834ALost"
+        );
+        assert_eq!(
+            name("impl From<Result<(), Lost>> for Told {\n"),
+            "ToldFromResultUnitLost"
+        );
+        assert_eq!(impl_name("implied();\n"), None);
+    }
 }

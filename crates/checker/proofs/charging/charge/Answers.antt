@@ -1,51 +1,38 @@
 -- `checker::charging::charge` meets its contract. Assumes nothing.
-use Rattle.std.proofs.Common.{◌≡◌, true, false, sym, ap, ◌∙◌, arith}
-use Rattle.checker.specs.StateTest.{state_passes}
-use Rattle.checker.specs.Tariff.{bands_fit, prices_fit, cents, charge_told}
+use Rattle.std.proofs.Common.{sym, ap, ◌∙◌, arith}
+use Rattle.std.proofs.lemmas.Result.{err_from_is_err_and}
+use Rattle.checker.specs.Tariff.{cents}
+use Rattle.checker.specs.declared.refusals.Refusal.TheVariants.{State}
 use Rattle.checker.proofs.Charges.{rise_facts, charged_by, turned_28, turned_29, turned_12, failed-most}
+use Rattle.checker.proofs.CodeStateTest.{tested-ok, tested-err}
 use Rattle.checker.proofs.charging.charge.Goals as goal
 
+-- 28
+pub returns-then-not-bands_fit : goal.returns-then-not-bands_fit
+returns-then-not-bands_fit c = sym (turned_28 c.args.state c.args.tariff (sym c.if-not-bands_fit.ensures))
+
 pub prices_fit-requires : goal.prices_fit-requires
-prices_fit-requires c =
-    (rise_facts c.args.tariff (sym c.bands_fit.ensures ∙ c.if-bands_fit.true)).few
+prices_fit-requires c = (rise_facts c.args.tariff (sym c.if-not-bands_fit.ensures)).few
+
+-- 29
+pub returns-then-not-prices_fit : goal.returns-then-not-prices_fit
+returns-then-not-prices_fit c =
+    sym (turned_29 c.args.state c.args.tariff (sym c.if-not-bands_fit.ensures) (sym c.if-not-prices_fit.ensures))
+
+-- 12
+pub returns-in_err-ok_or : goal.returns-in_err-ok_or
+returns-in_err-ok_or c =
+    let p = err_from_is_err_and c.from_residual.result c.from_residual.ensures.1 in
+    let t = tested-err _ _ State _ (rw (c.state_passes.ensures, c.fields_of-fields.ensures) at c.in_err-ok_or.ensures.value) in
+    rw (p.1, p.2, t.1) (sym (turned_12 c.args.state c.args.tariff (sym c.if-not-bands_fit.ensures) (sym c.if-not-prices_fit.ensures) t.0))
 
 pub cents-requires : goal.cents-requires
 cents-requires c =
-    let a = c.args in
-    let bands : bands_fit a.tariff ≡ true = sym c.bands_fit.ensures ∙ c.if-bands_fit.true in
-    let prices : prices_fit a.tariff ≡ true = sym c.prices_fit.ensures ∙ c.if-prices_fit.true in
-    let good : state_passes a.state ≡ true = sym (ap state_passes c.fields_of-fields.ensures) ∙ sym c.state_passes-tested.ensures.0 ∙ c.if-tested.true in
-    (bands, (prices, omega (arith, failed-most a.state good)))
+    let t = tested-ok _ _ _ State (rw (c.state_passes.ensures, c.fields_of-fields.ensures) at c.in_ok-ok_or.ensures.value) in
+    (sym c.if-not-bands_fit.ensures, (sym c.if-not-prices_fit.ensures, omega (arith, failed-most c.args.state t.0)))
 
 -- charged
-pub returns-then-tested : goal.returns-then-tested
-returns-then-tested c =
-    let a = c.args in
-    let bands : bands_fit a.tariff ≡ true = sym c.bands_fit.ensures ∙ c.if-bands_fit.true in
-    let prices : prices_fit a.tariff ≡ true = sym c.prices_fit.ensures ∙ c.if-prices_fit.true in
-    let good : state_passes a.state ≡ true = sym (ap state_passes c.fields_of-fields.ensures) ∙ sym c.state_passes-tested.ensures.0 ∙ c.if-tested.true in
-    ap cents c.cents.ensures ∙ sym (charged_by a.state a.tariff bands prices good)
-
--- 12
-pub returns-else-tested : goal.returns-else-tested
-returns-else-tested c =
-    let a = c.args in
-    let bands : bands_fit a.tariff ≡ true = sym c.bands_fit.ensures ∙ c.if-bands_fit.true in
-    let prices : prices_fit a.tariff ≡ true = sym c.prices_fit.ensures ∙ c.if-prices_fit.true in
-    let bad : state_passes a.state ≡ false = sym (ap state_passes c.fields_of-fields.ensures) ∙ sym c.state_passes-tested.ensures.0 ∙ c.if-tested.false in
-    ap charge_told c.refuse.ensures ∙ sym (turned_12 a.state a.tariff bands prices bad)
-
--- 29
-pub returns-else-prices_fit : goal.returns-else-prices_fit
-returns-else-prices_fit c =
-    let a = c.args in
-    let bands : bands_fit a.tariff ≡ true = sym c.bands_fit.ensures ∙ c.if-bands_fit.true in
-    let prices : prices_fit a.tariff ≡ false = sym c.prices_fit.ensures ∙ c.if-prices_fit.false in
-    ap charge_told c.refuse-else-prices_fit.ensures ∙ sym (turned_29 a.state a.tariff bands prices)
-
--- 28
-pub returns-else-bands_fit : goal.returns-else-bands_fit
-returns-else-bands_fit c =
-    let a = c.args in
-    let bands : bands_fit a.tariff ≡ false = sym c.bands_fit.ensures ∙ c.if-bands_fit.false in
-    ap charge_told c.refuse-else-bands_fit.ensures ∙ sym (turned_28 a.state a.tariff bands)
+pub returns : goal.returns
+returns c =
+    let t = tested-ok _ _ _ State (rw (c.state_passes.ensures, c.fields_of-fields.ensures) at c.in_ok-ok_or.ensures.value) in
+    ap cents c.cents.ensures ∙ sym (charged_by c.args.state c.args.tariff (sym c.if-not-bands_fit.ensures) (sym c.if-not-prices_fit.ensures) t.0)

@@ -3,9 +3,6 @@ use Rattle.std.proofs.Common.{sym, arith, length-take-le}
 use Rattle.checker.proofs.CodeStateTest.{ready_facts}
 use Rattle.checker.proofs.feeding.feed_admitted.Goals as goal
 
-pub overflow_mul-n : goal.overflow_mul-n
-overflow_mul-n c = omega (arith, (ready_facts c.requires).few)
-
 pub slice_bounds-starts_at-end : goal.slice_bounds-starts_at-end
 slice_bounds-starts_at-end c =
     let p = c.requires in
@@ -15,10 +12,3 @@ pub starts_at-starts-requires : goal.starts_at-starts-requires
 starts_at-starts-requires c =
     let f = ready_facts c.requires in
     record { accepted = f.accepted; instance_in = f.totals.low }
-
-pub feed_with-requires : goal.feed_with-requires
-feed_with-requires c =
-    (c.requires, c.starts_at-starts.ensures.0)
-
-pub returns : goal.returns
-returns c = c.feed_with.ensures

@@ -1,8 +1,8 @@
 -- `checker::opening::fresh` meets its contract. Assumes nothing.
 use Rattle.std.proofs.Common.{sym, ap, arith}
+use Rattle.std.specs.Prelude.{Ok}
 use Rattle.rule.proofs.Laws.{passed}
 use Rattle.checker.specs.State.{fresh_state}
-use Rattle.checker.specs.declared.OpenAnswer.{OpenAnswer}
 use Rattle.checker.specs.declared.State.{State}
 use Rattle.checker.proofs.opening.fresh.Goals as goal
 
@@ -17,5 +17,5 @@ copied-bytes-requires c =
 pub returns : goal.returns
 unfolding fresh_state
 returns c =
-    rw (sym c.copied-bytes.ensures, sym c.number_of-number.ensures, sym c.requires.1)
-    (ap (λ (s : State). record { answer = OpenAnswer.Opened; state = s }) c.at_first.ensures)
+    rw (sym c.copied-bytes.ensures, sym c.from-number.ensures, sym c.requires.1)
+    (ap (λ (s : State). record { answer = Ok tt; state = s }) c.at_first.ensures)

@@ -1,10 +1,9 @@
 -- `checker::opening::open` meets its contract. Assumes nothing.
+use Rattle.std.proofs.Common.{ℕ, replicate, pos, refl, ap, ◌∙◌}
 use Rattle.checker.proofs.opening.open.Goals as goal
 
-pub returns-in-Desk : goal.returns-in-Desk
-returns-in-Desk c =
-    rw c.in-Desk.is c.open_desk.ensures
-
-pub returns-in-Board : goal.returns-in-Board
-returns-in-Board c =
-    rw c.in-Board.is c.open_board.ensures
+pub returns-in-Ok : goal.returns-in-Ok
+returns-in-Ok c =
+    let d = c.in-Ok.ensures c.args.window.now refl in
+    let w = c.fill.ensures.after (λ y e. e) ∙ ap (λ (n : ℕ). replicate n (pos 0)) d.long in
+    rw (d.opens, c.fresh.ensures, w)

@@ -1,30 +1,38 @@
 -- `checker::pricing::bands_fit` meets its contract. Assumes nothing.
-use Rattle.std.proofs.Common.{true, false, sym, ap, ◌∙◌, add-one, arith}
-use Rattle.checker.specs.Tariff.{rise_from}
-use Rattle.checker.proofs.Prices.{left-first, rise-step, rise-none, bands_many, bands_by}
+use Rattle.std.proofs.Common.{◌≡◌, ◌<◌, true, false, get_or, take, sym, ◌∙◌, add-one, arith}
+use Rattle.std.proofs.lemmas.List.{get_or-take}
+use Rattle.std.proofs.lemmas.Bool.Decides.{nat_tests}
+use Rattle.checker.specs.Tariff.{band_at}
+use Rattle.checker.proofs.Prices.{follows, rise-step, rise-none, bands_many, bands_by}
+use Rattle.checker.proofs.pricing.bands_fit.Goals.{then-last-before-via-then-last-before, then-last-before-via-else-last-before+then-last-gt-LAST_LIMIT}
 use Rattle.checker.proofs.pricing.bands_fit.Goals as goal
 
 pub returns-then-t-gt-BANDS : goal.returns-then-t-gt-BANDS
 returns-then-t-gt-BANDS c = sym (bands_many c.args.t c.if-t-gt-BANDS.true)
 
-pub loop-j-init : goal.loop-j-init
-loop-j-init c = (omega arith, ap (rise_from 0) (left-first _))
-
-pub loop-j-preserved : goal.loop-j-preserved
-loop-j-preserved c =
+pub loop-last-preserved : goal.loop-last-preserved
+loop-last-preserved c =
     let t = c.args.t in
-    let l = c.loop-j in
-    (omega arith, l.invariant.1 ∙ rw (add-one l.j) (rise-step t l.j l.before true c.loop-j-test.true c.if-before-last.true))
+    let l = c.loop-last in
+    let h : l.last-index < t.bands = omega arith in
+    let last : get_or (take t.bands t.lasts) l.last-index 0 ≡ (band_at t l.last-index).last = get_or-take t.bands t.lasts l.last-index 0 h in
+    let yes : follows l.before (band_at t l.last-index).last ≡ true = rw (← last) (grind (arith, nat_tests)) in
+    l.invariant ∙ rw (add-one l.last-index, last) (rise-step t l.last-index l.before true h yes)
 
-pub returns-else-before-last : goal.returns-else-before-last
-returns-else-before-last c =
+pub returns-then-last-before : goal.returns-then-last-before
+returns-then-last-before c =
     let t = c.args.t in
-    let l = c.loop-j in
-    let not = rise-step t l.j l.before false c.loop-j-test.true c.if-before-last.false in
-    sym (bands_by t c.if-t-gt-BANDS.false ∙ l.invariant.1 ∙ not)
+    let l = c.loop-last in
+    let h : l.last-index < t.bands = omega arith in
+    let last : get_or (take t.bands t.lasts) l.last-index 0 ≡ (band_at t l.last-index).last = get_or-take t.bands t.lasts l.last-index 0 h in
+    let no : follows l.before (band_at t l.last-index).last ≡ false = rw (← last) (elim c.then-last-before.branch [
+      | then-last-before-via-then-last-before w ↦ grind (arith, nat_tests)
+      | then-last-before-via-else-last-before+then-last-gt-LAST_LIMIT w ↦ grind (arith, nat_tests)
+    ]) in
+    sym (bands_by t c.if-t-gt-BANDS.false ∙ l.invariant ∙ rise-step t l.last-index l.before false h no)
 
 pub returns : goal.returns
 returns c =
     let t = c.args.t in
-    let l = c.loop-j in
-    sym (bands_by t c.if-t-gt-BANDS.false ∙ l.invariant.1 ∙ rise-none t l.j l.before c.loop-j-test.false)
+    let l = c.loop-last in
+    sym (bands_by t c.if-t-gt-BANDS.false ∙ l.invariant ∙ rise-none t l.last-index l.before (omega arith))

@@ -1,6 +1,4 @@
 -- `checker::pricing::cents` meets its contract. Assumes nothing.
-use Rattle.std.proofs.Common.{ℕ, ap, ◌∙◌}
-use Rattle.checker.specs.Tariff.{surcharged}
 use Rattle.checker.proofs.Prices.{fits, sum-within}
 use Rattle.checker.proofs.pricing.cents.Goals as goal
 
@@ -9,8 +7,3 @@ with_surcharge-requires c =
     let a = c.args in
     let f = fits a.t c.requires.0 c.requires.1.0 in
     (rw c.price_sum.ensures (sum-within a.t f a.n c.requires.1.1), f.surcharge)
-
-pub returns : goal.returns
-returns c =
-    let a = c.args in
-    c.with_surcharge.ensures ∙ ap (λ (sum : ℕ). surcharged sum a.t.surcharge) c.price_sum.ensures

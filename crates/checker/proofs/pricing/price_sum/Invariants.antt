@@ -1,10 +1,7 @@
 -- `checker::pricing::price_sum` meets its contract. Assumes nothing.
-use Rattle.std.proofs.Common.{◌-◌}
+use Rattle.std.proofs.Common.{length}
 use Rattle.checker.proofs.Prices.{Priced}
 use Rattle.checker.proofs.pricing.price_sum.Given as goal
 
-abbrev pub invariant-loop-j : goal.invariant-loop-j
-invariant-loop-j l = Priced l.t l.n l.j l.sum l.priced
-
-abbrev pub decreases-loop-j : goal.decreases-loop-j
-decreases-loop-j l = l.t.bands - l.j
+abbrev pub invariant-loop-last : goal.invariant-loop-last
+invariant-loop-last l = Priced l.fn.t l.n (length l.yielded) l.sum l.priced

@@ -1,14 +1,10 @@
 -- `checker::profiles::passes` meets its contract. Assumes nothing.
-use Rattle.std.proofs.Common.{Bool, ◌&&◌, eqb, ap, ◌∙◌}
-use Rattle.checker.proofs.ProfileLaws.{passes_desk, passes-other}
+use Rattle.std.proofs.Common.{rules}
+use Rattle.std.proofs.lemmas.Result.{MatchResult-weaker}
+use Rattle.checker.proofs.ProfileLaws.{admitted}
 use Rattle.checker.proofs.profiles.passes.Goals as goal
 
-pub returns-then-number-eq-DESK : goal.returns-then-number-eq-DESK
-returns-then-number-eq-DESK c =
-    let a = c.args in
-    rw c.if-number-eq-DESK.true (c.within.ensures ∙ passes_desk a.width a.n)
-
-pub returns-else-number-eq-DESK : goal.returns-else-number-eq-DESK
-returns-else-number-eq-DESK c =
-    let a = c.args in
-    ap (λ (t : Bool). eqb a.number 1 && t) c.within-else-number-eq-DESK.ensures ∙ passes-other a.number a.width a.n c.if-number-eq-DESK.false
+pub returns : goal.returns
+returns c =
+    admitted c.try_from.result c.args.number c.args.width c.args.n c.is_ok_and.result c.try_from.ensures
+    (MatchResult-weaker c.try_from.result c.is_ok_and.ensures (λ x k. search rules) (λ x k. k))

@@ -1,16 +1,15 @@
 -- `checker::report::put_entry` meets its contract. Assumes nothing.
-use mir.ValLaws.{to_z-of_z}
-use Rattle.std.proofs.Common.{◌≡◌, suc, ◌+◌, [], set, ap, ◌∙◌, add-one, arith, length-set, w32, of_z}
-use lib.Seq.{sets}
+use Rattle.std.proofs.Common.{◌≡◌, ℕ, ◌+◌, ◌-◌, List, [], set, ◌∙◌, add-one, arith, length-set, w32, to_z, of_z, to_z-of_z, rules}
 use Rattle.rule.specs.Tree.{word_bytes}
+use Rattle.checker.proofs.PullReport.{part-sets, word-bytes}
 use Rattle.checker.proofs.report.put_entry.Goals as goal
-
-pub put_word-requires : goal.put_word-requires
-put_word-requires c = simp length-set (omega (arith, c.requires))
 
 pub returns : goal.returns
 returns c =
-    let l = set c.args.report.now c.args.at c.args.mark in
-    let b : c.bits.result ≡ of_z w32 c.args.note = c.bits.ensures ∙ ap (of_z w32) (to_z-of_z w32 c.args.note c.ranges.note) in
-    let e : sets l (c.args.at + 1) (word_bytes c.bits.result []) ≡ sets l (suc c.args.at) (word_bytes (of_z w32 c.args.note) []) = rw (add-one c.args.at, b) in
-    c.put_word.ensures ∙ e
+    let a = c.args in
+    let l : List ℕ = set a.report.now a.at a.mark in
+    let same : to_z w32 (of_z w32 a.note) ≡ a.note = to_z-of_z {w = w32} (search rules) in
+    let bytes : c.copy_from_slice.new.self ≡ word_bytes (of_z w32 a.note) [] =
+    c.copy_from_slice.ensures.after ∙ c.to_be_bytes.ensures ∙ rw same (word-bytes (of_z w32 a.note) (search rules)) in
+    let four : a.at + 5 - (a.at + 1) ≡ 4 = omega arith in
+    rw (four, bytes) (part-sets (a.at + 1) l (word_bytes (of_z w32 a.note) []) (simp length-set (omega (arith, c.requires))) ∙ rw (add-one a.at))

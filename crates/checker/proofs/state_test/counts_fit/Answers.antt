@@ -1,26 +1,15 @@
 -- `checker::state_test::counts_fit` meets its contract. Assumes nothing.
-use Rattle.std.proofs.Common.{◌≡◌, ℕ, Bool, List, get_or, sym, refl, ◌∙◌, add-one, arith}
-use Rattle.checker.specs.StateTest.{all_to}
+use Rattle.std.proofs.Common.{ℕ, Option, ◌∙◌, rules, arith}
+use Rattle.std.proofs.lemmas.Iterator.{YieldsList-from_slice, YieldsList-from_zip}
+use Rattle.std.proofs.lemmas.Iterator.Search.{all_from_yields_List}
+use borrow.Author.Tests.{tests}
 use Rattle.checker.specs.BasePass.{count_fits}
-use Rattle.checker.proofs.CodeBase.{all_to-more, all_to-false}
+use Rattle.checker.proofs.CodeBase.{zip-fit}
 use Rattle.checker.proofs.state_test.counts_fit.Goals as goal
-
-abbrev fit : ℕ → List ℕ → List ℕ → ℕ → Bool
-fit width bases counts = λ e. count_fits width (get_or bases e 0) (get_or counts e 0)
-
-pub loop-e-init : goal.loop-e-init
-unfolding all_to
-loop-e-init c = (omega arith, refl)
-
-pub loop-e-preserved : goal.loop-e-preserved
-loop-e-preserved c =
-    (omega arith, rw (add-one c.loop-e.e) (all_to-more c.loop-e.e (fit c.args.width c.args.bases c.args.counts) c.loop-e.invariant.1 (sym c.count_fits.ensures ∙ c.if-count_fits.true)))
-
-pub returns-else-count_fits : goal.returns-else-count_fits
-returns-else-count_fits c =
-    sym (all_to-false 8 (fit c.args.width c.args.bases c.args.counts) c.loop-e.e c.loop-e-test.true (sym c.count_fits.ensures ∙ c.if-count_fits.false))
 
 pub returns : goal.returns
 returns c =
-    let q : c.loop-e.e ≡ 8 = omega arith in
-    sym (rw q at c.loop-e.invariant.1)
+    let a = c.args in
+    all_from_yields_List (λ (x : Option ℕ × ℕ). count_fits a.width x.0 x.1) c.all.new.self _ c.all.result c.all.ensures.ran
+    (YieldsList-from_zip (YieldsList-from_slice a.bases (cc)) (YieldsList-from_slice a.counts (cc))) (λ x b q k. search (rules, tests))
+    ∙ zip-fit a.width a.bases a.counts (omega arith) (omega arith)

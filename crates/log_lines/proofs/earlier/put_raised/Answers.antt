@@ -1,27 +1,14 @@
 -- `log_lines::earlier::put_raised` meets its contract. Assumes nothing.
-use mathlib.Core.Path.{◌∙◌}
-use Prim.Native.Nat.{◌+◌, ◌-◌}
-use native.Mathlib.Omega.{arith}
-use lib.ListN.{drop, length-set, length-take}
-use Rattle.log_lines.proofs.Copies.{put-note}
+use Rattle.std.proofs.Common.{◌+◌, ◌-◌, ◌∙◌, ap, arith, List, ℕ, take, drop, map}
+use Rattle.std.proofs.Math.Seq.{sets}
+use Rattle.log_lines.specs.Digit.{capital}
+use Rattle.log_lines.proofs.Copies.{signs-put, put-note}
 use Rattle.log_lines.proofs.earlier.put_raised.Goals as goal
-
-pub bounds-line-at-2 : goal.bounds-line-at-2
-bounds-line-at-2 c = simp length-set (omega arith)
-
-pub bounds-line-at-3 : goal.bounds-line-at-3
-bounds-line-at-3 c = simp length-set (omega arith)
-
-pub bounds-line-at-4 : goal.bounds-line-at-4
-bounds-line-at-4 c = simp length-set (omega arith)
-
-pub put_capitals-requires : goal.put_capitals-requires
-put_capitals-requires c =
-    let a = c.args in
-    simp length-set (omega (arith, length-take (a.from + 4 - a.from) (drop a.from a.old.now)))
 
 pub returns : goal.returns
 returns c =
+    let a = c.args in
+    let signs = signs-put a.line.now _ a.at _ (omega arith) (c.fill.ensures.after (λ y h. h)) in
     c.put_capitals.ensures
-    ∙ put-note c.args.line.now c.args.old.now c.args.at c.args.from _ (c.args.from + 4 - c.args.from)
-    c.requires.1.1 c.requires.1.0 (omega arith) c.sign-s.ensures
+    ∙ ap (λ (l : List ℕ). sets l (a.at + 4) (map capital (take (a.from + 4 - a.from) (drop a.from a.old.now)))) signs
+    ∙ put-note a.line.now a.old.now a.at a.from _ _ c.requires.1.1 c.requires.1.0 (omega arith) c.sign.ensures

@@ -1,33 +1,25 @@
--- `rule::names::name_code` meets its contract. The invariant: the letters from `i` on are read, and their number leaves room for one more. Assumes nothing.
-use mathlib.Core.Path.{◌≡◌, sym, ap, ◌∙◌}
-use Prim.Native.Nat.{ℕ, ◌≤◌, ◌-◌}
-use lib.ListN.{drop}
-use Rattle.rule.specs.Name.{code}
-use Rattle.rule.proofs.TokenCodes.{code-end, code-back, code-room, short-code, long-code}
-use native.Mathlib.Omega.{arith}
+-- `rule::names::name_code` meets its contract. The invariant: the letters so far are read, and their number leaves room for one more. Assumes nothing.
+use Rattle.std.proofs.Common.{◌≤◌, ◌∙◌, ap, sym, arith, length}
+use Rattle.std.specs.List.{fold}
+use Rattle.std.proofs.lemmas.Grind.{common_steps}
+use Rattle.std.proofs.lemmas.Iterator.Adapters.{YieldsList-from_rev_slice}
+use Rattle.std.proofs.lemmas.Iterator.Consumers.{YieldsList-end}
+use Rattle.rule.proofs.TokenCodes.{with_letter, code-room, code_told, short-code}
 use Rattle.rule.proofs.names.name_code.Goals as goal
-
-pub returns-then-n-gt-NAME_LETTERS : goal.returns-then-n-gt-NAME_LETTERS
-returns-then-n-gt-NAME_LETTERS c = sym (long-code _ c.if-n-gt-NAME_LETTERS.true)
-
-pub loop-i-init : goal.loop-i-init
-loop-i-init c = (omega arith, code-end c.args.word.now)
 
 pub overflow_mul-v : goal.overflow_mul-v
 overflow_mul-v c =
-    let h : c.loop-i.v ≤ 38913423965888661 = code-room _ _ c.loop-i.invariant.1.1 (omega arith) in
+    let n : length c.loop-b.yielded ≤ 11 = grind (arith, common_steps) in
+    let h = code-room _ _ c.loop-b.invariant.room n in
     record { fits = omega arith }
 
 pub overflow_add-v : goal.overflow_add-v
 overflow_add-v c =
-    let h : c.loop-i.v ≤ 38913423965888661 = code-room _ _ c.loop-i.invariant.1.1 (omega arith) in
-    record { fits = omega (arith, c.letter_number.ensures, c.type_inv.word (c.loop-i.i - 1)) }
-
-pub loop-i-preserved : goal.loop-i-preserved
-loop-i-preserved c =
-    (omega arith, rw c.letter_number.ensures (code-back c.args.word.now c.loop-i.v c.loop-i.i c.loop-i-test.true c.loop-i.invariant.0 (c.type_inv.word (c.loop-i.i - 1)).fits c.loop-i.invariant.1.0 c.loop-i.invariant.1.1))
+    let n : length c.loop-b.yielded ≤ 11 = grind (arith, common_steps) in
+    let h = code-room _ _ c.loop-b.invariant.room n in
+    record { fits = omega arith }
 
 pub returns : goal.returns
 returns c =
-    let z : c.loop-i.i ≡ 0 = omega arith in
-    c.loop-i.invariant.1.0 ∙ (ap (λ (k : ℕ). code (drop k c.args.word.now)) z ∙ sym (short-code c.args.word.now (omega arith)))
+    let t = YieldsList-end (YieldsList-from_rev_slice c.args.word.now cc) c.loop-b.yielded _ c.loop-b.yielded_by _ _ c.in-None.is c.next.ensures.steps in
+    c.loop-b.invariant.number ∙ (ap (fold with_letter 0) t.0 ∙ (sym (code_told c.args.word.now) ∙ sym (short-code c.args.word.now (omega arith))))

@@ -1,17 +1,18 @@
--- `rule::numerals::decimals` meets its contract. The invariant: the digits left have as many decimals as all. Assumes nothing.
-use mathlib.Core.Path.{refl, ◌∙◌}
-use Rattle.rule.proofs.TokenDecimals.{decimals-point, decimals-digit, decimals-end}
-use native.Mathlib.Omega.{arith}
+-- `rule::numerals::decimals` meets its contract: the first point stands where `position` says. Assumes nothing.
+use Rattle.std.proofs.Common.{eqb, arith, rules, tests}
+use Rattle.std.proofs.lemmas.Bool.Decides.{nat_tests}
+use Rattle.std.proofs.lemmas.Iterator.{YieldsList-from_slice}
+use Rattle.std.proofs.lemmas.Iterator.Search.{position_from_yields_List}
+use Rattle.rule.specs.Class.{point}
+use Rattle.rule.proofs.TokenDecimals.{decimals_told}
 use Rattle.rule.proofs.numerals.decimals.Goals as goal
 
-pub loop-i-init : goal.loop-i-init
-loop-i-init c = (omega arith, refl)
+pub returns-in-Some : goal.returns-in-Some
+returns-in-Some c =
+    let told = position_from_yields_List (λ b. eqb b point) _ _ c.position.result c.position.ensures.ran (YieldsList-from_slice c.args.digits.now cc) (λ x b q k. search (rules, tests)) in
+    grind (arith, nat_tests, decimals_told c.args.digits.now)
 
-pub returns-then-digits-i-eq-POINT : goal.returns-then-digits-i-eq-POINT
-returns-then-digits-i-eq-POINT c = decimals-point c.args.digits.now c.loop-i.i c.loop-i-test.true c.if-digits-i-eq-POINT.true ∙ c.loop-i.invariant.1
-
-pub loop-i-preserved : goal.loop-i-preserved
-loop-i-preserved c = (omega arith, decimals-digit c.args.digits.now c.loop-i.i c.loop-i-test.true c.if-digits-i-eq-POINT.false ∙ c.loop-i.invariant.1)
-
-pub returns : goal.returns
-returns c = decimals-end c.args.digits.now c.loop-i.i (omega arith) ∙ c.loop-i.invariant.1
+pub returns-in-None : goal.returns-in-None
+returns-in-None c =
+    let told = position_from_yields_List (λ b. eqb b point) _ _ c.position.result c.position.ensures.ran (YieldsList-from_slice c.args.digits.now cc) (λ x b q k. search (rules, tests)) in
+    grind (arith, nat_tests, decimals_told c.args.digits.now)

@@ -51,46 +51,6 @@ same_body : (s : List ℕ) (h : Head) (k : HeadIs s h) (i : ℕ) (marks : List �
     → Judgeable s i marks notes → BodyJudgeable h.decimals t i m n
 same_body s h k i marks notes t m n e f g j = rw (k.decimals, e, f, g) (bodied j)
 
--- the head is within each slice
-head_in : {s : List ℕ} {h : Head} {i : ℕ} {marks : List ℕ} {notes : List ℤ} → HeadIs s h → Judgeable s i marks notes → (h.frames * 8 ≤ length s) × ((h.frames ≤ length marks) × (h.frames ≤ length notes))
-head_in {s} {h} k j =
-    let f = (head_few s).frames_in_lem in
-    let e = k.frames in
-    (omega arith, (omega (arith, j.marked), omega (arith, j.noted)))
-
-pub overflow_mul-at : goal.overflow_mul-at
-overflow_mul-at c = omega (arith, c.head_of-head.ensures.frames, (head_few c.args.frames.now).frames-few)
-
-pub slice_bounds-judge_body-count : goal.slice_bounds-judge_body-count
-slice_bounds-judge_body-count c = omega (arith, (head_in c.head_of-head.ensures c.requires).0)
-
-pub slice_bounds-judge_body-start : goal.slice_bounds-judge_body-start
-slice_bounds-judge_body-start c = omega (arith, (head_in c.head_of-head.ensures c.requires).0)
-
-pub slice_bounds-judge_body-end : goal.slice_bounds-judge_body-end
-slice_bounds-judge_body-end c = omega (arith, (head_in c.head_of-head.ensures c.requires).0)
-
-pub slice_bounds-judge_body-count-2 : goal.slice_bounds-judge_body-count-2
-slice_bounds-judge_body-count-2 c = omega (arith, (head_in c.head_of-head.ensures c.requires).1.0)
-
-pub slice_bounds-judge_body-start-2 : goal.slice_bounds-judge_body-start-2
-slice_bounds-judge_body-start-2 c = omega (arith, (head_in c.head_of-head.ensures c.requires).1.0)
-
-pub slice_bounds-judge_body-end-2 : goal.slice_bounds-judge_body-end-2
-slice_bounds-judge_body-end-2 c = omega (arith, (head_in c.head_of-head.ensures c.requires).1.0)
-
-pub offset_bounds-notes-h : goal.offset_bounds-notes-h
-offset_bounds-notes-h c = omega (arith, c.head_of-head.ensures.frames, (head_few c.args.frames.now).frames-few)
-
-pub slice_bounds-judge_body-count-3 : goal.slice_bounds-judge_body-count-3
-slice_bounds-judge_body-count-3 c = omega (arith, (head_in c.head_of-head.ensures c.requires).1.1)
-
-pub slice_bounds-judge_body-start-3 : goal.slice_bounds-judge_body-start-3
-slice_bounds-judge_body-start-3 c = omega (arith, (head_in c.head_of-head.ensures c.requires).1.1)
-
-pub slice_bounds-judge_body-end-3 : goal.slice_bounds-judge_body-end-3
-slice_bounds-judge_body-end-3 c = omega (arith, (head_in c.head_of-head.ensures c.requires).1.1)
-
 pub judge_body-requires : goal.judge_body-requires
 judge_body-requires c =
     let a = c.args in

@@ -1,0 +1,70 @@
+// What is printed waits in a buffer, which is written out when it is nearly full.
+ghost use Rattle.std.specs.Prelude.{◌≡◌, ◌≤◌, [], ◌++◌, length};
+ghost use Rattle.checker.specs.Limits.{report_least};
+ghost use Rattle.bench.specs.Print.{hex_line};
+ghost use Rattle.bench.specs.Carried.{roomy, Ends};
+
+use crate::hex;
+use std::io::{Print, Stdout};
+use std::marker::Model;
+
+// With so many bytes waiting there is room for every line.
+const ROOMY: usize = 65200;
+
+// What waits: the first bytes of a buffer. No type with `Cut`, as there.
+#[derive(Drop)]
+pub struct Output {
+    stdout: Stdout,
+    bytes: [u8; 65536],
+    full: usize,
+}
+
+impl Model for Output {
+    ghost use Rattle.std.specs.Prelude.{ℕ, ◌≤◌, List, take};
+    ghost use Rattle.bench.specs.Carried.{out_bytes};
+
+    ghost Value = { List ℕ };
+
+    ghost view = { λ o. take o.full o.bytes };
+
+    ghost invariant = { λ o. o.full ≤ out_bytes };
+}
+
+impl Output {
+    pub fn new(stdout: Stdout) -> Self
+        ensures { result ≡ [] }
+    {
+        Output {
+            stdout,
+            bytes: [0; 65536],
+            full: 0,
+        }
+    }
+
+    // Writes out what waits. A write that fails is passed over. That it is written is not proved: no contract can say it.
+    pub fn flush(&mut self)
+        ensures { self.new ≡ [] }
+    {
+        let _ = self.stdout.write_all(&self.bytes[..self.full]);
+        self.full = 0;
+    }
+
+    // Writes out what waits where a line may lack room.
+    fn make_room(&mut self)
+        ensures room { length self.new ≤ roomy }
+        ensures end { Ends self.new self.old }
+    {
+        if self.full > ROOMY {
+            self.flush();
+        }
+    }
+
+    // Bytes as a line, no longer than a report's.
+    pub fn put_line(&mut self, bytes: &[u8])
+        requires { length bytes.now ≤ report_least }
+        ensures { Ends self.new (self.old ++ hex_line bytes.now) }
+    {
+        self.make_room();
+        self.full = hex::put_line(&mut self.bytes, self.full, bytes);
+    }
+}
