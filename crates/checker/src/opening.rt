@@ -1,5 +1,5 @@
 // Opening: 9, 10, 7 and 8 by the check of frames, then 11, then 26; a fresh state and a cleared window.
-ghost use Rattle.std.specs.Prelude.{◌≡◌, ◌-◌, ◌*◌, ◌≤◌, ◌&&◌, List, ◌++◌, length, replicate, ℤ};
+ghost use Rattle.std.specs.Prelude.{◌≡◌, ◌-◌, ◌*◌, ◌≤◌, ◌&&◌, List, ◌++◌, length, replicate, ℤ, pos};
 ghost use Rattle.std.specs.Prelude.{if◌then◌else◌, ◌==◌, Ok, Err};
 ghost use Rattle.rule.specs.Limits.{frame_limit, frame_bytes};
 ghost use Rattle.rule.specs.Check.{checked_of};
@@ -39,6 +39,13 @@ fn copied(frames: &[u8]) -> [u8; 512]
     let mut out = [0u8; 512];
     out[..frames.len()].copy_from_slice(frames);
     out
+}
+
+// All words become 0. A function of its own, so that its promise is tried by an edit.
+fn clear(window: &mut [i32])
+    ensures { window.new ≡ replicate (length window.old) (pos 0) }
+{
+    window.fill(0);
 }
 
 // What an unrefused opening gives back.
@@ -106,7 +113,7 @@ pub fn open(profile: Profile, frames: &[u8], width: u32, window: &mut [i32]) -> 
     match decide(profile, frames, width, window.len()) {
         Ok(()) => {
             let starts = base::starts_at(frames, Instance(0));
-            window.fill(0);
+            clear(window);
             fresh(profile, frames, width, starts.first)
         }
         Err(why) => refuse(why),

@@ -18,7 +18,7 @@ ghost use Rattle.dillplatter.specs.Told.{feed_numbers, pull_numbers};
 ghost use Rattle.dillplatter.specs.Told.{conversion_number, conversion_place, charge_number, charge_place, charge_cents};
 
 use checker::{State, Tariff};
-use told::{AnswerNumbers, ChargeResult, LoweredLine, RaisedLine, ReadResult};
+use told::{AnswerNumbers, ChargeResult, ReadResult};
 
 // The state that a call hands back, its answer, and the number and place of a refusal, 0 where nothing is refused (C's, so no
 // Result). Each call fills one in itself: a function for it was tried, and copies the state once more (examples/copies.c counts).
@@ -29,6 +29,25 @@ pub struct CallResult {
     pub answer: u32,
     pub number: u32,
     pub place: u32,
+}
+
+// What bringing an old line up gives: the number and place of a refusal, 0 where nothing is refused, and the line, zero bytes where
+// it is refused. C's structs have no const parameter, so a line of 34 bytes and one of 14 have one each.
+#[repr(C)]
+#[derive(Clone, Copy)]
+pub struct RaisedLine {
+    pub number: u32,
+    pub place: u32,
+    pub line: [u8; 34],
+}
+
+// What bringing a line down gives, in the same way.
+#[repr(C)]
+#[derive(Clone, Copy)]
+pub struct LoweredLine {
+    pub number: u32,
+    pub place: u32,
+    pub line: [u8; 14],
 }
 
 // Reads a rule's text into frames, for every text and every buffer.

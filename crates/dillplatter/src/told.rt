@@ -8,6 +8,7 @@ ghost use Rattle.checker.specs.Tariff.{charge_told};
 ghost use Rattle.dillplatter.specs.Told.{numbers_of, of_reading, answer_number, number_of, place_of, frames_of};
 ghost use Rattle.dillplatter.specs.Told.{conversion_number, conversion_place, charge_number, charge_place, charge_cents};
 
+use crate::{LoweredLine, RaisedLine};
 use checker::{Refusal, Taken};
 use log_lines::{BadOldLine, NotLowered};
 use verdict::Verdict;
@@ -136,16 +137,6 @@ impl From<Result<u32, rule::Refusal>> for ReadResult {
     }
 }
 
-// What bringing an old line up gives: the number and place of a refusal, 0 where nothing is refused, and the line, zero bytes where
-// it is refused. C's structs have no const parameter, so a line of 34 bytes and one of 14 have one each.
-#[repr(C)]
-#[derive(Clone, Copy)]
-pub struct RaisedLine {
-    pub number: u32,
-    pub place: u32,
-    pub line: [u8; 34],
-}
-
 impl From<Result<[u8; 34], BadOldLine>> for RaisedLine {
     ghost from_gives = { λ a r. (r.number ≡ conversion_number (raise_told a).answer)
         × ((r.place ≡ conversion_place (raise_told a).answer) × (r.line ≡ (raise_told a).line)) };
@@ -165,15 +156,6 @@ impl From<Result<[u8; 34], BadOldLine>> for RaisedLine {
             },
         }
     }
-}
-
-// What bringing a line down gives, in the same way.
-#[repr(C)]
-#[derive(Clone, Copy)]
-pub struct LoweredLine {
-    pub number: u32,
-    pub place: u32,
-    pub line: [u8; 14],
 }
 
 impl From<Result<[u8; 14], NotLowered>> for LoweredLine {

@@ -16,6 +16,7 @@ mod Conversions
 mod Refusals
 -- A log of many lines.
 mod Walking
+mod Readers
 -- Computed examples.
 mod Examples
 mod EarlierExamples

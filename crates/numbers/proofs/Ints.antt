@@ -47,6 +47,10 @@ pub abs_neg : (z : ℤ) → lt_z z (pos 0) ≡ true → neg_ℤ z ≡ pos (nat_a
 abs_neg (pos n) e = absurd (let h : n < 0 = ltb-true n 0 e in omega arith)
 abs_neg (negsuc n) e = refl
 
+pub abs-pos : (z : ℤ) → lt_z z (pos 0) ≡ false → z ≡ pos (nat_abs z)
+abs-pos (pos n) e = refl
+abs-pos (negsuc n) e = absurd (let h : ◌≡◌ {A = ℕ} 0 1 = cc in omega arith)
+
 -- a number that is not negative
 pub not_negative : (z : ℤ) → le_z (pos 0) z ≡ true → z ≡ pos (nat_abs z)
 not_negative (pos n) e = refl

@@ -2,6 +2,7 @@
 pub mod Bools
 pub mod Ranges
 pub mod Table
+pub mod Signed
 pub mod Ints
 -- Computed examples.
 pub mod Examples

@@ -41,12 +41,12 @@ impl Magnitude {
         self.decimals.max(other.decimals)
     }
 
-    // The amount brought to so many decimals.
+    // The amount brought to so many decimals; a 0 by no power.
     fn brought(self, decimals: u16) -> u64
         requires { self.decimals ≤ decimals }
         ensures { result ≡ saturated (self.amount * 10 ^ (decimals - self.decimals)) }
     {
-        if decimals == self.decimals {
+        if decimals == self.decimals || self.amount == 0 {
             return self.amount; // as for a rule without decimals: saturating_mul would divide
         }
         let tens = u32::from(decimals - self.decimals);

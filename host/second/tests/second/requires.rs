@@ -1,5 +1,5 @@
-//! Functions with a `requires`: docs/PROMISES.md names each of them, and names no other; those that other crates can call are the
-//! ones that it says, and no call of the library has one.
+//! Functions with a `requires`, and operators with what stands for one, `ghost can_add` and the like: docs/PROMISES.md names each of
+//! them, and names no other; those that other crates can call are the ones that it says, and no call of the library has one.
 
 use crate::shared::documents::{document, rows};
 use crate::TOP;
@@ -40,17 +40,19 @@ fn functions() -> Vec<Function> {
 fn functions_of(crate_name: &str, module: &str, text: &str) -> Vec<Function> {
     let mut found = Vec::new();
     let mut within = None;
+    let mut asks = false;
     let mut lines = text.lines();
     while let Some(line) = lines.next() {
         if line.starts_with('}') {
-            within = None;
+            (within, asks) = (None, false);
         }
         within = implemented(line).or(within);
+        asks |= within.is_some() && line.trim_start().starts_with("ghost can_");
         let Some(name) = function(line, within.is_some()) else {
             continue;
         };
         // Its contract: up to the line where its code begins, a brace alone if there are clauses.
-        let mut requires = false;
+        let mut requires = asks;
         let mut next = Some(line);
         while next.is_some_and(|line| !line.ends_with('{') || is_clause(line)) {
             next = lines.next();
@@ -168,7 +170,7 @@ fn the_table_names_each_and_no_other() {
         .map(|[cell, _, _]| named(cell))
         .collect();
     let all: Vec<Function> = functions().into_iter().filter(|f| f.requires).collect();
-    assert!(all.len() > 80, "{}", all.len());
+    assert!(all.len() > 100, "{}", all.len());
     for Function {
         crate_name,
         module,
@@ -317,6 +319,24 @@ impl<'a> Reader<'a> {
     }
 }
 
+impl Add for Term<'_> {
+    type Output = Self;
+
+    ghost can_add = { λ x y. ⊤ };
+
+    fn add(self, y: Self) -> Self {
+        self
+    }
+}
+
+impl Not for Term<'_> {
+    ghost not_gives = { λ p r. ⊤ };
+
+    fn not(self) -> Self {
+        self
+    }
+}
+
 fn last()
     requires { ⊤ }
 {
@@ -335,6 +355,8 @@ fn last()
         (Some("Reader"), "next", true, true),
         (Some("Reader"), "plain", false, false),
         (Some("Reader"), "inner", false, true),
+        (Some("Term"), "add", false, true),
+        (Some("Term"), "not", false, false),
         (None, "last", false, true),
     ];
     assert_eq!(
