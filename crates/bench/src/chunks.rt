@@ -14,12 +14,12 @@ use std::marker::Model;
 
 // A run over a log, with what is held of a line whose end has not come yet.
 #[derive(Drop)]
-pub struct Log {
-    run: Run,
+pub struct Log<'a> {
+    run: Run<'a>,
     cut: Cut,
 }
 
-impl Model for Log {
+impl<'a> Model for Log<'a> {
     ghost use Rattle.bench.specs.Progress.{Chunked};
 
     ghost Value = { Chunked };
@@ -27,15 +27,21 @@ impl Model for Log {
     ghost view = { λ l. record { progress = l.run; held = l.cut } };
 }
 
-impl Log {
+impl<'a> Log<'a> {
     // Before the first line.
-    pub fn begin(stdout: Stdout, frames: &[u8; 512], fields: Fields, window: &[i32; 2048]) -> Self
+    pub fn begin(
+        stdout: Stdout,
+        waiting: &'a mut [u8; 65536],
+        frames: &[u8; 512],
+        fields: Fields,
+        window: &[i32; 2048],
+    ) -> Self
         requires { Ready frames.now fields window.now }
         ensures progress { After (begun (opened_with frames.now fields window.now)) result.progress }
         ensures held { result.held ≡ [] }
     {
         Log {
-            run: Run::begin(stdout, frames, fields, window),
+            run: Run::begin(stdout, waiting, frames, fields, window),
             cut: Cut::new(),
         }
     }

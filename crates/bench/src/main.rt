@@ -35,14 +35,15 @@ fn open_rule(frames: &[u8], window: &mut [i32]) -> Opened
     checker::open(Profile::Desk, frames, WIDTH, window)
 }
 
-// A rule's frames are opened and run.
+// A rule's frames are opened and run, with the window and the buffer for what is to be printed.
 fn run_frames(stdin: Stdin, stdout: Stdout, frames: &[u8]) -> Result<(), Refusal> {
     let mut window = [0i32; 2048];
+    let mut waiting = [0u8; 65536];
     let opened = open_rule(frames, &mut window);
     opened.answer?;
     let state = opened.state;
     let fields = checker::fields_of(state);
-    Log::begin(stdout, &state.frames, fields, &window).all(stdin);
+    Log::begin(stdout, &mut waiting, &state.frames, fields, &window).all(stdin);
     Ok(())
 }
 

@@ -11,32 +11,33 @@ use std::marker::Model;
 // With so many bytes waiting there is room for every line.
 const ROOMY: usize = 65200;
 
-// What waits: the first bytes of a buffer. No type with `Cut`, as there.
+// What waits: the first bytes of a buffer, which is lent, since a struct that holds it is copied with it. No type with `Cut`, as
+// there.
 #[derive(Drop)]
-pub struct Output {
+pub struct Output<'a> {
     stdout: Stdout,
-    bytes: [u8; 65536],
+    bytes: &'a mut [u8; 65536],
     full: usize,
 }
 
-impl Model for Output {
-    ghost use Rattle.std.specs.Prelude.{ℕ, ◌≤◌, List, take};
+impl<'a> Model for Output<'a> {
+    ghost use Rattle.std.specs.Prelude.{ℕ, ◌≡◌, ◌≤◌, List, take, length};
     ghost use Rattle.bench.specs.Carried.{out_bytes};
 
     ghost Value = { List ℕ };
 
-    ghost view = { λ o. take o.full o.bytes };
+    ghost view = { λ o. take o.full o.bytes.now };
 
-    ghost invariant = { λ o. o.full ≤ out_bytes };
+    ghost invariant = { λ o. (o.full ≤ out_bytes) × (length o.bytes.now ≡ out_bytes) };
 }
 
-impl Output {
-    pub fn new(stdout: Stdout) -> Self
+impl<'a> Output<'a> {
+    pub fn new(stdout: Stdout, bytes: &'a mut [u8; 65536]) -> Self
         ensures { result ≡ [] }
     {
         Output {
             stdout,
-            bytes: [0; 65536],
+            bytes,
             full: 0,
         }
     }
@@ -59,12 +60,15 @@ impl Output {
         }
     }
 
-    // Bytes as a line, no longer than a report's.
+    // Bytes as a line, no longer than a report's. It stands in each of its callers: called, it takes six times the instructions for
+    // a report.
+    #[inline(always)]
     pub fn put_line(&mut self, bytes: &[u8])
         requires { length bytes.now ≤ report_least }
         ensures { Ends self.new (self.old ++ hex_line bytes.now) }
     {
         self.make_room();
-        self.full = hex::put_line(&mut self.bytes, self.full, bytes);
+        let at = self.full;
+        self.full = hex::put_line(self.bytes, at, bytes);
     }
 }

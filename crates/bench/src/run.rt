@@ -42,15 +42,15 @@ impl Counts {
 // How far the program has come: the frames, the other fields and the window of a checker that 12, 13 and 27 let through, the counts
 // and what waits to be printed.
 #[derive(Drop)]
-pub struct Run {
+pub struct Run<'a> {
     frames: [u8; 512],
     fields: Fields,
     window: [i32; 2048],
     counts: Counts,
-    out: Output,
+    out: Output<'a>,
 }
 
-impl Model for Run {
+impl<'a> Model for Run<'a> {
     ghost use Rattle.bench.specs.Progress.{Progress};
     ghost use Rattle.bench.specs.Carried.{progress_of, LetIn};
 
@@ -70,9 +70,15 @@ fn report_part(report: &[u8]) -> &[u8]
     &report[..n.min(REPORT_LEAST)]
 }
 
-impl Run {
+impl<'a> Run<'a> {
     // A checker that was opened: verdicts are pulled until waiting, before the first line.
-    pub fn begin(stdout: Stdout, frames: &[u8; 512], fields: Fields, window: &[i32; 2048]) -> Self
+    pub fn begin(
+        stdout: Stdout,
+        waiting: &'a mut [u8; 65536],
+        frames: &[u8; 512],
+        fields: Fields,
+        window: &[i32; 2048],
+    ) -> Self
         requires { Ready frames.now fields window.now }
         ensures { After (begun (opened_with frames.now fields window.now)) result }
     {
@@ -81,7 +87,7 @@ impl Run {
             fields,
             window: *window,
             counts: Counts::default(),
-            out: Output::new(stdout),
+            out: Output::new(stdout, waiting),
         };
         run.pull_all();
         run

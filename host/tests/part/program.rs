@@ -593,7 +593,7 @@ fn a_last_line_without_lf() {
 fn the_buffers_are_the_programs() {
     for (file, text) in [
         ("chunks.rt", format!("let mut buf = [0; {BUFFER}];")),
-        ("output.rt", format!("bytes: [u8; {BUFFER}],")),
+        ("output.rt", format!("bytes: &'a mut [u8; {BUFFER}],")),
         ("output.rt", format!("const ROOMY: usize = {ROOMY};")),
     ] {
         let path = Path::new(crate::TOP).join("crates/bench/src").join(file);

@@ -5,4 +5,4 @@ use Rattle.bench.proofs.output.Output.make_room.Goals as goal
 
 pub returns-then-self-gt-ROOMY-clause-end : goal.returns-then-self-gt-ROOMY-clause-end
 returns-then-self-gt-ROOMY-clause-end c =
-    rw c.flush.ensures (ends-all c.args.self.now (omega (arith, length-take-le c.self.inside.full c.self.inside.bytes, ap length c.self.view_is)))
+    rw c.flush.ensures (ends-all c.args.self.now (omega (arith, length-take-le c.self.inside.full c.self.inside.bytes.now, ap length c.self.view_is)))

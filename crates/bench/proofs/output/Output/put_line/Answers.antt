@@ -10,6 +10,6 @@ returns c =
     let line : List ℕ = hex_line c.args.bytes.now in
     let p = c.put_line-self-inside.ensures in
     let l = line-length c.args.bytes.now in
-    let f = length-take-le c.self.inside.full c.self.inside.bytes (omega arith) in
-    let e = put_behind c.self.inside.bytes line c.self.inside.full c.put_line-self-inside.result (omega (arith, c.requires, c.make_room.ensures.room, ap length c.self.view_is)) (omega arith) in
+    let f = length-take-le c.self.inside.full c.self.inside.bytes.now (omega arith) in
+    let e = put_behind c.self.inside.bytes.now line c.self.inside.full c.put_line-self-inside.result (omega (arith, c.requires, c.make_room.ensures.room, ap length c.self.view_is)) (omega arith) in
     rw (p.line, e, c.self.view_is) (ends_more line c.make_room.ensures.end)
